@@ -1,0 +1,11 @@
+use Rattle.std.proofs.Common.{◌≡◌, ◌≤◌, take, true}
+use Rattle.std.specs.Str.{all_ascii_digits}
+use Rattle.std.specs.Str.Parse.{digits_value}
+use Rattle.dir_bytes.proofs.numbers.number_up_to.Given as goal
+
+abbrev pub invariant-digits : goal.invariant-digits
+invariant-digits l = record {
+  digits : all_ascii_digits (take l.byte-index l.text) ≡ true;
+  value : l.value ≡ digits_value 10 (take l.byte-index l.text);
+  within : l.value ≤ l.limit;
+}

@@ -1,0 +1,6 @@
+pub mod Causes
+pub mod Streams
+pub mod Memories
+pub mod Fields
+pub mod FieldTexts
+pub mod RoundTrips
