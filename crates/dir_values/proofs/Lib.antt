@@ -1,0 +1,5 @@
+pub mod ArgumentSteps
+pub mod Orders
+pub mod Flags
+pub mod Members
+pub mod SetTexts

@@ -1,0 +1,62 @@
+-- Sets of flags: a flag's name, the set that flags make, and its text.
+use Rattle.std.specs.Prelude.{◌≡◌, ℕ, ◌==◌, nat_le, Bool, true, ◌&&◌, ◌||◌, not, List, [], ◌∷◌, length, AllPairs, Result, Ok, Err, if◌then◌else◌}
+use Rattle.std.specs.List.{fold, list_all, list_any, join_with_byte}
+use Rattle.std.specs.Str.{bytes_eq}
+use Rattle.dir_values.specs.Arguments.{Argument, arguments_at}
+use Rattle.dir_values.specs.Digests.{bytes_below}
+use Rattle.dir_values.specs.declared.refusal.ValueRefusal.{ValueRefusal}
+use Rattle.dir_values.specs.declared.refusal.ValueRefusal.TheVariants.{BadValue}
+
+-- a letter, a digit, `-` or `_`
+abbrev pub is_name_byte : ℕ → Bool
+is_name_byte byte =
+    (nat_le 48 byte && nat_le byte 57) || (nat_le 65 byte && nat_le byte 90) || (nat_le 97 byte && nat_le byte 122)
+    || byte == 45 || byte == 95
+
+-- the name of a flag: 1 to 64 such bytes
+abbrev pub is_name : List ℕ → Bool
+is_name text = nat_le 1 (length text) && nat_le (length text) 64 && list_all is_name_byte text
+
+-- whether a flag is among others
+abbrev pub has_flag : List (List ℕ) → List ℕ → Bool
+has_flag flags flag = list_any (λ other. bytes_eq other flag) flags
+
+-- flags in ascending order of their bytes, each once
+abbrev pub Ascend : List (List ℕ) → Type 0
+Ascend flags = AllPairs (λ earlier later. bytes_below earlier later ≡ true) flags
+
+-- ascending flags with one more in its place; one that is there already changes nothing
+abbrev pub with_flag : List (List ℕ) → List ℕ → List (List ℕ)
+with_flag [] flag = flag ∷ []
+with_flag (first ∷ rest) flag =
+    if bytes_below first flag then first ∷ with_flag rest flag
+    else if bytes_eq first flag then first ∷ rest
+    else flag ∷ first ∷ rest
+
+-- the set of the flags in a list
+abbrev pub as_set : List (List ℕ) → List (List ℕ)
+as_set flags = fold with_flag [] flags
+
+-- the flags with single spaces between them
+abbrev pub set_text : List (List ℕ) → List ℕ
+set_text flags = join_with_byte 32 flags
+
+-- the flags in a list of arguments, together with those before; the first argument that is no name of a flag, or that
+-- stands before in the list, is a bad value
+abbrev pub flags_after : List (List ℕ) → List Argument → Result (List (List ℕ)) ValueRefusal
+flags_after before [] = Ok before
+flags_after before (argument ∷ rest) =
+    if is_name argument.text && not (has_flag before argument.text) then flags_after (with_flag before argument.text) rest
+    else Err (BadValue argument.place)
+
+-- the set of flags that a text spells
+abbrev pub flag_set : List ℕ → Result (List (List ℕ)) ValueRefusal
+flag_set text = flags_after [] (arguments_at 0 text)
+
+-- A set of flags ascends.
+abbrev pub SetsAscend : Type 0
+SetsAscend = (flags : List (List ℕ)) → Ascend (as_set flags)
+
+-- A set of flags has the flags of the list that it is made from, and no others.
+abbrev pub SetsHaveTheirFlags : Type 0
+SetsHaveTheirFlags = (flags : List (List ℕ)) (flag : List ℕ) → has_flag (as_set flags) flag ≡ has_flag flags flag

@@ -1,0 +1,33 @@
+-- What the private functions of this crate say.
+use Rattle.std.specs.Prelude.{ℕ, Bool, false, not, List, [], ◌∷◌, ◌++◌, slice_get}
+use Rattle.std.specs.Option.{option_map_or}
+use Rattle.std.specs.List.{list_all, prefix_len}
+use Rattle.std.specs.Str.{bytes_eq}
+use Rattle.dir_values.specs.Digests.{bytes_below}
+use Rattle.dir_values.specs.Arguments.{is_blank}
+use Rattle.dir_values.specs.FlagSets.{is_name_byte}
+
+-- how many flags stand before the first that does not come before a flag
+abbrev pub place_of : List (List ℕ) → List ℕ → ℕ
+place_of flags flag = prefix_len (λ other. bytes_below other flag) flags
+
+-- whether a flag stands at a place
+abbrev pub is_at : List (List ℕ) → ℕ → List ℕ → Bool
+is_at flags place flag = option_map_or (λ other. bytes_eq other flag) (slice_get flags place) false
+
+-- how many blanks stand in front
+abbrev pub blanks : List ℕ → ℕ
+blanks text = prefix_len is_blank text
+
+-- how many bytes stand in front of the first blank
+abbrev pub word_len : List ℕ → ℕ
+word_len text = prefix_len (λ byte. not (is_blank byte)) text
+
+-- whether each byte may stand in the name of a flag
+abbrev pub has_name_bytes : List ℕ → Bool
+has_name_bytes text = list_all is_name_byte text
+
+-- flags, each after a space
+abbrev pub after_text : List (List ℕ) → List ℕ
+after_text [] = []
+after_text (flag ∷ rest) = 32 ∷ (flag ++ after_text rest)

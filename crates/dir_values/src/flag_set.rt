@@ -1,0 +1,189 @@
+// Sets of flags.
+ghost use Rattle.std.specs.Prelude.{◌≡◌, ◌==◌, ◌+◌, ◌<◌, ◌≤◌, ◌++◌, [], Some, IsOk, OnOk, OnErr, length, slice_get, vec_len, vec_capacity, take};
+ghost use Rattle.dir_values.specs.FlagSets as flag_sets;
+ghost use Rattle.dir_values.specs.Lending as lending;
+ghost use Rattle.dir_values.specs.Refusals.{Reads};
+
+use crate::arguments::Arguments;
+use crate::refusal::ValueRefusal;
+use dir_bytes::{Memory, Text};
+use std::alloc::Global;
+use std::marker::Model;
+
+/// A set of flags, in ascending order of their bytes.
+#[derive(Debug, Drop)]
+pub struct FlagSet {
+    flags: Vec<Text>,
+}
+
+impl Model for FlagSet {
+    ghost use Rattle.std.specs.Prelude.{List, ℕ};
+    ghost use Rattle.dir_values.specs.FlagSets.{Ascend};
+
+    ghost Value = { List (List ℕ) };
+
+    ghost view = { λ s. s.flags.items };
+
+    ghost invariant = { λ s. Ascend s.flags.items };
+}
+
+impl FlagSet {
+    /// The set of no flags.
+    pub fn new(alloc: Global) -> FlagSet
+        ensures { result ≡ [] }
+    {
+        FlagSet {
+            flags: Vec::new(alloc),
+        }
+    }
+
+    /// How many flags there are.
+    pub fn len(&self) -> usize
+        ensures value { result ≡ length self.now }
+        ensures ascending { flag_sets.Ascend self.now }
+    {
+        self.flags.len()
+    }
+
+    /// Whether there is no flag.
+    pub fn is_empty(&self) -> bool
+        ensures { result ≡ (length self.now == 0) }
+    {
+        self.flags.is_empty()
+    }
+
+    /// The i-th flag, from 0.
+    pub fn flag(&self, i: usize) -> &[u8]
+        requires { i < length self.now }
+        ensures { slice_get self.now i ≡ Some result.now }
+    {
+        self.flags[i].as_bytes()
+    }
+
+    /// Whether a flag is in the set.
+    pub fn contains(&self, flag: &[u8]) -> bool
+        ensures { result ≡ flag_sets.has_flag self.now flag.now }
+    {
+        self.flags.iter().any(|other| other.as_bytes() == flag)
+    }
+
+    /// Puts a flag into the set, where it is not there yet. Without memory the set stays as it was.
+    pub fn insert(&mut self, alloc: Global, flag: &[u8]) -> Result<(), Memory>
+        ensures ok { OnOk result (self.new ≡ flag_sets.with_flag self.old flag.now) }
+        ensures err { OnErr result (self.new ≡ self.old) }
+    {
+        let place = place_of(&self.flags, flag);
+        if is_at(&self.flags, place, flag) {
+            return Ok(());
+        }
+        let text = Text::copy_of(alloc, flag)?;
+        self.flags.insert(place, text)?;
+        Ok(())
+    }
+}
+
+impl FlagSet {
+    /// The set of the flags that stand in the text with blanks between them. `BadValue` at the first argument that is no
+    /// name of a flag, or that stands in the text before.
+    pub fn read(alloc: Global, text: &[u8]) -> Result<FlagSet, ValueRefusal>
+        ensures { Reads (flag_sets.flag_set text.now) result }
+    {
+        let mut set = FlagSet::new(alloc);
+        let mut arguments = Arguments::at(0, text);
+        'arguments: while let Some(argument) = arguments.next() {
+            if !is_name(argument.text) || set.contains(argument.text) {
+                return Err(ValueRefusal::BadValue {
+                    place: argument.place,
+                });
+            }
+            set.insert(alloc, argument.text)?;
+        }
+        Ok(set)
+    }
+
+    /// Appends the flags, with single spaces between them. Without memory `out` stays as it was.
+    pub fn push(&self, out: &mut Vec<u8>) -> Result<(), Memory>
+        ensures ok { OnOk result (out.new.items ≡ out.old.items ++ flag_sets.set_text self.now) }
+        ensures err { OnErr result (out.new.items ≡ out.old.items) }
+        ensures room { vec_len out.old + length (flag_sets.set_text self.now) ≤ vec_capacity out.old → IsOk result }
+        ensures capacity { vec_capacity out.old ≤ vec_capacity out.new }
+    {
+        let before = out.len();
+        match push_flags(&self.flags, out) {
+            Ok(()) => Ok(()),
+            Err(refused) => {
+                out.truncate(before);
+                Err(refused)
+            }
+        }
+    }
+}
+
+// Appends flags, with single spaces between them. Without memory a part of them may stand there.
+fn push_flags(flags: &[Text], out: &mut Vec<u8>) -> Result<(), Memory>
+    ensures ok { OnOk result (out.new.items ≡ out.old.items ++ flag_sets.set_text flags.now) }
+    ensures err { OnErr result (take (vec_len out.old) out.new.items ≡ out.old.items) }
+    ensures room { vec_len out.old + length (flag_sets.set_text flags.now) ≤ vec_capacity out.old → IsOk result }
+    ensures capacity { vec_capacity out.old ≤ vec_capacity out.new }
+{
+    let Some((first, rest)) = flags.split_first() else {
+        return Ok(());
+    };
+    out.extend_from_slice(first.as_bytes())?;
+    for flag in rest {
+        out.push(b' ')?;
+        out.extend_from_slice(flag.as_bytes())?;
+    }
+    Ok(())
+}
+
+// Whether a text is the name of a flag.
+fn is_name(text: &[u8]) -> bool
+    ensures { result ≡ flag_sets.is_name text.now }
+{
+    text.len() >= 1 && text.len() <= 64 && has_name_bytes(text)
+}
+
+// Whether a text has letters, digits, `-` and `_` alone.
+fn has_name_bytes(text: &[u8]) -> bool
+    ensures { result ≡ lending.has_name_bytes text.now }
+{
+    text.iter().all(|byte| is_name_byte(*byte))
+}
+
+fn is_name_byte(byte: u8) -> bool
+    ensures { result ≡ flag_sets.is_name_byte byte }
+{
+    byte.is_ascii_alphanumeric() || byte == b'-' || byte == b'_'
+}
+
+// How many of the flags come before a flag.
+fn place_of(flags: &[Text], flag: &[u8]) -> usize
+    ensures count { result ≡ lending.place_of flags.now flag.now }
+    ensures within { result ≤ length flags.now }
+{
+    flags
+        .iter()
+        .take_while(|other| other.as_bytes().cmp(flag).is_lt())
+        .count()
+}
+
+// Whether a flag stands at a place.
+fn is_at(flags: &[Text], place: usize, flag: &[u8]) -> bool
+    ensures { result ≡ lending.is_at flags.now place flag.now }
+{
+    match flags.get(place) {
+        Some(other) => other.as_bytes() == flag,
+        None => false,
+    }
+}
+
+/// A set of flags ascends.
+pub fn sets_ascend()
+    ensures { flag_sets.SetsAscend }
+{}
+
+/// A set has the flags of the list that it is made from, and no others.
+pub fn sets_have_their_flags()
+    ensures { flag_sets.SetsHaveTheirFlags }
+{}

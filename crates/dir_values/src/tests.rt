@@ -1,0 +1,40 @@
+// Texts of values from outside, and what reading and writing them gives.
+use crate::{Digest1, Digest2, Fingerprint, FlagSet, Roster, RosterFault, ValueRefusal};
+use std::test::Fail;
+
+#[test]
+fn digests_are_read_and_written(rt: HostRuntime) -> Result<(), Fail> {
+    let mut out = Vec::new(rt.alloc());
+    Fingerprint::read(b"2fd4e1c67a2d28fced849ee1bb76e7391b93eb12")?.push(&mut out)?;
+    Digest1::read(b"AQEBAQEBAQEBAQEBAQEBAQEBAQE")?.push(&mut out)?;
+    Digest2::read(b"47DEQpj8HBSa+/TImW+5JCeuQeRkm5NMpJWZG3hSuFU")?.push(&mut out)?;
+    let text =
+        b"2FD4E1C67A2D28FCED849EE1BB76E7391B93EB12AQEBAQEBAQEBAQEBAQEBAQEBAQE47DEQpj8HBSa+/TImW+5JCeuQeRkm5NMpJWZG3hSuFU";
+    assert_eq!(rt; out.as_slice(), text.as_slice());
+    Ok(())
+}
+
+#[test]
+fn flags_are_read_and_written(rt: HostRuntime) -> Result<(), Fail> {
+    let flags = FlagSet::read(rt.alloc(), b"Valid  Running\tNoEdConsensus")?;
+    let mut out = Vec::new(rt.alloc());
+    flags.push(&mut out)?;
+    assert_eq!(rt; out.as_slice(), b"NoEdConsensus Running Valid".as_slice());
+    assert!(rt; flags.contains(b"Running") && !flags.contains(b"Exit"));
+    let again = FlagSet::read(rt.alloc(), b"Exit Guard Exit").err();
+    assert_eq!(rt; again, Some(ValueRefusal::BadValue { place: 11 }));
+    Ok(())
+}
+
+#[test]
+fn a_roster_has_each_member_once(rt: HostRuntime) -> Result<(), Fail> {
+    let first = Fingerprint([1; 20]);
+    let second = Fingerprint([2; 20]);
+    let roster = Roster::new([first, second].to_vec(rt.alloc())?)
+        .ok()
+        .ok_or("refused")?;
+    assert!(rt; roster.copy(rt.alloc())?.contains(&second));
+    let twice = Roster::new([first, second, first].to_vec(rt.alloc())?).err();
+    assert_eq!(rt; twice, Some(RosterFault::Twice(first)));
+    Ok(())
+}
