@@ -1,0 +1,9 @@
+pub mod FirstByte
+pub mod FirstLine
+pub mod FirstWord
+pub mod LineSteps
+pub mod ObjectSteps
+pub mod RoundTrip
+pub mod Places
+pub mod DecodedBytes
+pub mod Base64Groups

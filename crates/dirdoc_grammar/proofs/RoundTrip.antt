@@ -1,0 +1,143 @@
+-- An item that was written is read again, whatever follows it that is no object.
+use Rattle.std.proofs.Common.{◌≡◌, ℕ, suc, ◌+◌, ◌-◌, ◌<◌, Bool, true, false, cond, leb, ltb, List, [], ◌∷◌, ◌++◌, length, take, drop, Option, Some, None, Result, Ok, Err, refl, sym, ap, ◌∙◌, append_assoc, arith}
+use Rattle.std.specs.Prelude.{slice_get, not, ◌==◌, ◌&&◌}
+use Rattle.std.specs.List.{prefix_len, list_all}
+use Rattle.std.proofs.lemmas.Bool.{le-leb, lt-ltb, le-ltb, false≢true}
+use Rattle.std.proofs.lemmas.Bool.Decides.{nat_tests}
+use Rattle.std.proofs.lemmas.List.{take_at, drop_at, length-append, append-nil}
+use Rattle.item_terms.specs.declared.fault.DocFault.{DocFault}
+use Rattle.item_terms.specs.declared.fault.DocReason.TheVariants.{Keyword, LineTooLong, DocumentTooLong}
+use Rattle.item_terms.specs.Lines.{Line, size}
+use Rattle.item_terms.specs.Words.{argument_start, is_blank, is_word_byte, is_letter_or_digit, keyword, keyword_len, after_keyword, separator, arguments, trim, trim_end, first_is, ends_or_blank, is_keyword_line, is_blank_line, nul_in, begins_dash, begin_words}
+use Rattle.item_terms.specs.Faults.{line_fault, too_long, nul_fault, or_else, at, max_line}
+use Rattle.item_terms.specs.Steps.{keyword_item, Item, Step, step, nothing, keyword_line, open_item, item_unless, open_unless, read_line, line_item, first_object_line}
+use Rattle.item_terms.specs.Items.{Contents, contents, contents_of, also, proceed}
+use Rattle.dirdoc_grammar.specs.Writing.{tail, IsKeyword, written_item, MayStand}
+use Rattle.dirdoc_grammar.specs.Reading.{first_line, first_line_len}
+use Rattle.dirdoc_grammar.proofs.FirstLine.{at_first}
+use Rattle.dirdoc_grammar.proofs.LineSteps.{first_dash}
+
+both : (a b : Bool) → a && b ≡ true → (a ≡ true) × (b ≡ true)
+both true b e = (refl, e)
+both false b e = absurd cc
+
+-- the longest front that passes, where the next byte does not
+prefix_stops : (p : ℕ → Bool) (front : List ℕ) (c : ℕ) (rest : List ℕ) → list_all p front ≡ true → p c ≡ false → prefix_len p (front ++ c ∷ rest) ≡ length front
+prefix_stops p [] c rest all stop = ap (λ (b : Bool). cond b (1 + prefix_len p rest) 0) stop
+prefix_stops p (b ∷ front) c rest all stop =
+    let h = both (p b) (list_all p front) all in
+    ap (λ (t : Bool). cond t (1 + prefix_len p (front ++ c ∷ rest)) 0) h.0 ∙ ap (λ (n : ℕ). 1 + n) (prefix_stops p front c rest h.1 stop) ∙ omega arith
+
+prefix_whole : (p : ℕ → Bool) (front : List ℕ) → list_all p front ≡ true → prefix_len p front ≡ length front
+prefix_whole p [] all = refl
+prefix_whole p (b ∷ front) all =
+    let h = both (p b) (list_all p front) all in
+    ap (λ (t : Bool). cond t (1 + prefix_len p front) 0) h.0 ∙ ap (λ (n : ℕ). 1 + n) (prefix_whole p front h.1) ∙ omega arith
+
+-- the first line of a text that begins with a line
+first_line_again : (line rest : List ℕ) → list_all (λ b. not (b == 10)) line ≡ true → first_line (line ++ 10 ∷ rest) ≡ record { text = line; ended = true }
+first_line_again line rest no_nl =
+    let n : first_line_len (line ++ 10 ∷ rest) ≡ length line = prefix_stops (λ b. not (b == 10)) line 10 rest no_nl refl in
+    let text : take (first_line_len (line ++ 10 ∷ rest)) (line ++ 10 ∷ rest) ≡ line = ap (λ (k : ℕ). take k (line ++ 10 ∷ rest)) n ∙ take_at line (10 ∷ rest) (length line) refl in
+    let ended : ltb (first_line_len (line ++ 10 ∷ rest)) (length (line ++ 10 ∷ rest)) ≡ true = lt-ltb _ _ (omega (arith, n, length-append line (10 ∷ rest))) in
+    ap (λ (t : List ℕ). record { text = t; ended = ltb (first_line_len (line ++ 10 ∷ rest)) (length (line ++ 10 ∷ rest)) }) text ∙ ap (λ (e : Bool). record { text = line; ended = e }) ended
+
+-- ---- the line that is written for a keyword and arguments
+
+keyword_again : (word args : List ℕ) → IsKeyword word → keyword_len (word ++ tail args) ≡ length word
+keyword_again word [] h = ap keyword_len (append-nil word) ∙ prefix_whole is_word_byte word h.each
+keyword_again word (b ∷ args) h = prefix_stops is_word_byte word 32 (b ∷ args) h.each refl
+
+rest_again : (word args : List ℕ) → IsKeyword word → after_keyword (word ++ tail args) ≡ tail args
+rest_again word args h = ap (λ (k : ℕ). drop k (word ++ tail args)) (keyword_again word args h) ∙ drop_at word (tail args) (length word) refl
+
+trim_tail : (args : List ℕ) → trim args ≡ args → trim (tail args) ≡ args
+trim_tail [] e = refl
+trim_tail (b ∷ args) e =
+    let n : 1 + prefix_len is_blank (b ∷ args) ≡ suc (prefix_len is_blank (b ∷ args)) = omega arith in
+    ap (λ (k : ℕ). trim_end (drop k (32 ∷ b ∷ args))) n ∙ e
+
+ends_tail : (args : List ℕ) → ends_or_blank (tail args) ≡ true
+ends_tail [] = refl
+ends_tail (b ∷ args) = refl
+
+letter_not_blank : (b : ℕ) → is_letter_or_digit b ≡ true → is_blank b ≡ false
+letter_not_blank b e = grind (arith, nat_tests)
+
+not_blank : (word more : List ℕ) → first_is is_letter_or_digit word ≡ true → is_blank_line (word ++ more) ≡ false
+not_blank [] more e = absurd (false≢true e)
+not_blank (b ∷ word) more e = ap (λ (t : Bool). t && list_all is_blank (word ++ more)) (letter_not_blank b e)
+
+first_letter : (word more : List ℕ) → first_is is_letter_or_digit word ≡ true → first_is is_letter_or_digit (word ++ more) ≡ true
+first_letter [] more e = absurd (false≢true e)
+first_letter (b ∷ word) more e = e
+
+keyword_line_again : (word args : List ℕ) → IsKeyword word → is_keyword_line (word ++ tail args) ≡ true
+keyword_line_again word args h =
+    ap (λ (t : Bool). t && ends_or_blank (after_keyword (word ++ tail args))) (first_letter word (tail args) h.first) ∙ ap ends_or_blank (rest_again word args h) ∙ ends_tail args
+
+abbrev pub by_tests : ℕ → List ℕ → Bool → Bool → Result (Option Item) DocFault
+by_tests place line blank is_kw = cond blank (Ok None) (cond is_kw (Ok (Some (keyword_item place (record { text = line; ended = true })))) (Err (at place Keyword)))
+
+-- the item of this line, where its parts are known
+abbrev item_with : ℕ → List ℕ → List ℕ → Option ℕ → List ℕ → Item
+item_with place line word after_word args = record {
+  keyword = word;
+  separator = after_word;
+  arguments = args;
+  start = argument_start place line;
+  object = None;
+  place = place;
+  after = place + (length line + 1);
+}
+
+pub item_of_line : (place : ℕ) (word args : List ℕ) → IsKeyword word → trim args ≡ args
+    → line_item place (record { text = word ++ tail args; ended = true }) ≡ Ok (Some (written_item place word args))
+item_of_line place word args h trimmed =
+    let line = word ++ tail args in
+    let word_is : keyword line ≡ word = ap (λ (k : ℕ). take k line) (keyword_again word args h) ∙ take_at word (tail args) (length word) refl in
+    let args_is : arguments line ≡ args = ap trim (rest_again word args h) ∙ trim_tail args trimmed in
+    ap (λ (b : Bool). by_tests place line b (is_keyword_line line)) (not_blank word (tail args) h.first)
+    ∙ ap (λ (b : Bool). by_tests place line false b) (keyword_line_again word args h)
+    ∙ ap (λ (w : List ℕ). Ok (Some (item_with place line w (separator line) (arguments line)))) word_is
+    ∙ ap (λ (s : Option ℕ). Ok (Some (item_with place line word s (arguments line)))) (ap (λ (r : List ℕ). slice_get r 0) (rest_again word args h))
+    ∙ ap (λ (a : List ℕ). Ok (Some (item_with place line word (slice_get (tail args) 0) a))) args_is
+
+sound_line : (limit place : ℕ) (line : List ℕ) → MayStand limit place line → line_fault limit place (record { text = line; ended = true }) ≡ None
+sound_line limit place line h =
+    let short : too_long limit place (length line + 1) ≡ None = ap (λ (b : Bool). cond b None (Some (cond (leb (limit - place) max_line) (at limit DocumentTooLong) (at (place + max_line) LineTooLong)))) (le-leb _ _ h.fits) in
+    let n : prefix_len (λ b. not (b == 0)) line ≡ length line = prefix_whole (λ b. not (b == 0)) line h.no_nul in
+    let none : nul_in line ≡ None = ap (λ (k : ℕ). cond (ltb k (length line)) (Some k) None) n ∙ ap (λ (b : Bool). cond b (Some (length line)) None) (le-ltb (length line) (length line) (omega arith)) in
+    ap (λ (f : Option DocFault). or_else f (or_else None (nul_fault place (nul_in line)))) short ∙ ap (λ (o : Option ℕ). nul_fault place o) none
+
+-- where no object follows, the item of a keyword line is whole
+whole_item : (limit place : ℕ) (item : Item) (rest : List ℕ) → begins_dash rest ≡ false → contents limit place (keyword_line item) rest ≡ also (Some item) (contents limit place nothing rest)
+unfolding contents_of
+whole_item limit place item [] dash = refl
+whole_item limit place item (b ∷ bytes) dash =
+    let rest : List ℕ = b ∷ bytes in
+    let line = first_line rest in
+    let made : Step = record { whole = Some item; next = open_item (read_line limit place line) } in
+    at_first limit place (keyword_line item) rest (omega arith)
+    ∙ ap (λ (s : Step). also s.whole (proceed s.next (λ next. contents limit (place + size line) next (drop (size line) rest)))) (ap (λ (t : Bool). cond t (record { whole = None; next = open_unless (line_fault limit place line) (first_object_line place item line (begin_words line.text)) }) made) (sym (first_dash rest) ∙ dash))
+    ∙ ap (λ (c : Contents). also (Some item) c) (sym (at_first limit place nothing rest (omega arith)))
+
+-- An item that was written is the first that is read, and what follows is read as it would be alone.
+pub item_again : (limit place : ℕ) (word args rest : List ℕ) → IsKeyword word → trim args ≡ args → MayStand limit place (word ++ tail args) → begins_dash rest ≡ false
+    → contents limit place nothing ((word ++ tail args) ++ 10 ∷ rest) ≡ also (Some (written_item place word args)) (contents limit (place + (length (word ++ tail args) + 1)) nothing rest)
+item_again limit place word args rest h trimmed stands dash =
+    let line = word ++ tail args in
+    let bytes = line ++ 10 ∷ rest in
+    let l : Line = record { text = line; ended = true } in
+    let first : first_line bytes ≡ l = first_line_again line rest stands.no_nl in
+    let item = written_item place word args in
+    let made : step limit place nothing l ≡ record { whole = None; next = Ok (keyword_line item) } =
+    ap (λ (f : Option DocFault). record { whole = None; next = open_item (item_unless f (line_item place l)) }) (sound_line limit place line stands)
+    ∙ ap (λ (r : Result (Option Item) DocFault). record { whole = None; next = open_item r }) (item_of_line place word args h trimmed) in
+    let long : 0 < length bytes = omega (arith, length-append line (10 ∷ rest)) in
+    let left : drop (length line + 1) bytes ≡ rest = ap (λ (b : List ℕ). drop (length line + 1) b) (sym (append_assoc line (10 ∷ []) rest)) ∙ drop_at (line ++ 10 ∷ []) rest (length line + 1) (length-append line (10 ∷ [])) in
+    at_first limit place nothing bytes long
+    ∙ ap (λ (k : Line). also (step limit place nothing k).whole (proceed (step limit place nothing k).next (λ next. contents limit (place + size k) next (drop (size k) bytes)))) first
+    ∙ ap (λ (s : Step). also s.whole (proceed s.next (λ next. contents limit (place + (length line + 1)) next (drop (length line + 1) bytes)))) made
+    ∙ ap (λ (r : List ℕ). contents limit (place + (length line + 1)) (keyword_line item) r) left
+    ∙ whole_item limit (place + (length line + 1)) item rest dash

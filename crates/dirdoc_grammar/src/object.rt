@@ -1,0 +1,147 @@
+// The object that may follow a keyword line.
+
+ghost use Rattle.std.specs.Prelude.{◌+◌, ◌<◌, ◌≡◌, ◌≤◌, ◌^◌, drop, Err, IfNone, IfOk, IfSome, length, MatchResult, None, Ok, Some, true};
+ghost use Rattle.item_terms.specs.Steps.{object_step};
+ghost use Rattle.item_terms.specs.Words as line_words;
+ghost use Rattle.dirdoc_grammar.specs.Reading.{last_step, object_of, BeginsObject, FindsObjectLine, ReadsObject};
+ghost use Rattle.dirdoc_grammar.specs.Seen.{seen, LiesInOrder};
+
+use crate::base64_text::is_body;
+use crate::bytes::{are_words, begins_dash, line_size};
+use crate::item::{Item, ObjectText};
+use crate::line::{MAX_LINE, at, first_line_of};
+use item_terms::{DocFault, DocReason};
+
+/// The bytes that an object may have, from its BEGIN line through its END line.
+const MAX_OBJECT: u64 = 65_536;
+
+/// The words of a line that begins an object.
+fn begin_words(text: &[u8]) -> Option<&[u8]>
+    ensures some { IfSome result (λ words. line_words.begin_words text.now ≡ Some words.now) }
+    ensures none { IfNone result (line_words.begin_words text.now ≡ None) }
+{
+    let words = text.strip_prefix(b"-----BEGIN ")?.strip_suffix(b"-----")?;
+    if are_words(words) { Some(words) } else { None }
+}
+
+/// Whether a line ends the object with these words.
+fn is_end_line(words: &[u8], text: &[u8]) -> bool
+    ensures { result ≡ line_words.is_end_line words.now text.now }
+{
+    let Some(rest) = text.strip_prefix(b"-----END ") else {
+        return false;
+    };
+    let Some(end) = rest.strip_prefix(words) else {
+        return false;
+    };
+    end == b"-----".as_slice()
+}
+
+/// A line of the object whose BEGIN line stands at `begin`, without its NL.
+fn object_line(bytes: &[u8], begin: usize, place: usize, limit: u64) -> Result<&[u8], DocFault>
+    requires order { begin ≤ place }
+    requires inside { place < length bytes.now }
+    requires short { length bytes.now < 2 ^ 62 }
+    ensures { FindsObjectLine limit begin place bytes.now result }
+{
+    let rest = &bytes[place..];
+    let room = MAX_OBJECT.saturating_sub((place - begin) as u64);
+    let other = limit.saturating_sub(place as u64).min(MAX_LINE);
+    if room < other && room < line_size(rest) {
+        return Err(at(begin as u64, DocReason::ObjectTooLong));
+    }
+    first_line_of(rest, place as u64, limit)
+}
+
+/// What stands between the lines of an object: its words, and its own lines with their place.
+#[derive(Clone, Copy, Debug)]
+struct Body<'a> {
+    words: &'a [u8],
+    start: u64,
+    lines: &'a [u8],
+}
+
+/// The item whose object ends with a line.
+fn end_of_object<'a>(
+    item: Item<'a>,
+    body: Body<'a>,
+    begin: u64,
+    place: u64,
+    text: &[u8],
+) -> Result<Item<'a>, DocFault>
+    requires fits { place + length text.now < 2 ^ 63 }
+    requires dash { line_words.begins_dash text.now ≡ true }
+    requires order { LiesInOrder (seen item) }
+    requires later { item.after ≤ place }
+    requires lines { body.start + length body.lines.now ≤ place }
+    ensures after { IfOk result (λ whole. whole.after ≡ place + length text.now + 1) }
+    ensures order { IfOk result (λ whole. LiesInOrder (seen whole)) }
+    ensures step { object_step (seen item.entry) begin (object_of body.entry) place (record { text = text.now; ended = true }) ≡ last_step result }
+{
+    let Body {
+        words,
+        start,
+        lines,
+    } = body;
+    if !is_end_line(words, text) {
+        return Err(at(place, DocReason::ObjectEnd));
+    }
+    if !is_body(lines) {
+        return Err(at(begin, DocReason::ObjectBase64));
+    }
+    Ok(Item {
+        object: Some(ObjectText {
+            words,
+            start,
+            lines,
+        }),
+        after: place + text.len() as u64 + 1,
+        ..item
+    })
+}
+
+/// The words of the object whose first line stands at a place, and the place after that line.
+fn first_object_line(bytes: &[u8], begin: usize, limit: u64) -> Result<(&[u8], usize), DocFault>
+    requires inside { begin < length bytes.now }
+    requires short { length bytes.now < 2 ^ 62 }
+    requires dash { line_words.begins_dash (drop begin bytes.now) ≡ true }
+    ensures { BeginsObject limit begin bytes.now result }
+{
+    let line = first_line_of(&bytes[begin..], begin as u64, limit)?;
+    let Some(words) = begin_words(line) else {
+        return Err(at(begin as u64, DocReason::ObjectWords));
+    };
+    if line.len() as u64 + 1 > MAX_OBJECT {
+        return Err(at(begin as u64, DocReason::ObjectTooLong));
+    }
+    Ok((words, begin + line.len() + 1))
+}
+
+/// The item of a keyword line with the object after it, if there is one.
+pub fn with_object<'a>(bytes: &'a [u8], item: Item<'a>, limit: u64) -> Result<Item<'a>, DocFault>
+    requires inside { item.after ≤ length bytes.now }
+    requires short { length bytes.now < 2 ^ 62 }
+    requires order { LiesInOrder (seen item) }
+    ensures object { ReadsObject limit bytes.now item.entry result }
+    ensures order { IfOk result (λ whole. LiesInOrder (seen whole)) }
+{
+    let begin = item.after as usize;
+    if !begins_dash(&bytes[begin..]) {
+        return Ok(item);
+    }
+    let (words, first) = first_object_line(bytes, begin, limit)?;
+    let mut place = first;
+    'lines: while place < bytes.len() {
+        let text = object_line(bytes, begin, place, limit)?;
+        if begins_dash(text) {
+            let body = Body {
+                words,
+                start: first as u64,
+                lines: &bytes[first..place],
+            };
+            return end_of_object(item, body, begin as u64, place as u64, text);
+        }
+        place += text.len() + 1;
+    }
+    Err(at(place as u64, DocReason::Unterminated))
+}
