@@ -1,0 +1,86 @@
+// What items say: numbers, and the places of their texts in the document.
+use crate::keyword::Keyword;
+use dir_values::{Digest1, Fingerprint};
+
+/// Where a text stands: the places of its first byte and of the byte after its last, counted from
+/// the input's first byte.
+#[derive(Clone, Copy, Debug, PartialEq, Eq)]
+pub struct Span {
+    /// The place of its first byte.
+    pub start: u64,
+    /// The place after its last byte.
+    pub end: u64,
+}
+
+/// Who an authority is, as its `dir-source` line says.
+#[derive(Clone, Copy, Debug, PartialEq, Eq)]
+pub struct DirSource {
+    /// Its nickname.
+    pub nickname: Span,
+    /// Its identity.
+    pub identity: Fingerprint,
+    /// Its host name.
+    pub address: Span,
+    /// Its IPv4 address, the first byte highest.
+    pub ip: u32,
+    /// Its directory port.
+    pub dir_port: u16,
+    /// Its onion routing port.
+    pub or_port: u16,
+}
+
+/// The digest that a signature is over.
+#[derive(Clone, Copy, Debug, PartialEq, Eq)]
+pub enum Algorithm {
+    /// `sha1`
+    Sha1,
+    /// `sha256`
+    Sha256,
+}
+
+/// What a `directory-signature` item says.
+#[derive(Clone, Copy, Debug, PartialEq, Eq)]
+pub struct VoteSignature {
+    /// The algorithm, where the line names one.
+    pub algorithm: Option<Algorithm>,
+    /// The identity of the authority that signed.
+    pub identity: Fingerprint,
+    /// The digest of its signing key.
+    pub key_digest: Digest1,
+    /// The lines of the signature.
+    pub signature: Span,
+}
+
+/// What an item says.
+#[derive(Clone, Copy, Debug)]
+pub enum Value {
+    /// No more than that it stands.
+    Nothing,
+    /// A text, or the arguments as they stand.
+    Text(Span),
+    /// A time, in seconds from 1970-01-01 00:00:00.
+    Number(u64),
+    /// Two numbers of seconds.
+    Delays(u32, u32),
+    /// A fingerprint.
+    Fingerprint(Fingerprint),
+    /// Who an authority is.
+    Source(DirSource),
+    /// The lines of an object, without its first and last.
+    Object(Span),
+    /// A signature.
+    Signature(VoteSignature),
+}
+
+/// An item that was taken into a section.
+#[derive(Clone, Copy, Debug)]
+pub struct Taken {
+    /// Its keyword.
+    pub keyword: Keyword,
+    /// What it says.
+    pub value: Value,
+    /// The place of its first byte.
+    pub place: u64,
+    /// The place after its last line.
+    pub after: u64,
+}
