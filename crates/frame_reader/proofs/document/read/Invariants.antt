@@ -1,0 +1,11 @@
+use Rattle.std.proofs.Common.{◌≡◌, length}
+use Rattle.frame_terms.specs.Documents.{read_items, document_of, finish}
+use Rattle.frame_reader.proofs.document.read.Given as goal
+
+abbrev pub invariant-items : goal.invariant-items
+invariant-items g l =
+    finish g.F.Facts.with l.facts (read_items l.kind l.length l.state l.items.fault l.items.items)
+    ≡ finish g.F.Facts.with l.fn.facts (document_of l.kind l.length l.fn.items)
+
+abbrev pub decreases-items : goal.decreases-items
+decreases-items g l = length l.items.items

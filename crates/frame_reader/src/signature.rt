@@ -1,0 +1,95 @@
+// Objects, and the signature of a vote.
+ghost use Rattle.std.specs.Prelude.{◌≡◌};
+ghost use Rattle.dir_values.specs.Taking.{argument_of};
+ghost use Rattle.dirdoc_grammar.specs.Seen.{seen, seen_object_if};
+ghost use Rattle.frame_terms.specs.Arguments as arguments;
+ghost use Rattle.frame_terms.specs.Signatures as signatures;
+ghost use Rattle.frame_reader.specs.Reading.{IsInside};
+
+use crate::fields::{algorithm, field, fingerprint, key_digest, span};
+use crate::items::{arguments_of, take_argument};
+use dir_values::{Argument, Arguments};
+use dirdoc_grammar::Item;
+use frame_terms::{Algorithm, ObjectWords, Span, Value, VoteSignature};
+
+/// Where the lines of an item's object stand, if it is the one that is wanted.
+fn object_if(words: ObjectWords, item: &Item<'_>) -> Result<Span, u64>
+    requires { IsInside item.now }
+    ensures { result ≡ signatures.object_if words item.now.place (seen_object_if item.now.object) }
+{
+    match item.object {
+        Some(object) => {
+            if words.admits(object.words) {
+                Ok(span(object.start, object.lines))
+            } else {
+                Err(item.place)
+            }
+        }
+        None => Err(item.place),
+    }
+}
+
+/// The lines of an item's object.
+pub fn object_of(words: ObjectWords, item: &Item<'_>) -> Result<Value, u64>
+    requires { IsInside item.now }
+    ensures { result ≡ signatures.object_of words (seen item.now) }
+{
+    Ok(Value::Object(object_if(words, item)?))
+}
+
+/// The algorithm that the first argument names, if it is no fingerprint.
+fn algorithm_if(first: &Argument<'_>) -> Result<Option<Algorithm>, u64>
+    ensures { result ≡ signatures.algorithm_if (argument_of first.now) }
+{
+    if fingerprint(first.text).is_some() {
+        return Ok(None);
+    }
+    Ok(Some(field(first, algorithm(first.text))?))
+}
+
+/// The arguments of an item after the algorithm, where one is named.
+fn after_algorithm<'a>(name: Option<Algorithm>, item: &Item<'a>) -> Arguments<'a>
+    requires { IsInside item.now }
+    ensures { result ≡ signatures.after_algorithm name (arguments.arguments_of (seen item.now)) }
+{
+    let mut arguments = arguments_of(item);
+    if name.is_some() {
+        let _ = take_argument(&mut arguments, item.place);
+    }
+    arguments
+}
+
+/// By whom a document is signed.
+fn signed_by(
+    name: Option<Algorithm>,
+    arguments: &mut Arguments<'_>,
+    item: &Item<'_>,
+) -> Result<Value, u64>
+    requires { IsInside item.now }
+    ensures { result ≡ signatures.signed_by name arguments.old (seen item.now) }
+{
+    let identity = take_argument(arguments, item.place);
+    let key = take_argument(arguments, item.place);
+    let signer = field(&identity, fingerprint(identity.text))?;
+    let digest = field(&key, key_digest(key.text))?;
+    let signature = object_if(ObjectWords::Signature, item)?;
+    Ok(Value::Signature(VoteSignature {
+        algorithm: name,
+        identity: signer,
+        key_digest: digest,
+        signature,
+    }))
+}
+
+/// What a signature says, which a space has to stand before.
+pub fn signature_of(item: &Item<'_>) -> Result<Value, u64>
+    requires { IsInside item.now }
+    ensures { result ≡ signatures.signature_of (seen item.now) }
+{
+    let Some(b' ') = item.separator else {
+        return Err(item.place + item.keyword.len() as u64);
+    };
+    let first = take_argument(&mut arguments_of(item), item.place);
+    let name = algorithm_if(&first)?;
+    signed_by(name, &mut after_algorithm(name, item), item)
+}
