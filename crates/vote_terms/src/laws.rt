@@ -1,0 +1,26 @@
+// Laws of the definitions.
+ghost use Rattle.vote_terms.specs.Flags.{KnowsFlags};
+ghost use Rattle.vote_terms.specs.Held.{HeldIsHeld, RanksAgree, HeldAgree};
+
+/// What is held of a list of votes is, for each authority, its vote of the greatest rank, and of different votes of
+/// that rank the first.
+pub fn held_is_held()
+    ensures { HeldIsHeld }
+{}
+
+/// The order in which votes come, and how often, changes no rank that is held.
+pub fn ranks_agree()
+    ensures { RanksAgree }
+{}
+
+/// The order in which votes come, and how often, changes nothing that is held, where no two different votes of one
+/// authority share a rank.
+pub fn held_agree()
+    ensures { HeldAgree }
+{}
+
+/// A consensus knows exactly the flags that some vote lists, `NoEdConsensus`, and, where some vote lists `MiddleOnly`,
+/// `BadExit`.
+pub fn knows_flags()
+    ensures { KnowsFlags }
+{}

@@ -1,0 +1,12 @@
+//! What votes and consensuses say: the plain records, and in `specs/` the definitions of computing a consensus.
+#![tactic(auto)]
+
+mod consensus;
+mod laws;
+mod rank;
+mod word;
+
+pub use consensus::{Consensus, SourceLine};
+pub use laws::{held_agree, held_is_held, knows_flags, ranks_agree};
+pub use rank::Rank;
+pub use word::VoteWord;
