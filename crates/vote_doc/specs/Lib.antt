@@ -1,0 +1,7 @@
+pub mod Values
+pub mod Heads
+pub mod Facts
+pub mod Checks
+pub mod Holdings
+pub mod Lending
+pub mod Reading

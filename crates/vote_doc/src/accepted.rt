@@ -1,0 +1,142 @@
+// The votes that are held, one for each authority.
+ghost use Rattle.std.specs.Prelude.{◌≡◌, ◌≤◌, ◌<◌, ◌⊎◌, [], length, vec_len, vec_capacity, IfOk, IsSome, slice_index_or};
+ghost use Rattle.vote_terms.specs.Votes.{is_above};
+ghost use Rattle.vote_terms.specs.Held.{placed, rival};
+ghost use Rattle.vote_doc.specs.Holdings.{MayPlace, placing};
+ghost use Rattle.vote_doc.specs.Lending as lending;
+
+use crate::held::HeldVote;
+use dir_bytes::Memory;
+use dir_values::Fingerprint;
+use std::alloc::Global;
+use std::marker::Model;
+use vote_terms::Rank;
+
+/// The votes that are held: at most one for each authority, ascending by identity.
+#[derive(Drop)]
+pub struct Accepted {
+    votes: Vec<HeldVote>,
+    room: u32,
+}
+
+impl Model for Accepted {
+    ghost use Rattle.std.specs.Prelude.{◌≤◌, length, vec_capacity};
+    ghost use Rattle.vote_doc.specs.Holdings.{Holding};
+
+    ghost Value = { Holding };
+
+    ghost view = { λ a. record { room = a.room; votes = a.votes.items } };
+
+    ghost invariant = { λ a. (length a.votes.items ≤ a.room) × (a.room ≤ vec_capacity a.votes) };
+}
+
+/// What placing a vote answers.
+#[derive(Clone, Copy, Debug, PartialEq, Eq)]
+pub enum Placed {
+    /// No vote of the authority was held. This one is now.
+    Kept,
+    /// This vote is held now, in place of one of this smaller rank.
+    Replaced { old: Rank },
+    /// A vote of this rank is held already, which is this vote's too. It stays.
+    Have { held: Rank },
+    /// A vote of this greater rank is held. It stays.
+    Older { held: Rank },
+}
+
+// Whether a rank is above another.
+fn is_above(a: &Rank, b: &Rank) -> bool
+    ensures { result ≡ is_above a.now b.now }
+{
+    a.published > b.published
+        || (a.published == b.published && b.whole.0.as_slice().cmp(a.whole.0.as_slice()).is_lt())
+}
+
+impl Accepted {
+    /// No votes, with room for so many.
+    ///
+    /// # Errors
+    /// `Memory` is want of memory.
+    pub fn new(alloc: Global, room: u32) -> Result<Accepted, Memory>
+        ensures { IfOk result (λ held. held ≡ record { room = room; votes = [] }) }
+    {
+        let votes = Vec::with_capacity(alloc, room as usize)?;
+        Ok(Accepted { votes, room })
+    }
+
+    /// How many votes are held.
+    pub fn len(&self) -> usize
+        ensures { result ≡ length self.now.votes }
+    {
+        self.votes.len()
+    }
+
+    /// The held vote with this number, from 0, ascending by identity.
+    pub fn vote(&self, i: usize) -> &HeldVote
+        requires { i < length self.now.votes }
+        ensures { result.now ≡ slice_index_or self.now.votes i result.now }
+    {
+        &self.votes[i]
+    }
+
+    /// Takes a vote into its place, where its authority is held or there is room. Of two votes of one authority the one
+    /// of greater rank is held, and of equal ranks the one that was placed first. Takes no memory.
+    pub fn place(&mut self, held: HeldVote) -> Placed
+        requires { MayPlace self.old held }
+        ensures votes { self.new ≡ record self.old { votes = placed self.old.votes held } }
+        ensures answer { result ≡ placing self.old.votes held }
+    {
+        put(&mut self.votes, held)
+    }
+}
+
+// Puts a vote into its place among votes that ascend.
+fn put(votes: &mut Vec<HeldVote>, held: HeldVote) -> Placed
+    requires { IsSome (rival votes.old.items held) ⊎ (vec_len votes.old < vec_capacity votes.old) }
+    ensures votes { votes.new.items ≡ placed votes.old.items held }
+    ensures capacity { vec_capacity votes.old ≤ vec_capacity votes.new }
+    ensures answer { result ≡ placing votes.old.items held }
+{
+    let authority = held.vote().identity();
+    let at = slot(votes, &authority);
+    match rank_at(votes, at, &authority) {
+        None => match votes.insert(at, held) {
+            Ok(()) => Placed::Kept,
+            Err(_) => unreachable!(),
+        },
+        Some(old) => {
+            let new = held.rank();
+            if is_above(&new, &old) {
+                votes[at] = held;
+                Placed::Replaced { old }
+            } else if is_above(&old, &new) {
+                Placed::Older { held: old }
+            } else {
+                Placed::Have { held: old }
+            }
+        }
+    }
+}
+
+// How many of the votes come before an authority.
+fn slot(votes: &[HeldVote], authority: &Fingerprint) -> usize
+    ensures count { result ≡ lending.slot_of votes.now authority.now }
+    ensures within { result ≤ length votes.now }
+{
+    votes
+        .iter()
+        .take_while(|held| held.vote().identity().is_below(authority))
+        .count()
+}
+
+// The rank of the vote at a place, if it is of the authority.
+fn rank_at(votes: &[HeldVote], place: usize, authority: &Fingerprint) -> Option<Rank>
+    ensures rank { result ≡ lending.rank_at votes.now place authority.now }
+    ensures within { IsSome result → place < length votes.now }
+{
+    let held = votes.get(place)?;
+    if held.vote().identity().is_same(authority) {
+        Some(held.rank())
+    } else {
+        None
+    }
+}

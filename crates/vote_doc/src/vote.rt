@@ -1,0 +1,238 @@
+// A vote: its bytes, and where its texts stand.
+ghost use Rattle.std.specs.Prelude.{◌≡◌, ◌≤◌, ◌<◌, ◌^◌, length, slice_range, option_map};
+ghost use Rattle.dir_bytes.specs.Causes.{last_moment};
+ghost use Rattle.vote_terms.specs.Votes.{rank_of, vote_digest};
+ghost use Rattle.vote_doc.specs.Facts as facts;
+
+use crate::head::Head;
+use dir_bytes::LAST_MOMENT;
+use dir_values::{Digest1, Digest2, Fingerprint};
+use frame_terms::Span;
+use sha1::Sha1;
+use sha2::{Digest, Sha256};
+use std::marker::Model;
+use vote_terms::Rank;
+
+/// A vote (dir-spec, "Vote and consensus status document formats"). Its texts are slices of its bytes.
+#[derive(Drop)]
+pub struct Vote {
+    bytes: Vec<u8>,
+    head: Head,
+}
+
+impl Model for Vote {
+    ghost use Rattle.std.specs.Prelude.{◌<◌, ◌^◌, length};
+    ghost use Rattle.vote_terms.specs.Votes.{VoteFacts};
+    ghost use Rattle.vote_doc.specs.Facts.{facts_of};
+
+    ghost Value = { VoteFacts };
+
+    ghost view = { λ v. facts_of v.bytes.items v.head };
+
+    ghost invariant = { λ v. length v.bytes.items < 2 ^ 62 };
+}
+
+/// The part of a text from one place to another; places past its end name what there is.
+pub(crate) fn between(bytes: &[u8], start: u64, end: u64) -> &[u8]
+    ensures part { result.now ≡ slice_range bytes.now start end }
+    ensures within { length result.now ≤ length bytes.now }
+{
+    let len = bytes.len();
+    let from = if start < len as u64 {
+        start as usize
+    } else {
+        len
+    };
+    let rest = &bytes[from..];
+    let wanted = end.saturating_sub(start);
+    let count = if wanted < rest.len() as u64 {
+        wanted as usize
+    } else {
+        rest.len()
+    };
+    &rest[..count]
+}
+
+// The text that stands in a span.
+fn part(bytes: &[u8], span: Span) -> &[u8]
+    ensures part { result.now ≡ facts.part bytes.now span }
+    ensures within { length result.now ≤ length bytes.now }
+{
+    between(bytes, span.start, span.end)
+}
+
+// The text that stands in a span, where there is one.
+fn part_if(bytes: &[u8], span: Option<Span>) -> Option<&[u8]>
+    ensures { option_map (λ text. text.now) result ≡ option_map (facts.part bytes.now) span }
+{
+    match span {
+        Some(span) => Some(part(bytes, span)),
+        None => None,
+    }
+}
+
+// A moment that was read, which is one of the calendar.
+fn moment(number: u64) -> u64
+    ensures value { result ≡ facts.moment_of number }
+    ensures within { result ≤ last_moment }
+{
+    number.min(LAST_MOMENT)
+}
+
+impl Vote {
+    /// The vote of these bytes, of whose sections this was kept.
+    pub(crate) fn new(bytes: Vec<u8>, head: Head) -> Vote
+        requires { length bytes.items < 2 ^ 62 }
+        ensures { result ≡ facts.facts_of bytes.items head }
+    {
+        Vote { bytes, head }
+    }
+
+    /// The bytes from the first item through the last object.
+    pub fn bytes(&self) -> &[u8]
+        ensures { result.now ≡ self.now.whole }
+    {
+        between(&self.bytes, self.head.begin, self.head.end)
+    }
+
+    /// The part that is signed: from the first item through the one space after `directory-signature`.
+    pub fn signed_part(&self) -> &[u8]
+        ensures { result.now ≡ self.now.signed }
+    {
+        between(&self.bytes, self.head.begin, self.head.signed_end)
+    }
+
+    /// The rank: `published`, and the SHA-256 of the bytes.
+    pub fn rank(&self) -> Rank
+        ensures { result ≡ rank_of self.now }
+    {
+        Rank {
+            published: self.published(),
+            whole: Digest2(Sha256::digest(self.bytes())),
+        }
+    }
+
+    /// The SHA-1 of the signed part, which names the vote.
+    pub fn vote_digest(&self) -> Digest1
+        ensures { result ≡ vote_digest self.now }
+    {
+        Digest1(Sha1::digest(self.signed_part()))
+    }
+
+    /// The text of the `consensus-methods` line, where there is one.
+    pub fn consensus_methods(&self) -> Option<&[u8]>
+        ensures { option_map (λ text. text.now) result ≡ self.now.methods }
+    {
+        part_if(&self.bytes, self.head.methods)
+    }
+
+    /// When the vote was published, in seconds since 1970-01-01 00:00:00 UTC.
+    pub fn published(&self) -> u64
+        ensures value { result ≡ self.now.published }
+        ensures within { result ≤ last_moment }
+    {
+        moment(self.head.published)
+    }
+
+    /// When the period begins that the vote is for, in seconds since 1970-01-01 00:00:00 UTC.
+    pub fn valid_after(&self) -> u64
+        ensures value { result ≡ self.now.valid_after }
+        ensures within { result ≤ last_moment }
+    {
+        moment(self.head.valid_after)
+    }
+
+    /// Until when the consensus is to be fresh, in seconds since 1970-01-01 00:00:00 UTC.
+    pub fn fresh_until(&self) -> u64
+        ensures value { result ≡ self.now.fresh_until }
+        ensures within { result ≤ last_moment }
+    {
+        moment(self.head.fresh_until)
+    }
+
+    /// Until when the consensus is to be valid, in seconds since 1970-01-01 00:00:00 UTC.
+    pub fn valid_until(&self) -> u64
+        ensures value { result ≡ self.now.valid_until }
+        ensures within { result ≤ last_moment }
+    {
+        moment(self.head.valid_until)
+    }
+
+    /// The seconds for exchanging votes.
+    pub fn vote_seconds(&self) -> u32
+        ensures { result ≡ self.now.vote_seconds }
+    {
+        self.head.vote_seconds
+    }
+
+    /// The seconds for exchanging signatures.
+    pub fn dist_seconds(&self) -> u32
+        ensures { result ≡ self.now.dist_seconds }
+    {
+        self.head.dist_seconds
+    }
+
+    /// The text of the `known-flags` line.
+    pub fn known_flags(&self) -> &[u8]
+        ensures text { result.now ≡ self.now.known_flags }
+        ensures within { length result.now < 2 ^ 62 }
+    {
+        part(&self.bytes, self.head.known_flags)
+    }
+
+    /// The text of the `flag-thresholds` line, where there is one.
+    pub fn flag_thresholds(&self) -> Option<&[u8]>
+        ensures { option_map (λ text. text.now) result ≡ self.now.flag_thresholds }
+    {
+        part_if(&self.bytes, self.head.flag_thresholds)
+    }
+
+    /// The authority's nickname.
+    pub fn nickname(&self) -> &[u8]
+        ensures { result.now ≡ self.now.nickname }
+    {
+        part(&self.bytes, self.head.source.nickname)
+    }
+
+    /// The authority's identity.
+    pub fn identity(&self) -> Fingerprint
+        ensures { result ≡ self.now.identity }
+    {
+        self.head.source.identity
+    }
+
+    /// The name of the authority's host.
+    pub fn address(&self) -> &[u8]
+        ensures { result.now ≡ self.now.address }
+    {
+        part(&self.bytes, self.head.source.address)
+    }
+
+    /// The authority's IPv4 address, its first byte highest.
+    pub fn ip(&self) -> u32
+        ensures { result ≡ self.now.ip }
+    {
+        self.head.source.ip
+    }
+
+    /// The authority's directory port.
+    pub fn dir_port(&self) -> u16
+        ensures { result ≡ self.now.dir_port }
+    {
+        self.head.source.dir_port
+    }
+
+    /// The authority's onion router port.
+    pub fn or_port(&self) -> u16
+        ensures { result ≡ self.now.or_port }
+    {
+        self.head.source.or_port
+    }
+
+    /// The text of the `contact` line, where there is one.
+    pub fn contact(&self) -> Option<&[u8]>
+        ensures { option_map (λ text. text.now) result ≡ self.now.contact }
+    {
+        part_if(&self.bytes, self.head.contact)
+    }
+}
