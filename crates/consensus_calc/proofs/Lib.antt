@@ -1,0 +1,3 @@
+pub mod Medians
+pub mod Lines
+pub mod Known

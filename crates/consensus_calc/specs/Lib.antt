@@ -1,0 +1,4 @@
+pub mod Calculating
+pub mod Timings
+pub mod Knowing
+pub mod Parts

@@ -1,0 +1,22 @@
+-- What votes say of time.
+use Rattle.std.specs.Prelude.{ℕ, ◌-◌, ◌^◌}
+use Rattle.dir_bytes.specs.Causes.{last_moment}
+use Rattle.vote_terms.specs.Votes.{VoteFacts}
+use Rattle.consensus_calc.specs.declared.timing.Timing.{Timing}
+use Rattle.consensus_calc.specs.declared.timing.Timing.TheVariants.{ValidAfter, FreshUntil, ValidUntil, VoteSeconds, DistSeconds}
+
+-- what a vote says
+abbrev pub said : Timing → VoteFacts → ℕ
+said ValidAfter vote = vote.valid_after
+said FreshUntil vote = vote.fresh_until
+said ValidUntil vote = vote.valid_until
+said VoteSeconds vote = vote.vote_seconds
+said DistSeconds vote = vote.dist_seconds
+
+-- the most that it may say
+abbrev pub most : Timing → ℕ
+most ValidAfter = last_moment
+most FreshUntil = last_moment
+most ValidUntil = last_moment
+most VoteSeconds = 2 ^ 32 - 1
+most DistSeconds = 2 ^ 32 - 1

@@ -1,0 +1,55 @@
+// The flags that a consensus knows.
+ghost use Rattle.std.specs.Prelude.{◌≡◌, ◌<◌, ◌^◌, IfOk, OnOk, length};
+ghost use Rattle.std.specs.List.{fold};
+ghost use Rattle.dir_values.specs.FlagSets.{as_set, with_flag};
+ghost use Rattle.vote_terms.specs.Flags.{flags_in, listed_flags, known_flags};
+ghost use Rattle.consensus_calc.specs.Knowing.{with_own};
+
+use dir_bytes::Memory;
+use dir_values::{Arguments, FlagSet};
+use std::alloc::Global;
+use vote_doc::Accepted;
+
+/// The flags that some vote lists, `NoEdConsensus`, and `BadExit` where `MiddleOnly` is among the listed ones.
+pub fn known_flags(alloc: Global, votes: &Accepted) -> Result<FlagSet, Memory>
+    ensures { IfOk result (λ set. set ≡ known_flags votes.now.votes) }
+{
+    let mut set = listed(alloc, votes)?;
+    add_own(alloc, &mut set)?;
+    Ok(set)
+}
+
+// The flags that votes list.
+fn listed(alloc: Global, votes: &Accepted) -> Result<FlagSet, Memory>
+    ensures { IfOk result (λ set. set ≡ as_set (listed_flags votes.now.votes)) }
+{
+    let mut set = FlagSet::new(alloc);
+    'votes: for i in 0..votes.len() {
+        add_listed(alloc, &mut set, votes.vote(i).vote().known_flags())?;
+    }
+    Ok(set)
+}
+
+// Adds the flags that a vote lists.
+fn add_listed(alloc: Global, set: &mut FlagSet, text: &[u8]) -> Result<(), Memory>
+    requires { length text.now < 2 ^ 62 }
+    ensures { OnOk result (set.new ≡ fold with_flag set.old (flags_in text.now)) }
+{
+    let mut arguments = Arguments::at(0, text);
+    'arguments: while let Some(argument) = arguments.next() {
+        set.insert(alloc, argument.text)?;
+    }
+    Ok(())
+}
+
+// Adds the flags that a consensus has of its own.
+fn add_own(alloc: Global, set: &mut FlagSet) -> Result<(), Memory>
+    ensures { OnOk result (set.new ≡ with_own set.old) }
+{
+    let middle_only = set.contains(b"MiddleOnly");
+    set.insert(alloc, b"NoEdConsensus")?;
+    if middle_only {
+        set.insert(alloc, b"BadExit")?;
+    }
+    Ok(())
+}

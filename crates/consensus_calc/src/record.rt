@@ -1,0 +1,97 @@
+// Computing a consensus.
+ghost use Rattle.std.specs.Prelude.{◌≡◌, ℕ, IfOk, map};
+ghost use Rattle.vote_terms.specs.Consensuses as terms;
+ghost use Rattle.consensus_calc.specs.Calculating.{Calculates, HasMoments};
+
+use crate::counts::over;
+use crate::flags::known_flags;
+use crate::timing::{Timing, median};
+use dir_bytes::{Memory, Seq, Text};
+use std::alloc::Global;
+use vote_doc::{Accepted, Vote};
+use vote_terms::{Consensus, SourceLine};
+
+/// Why there is no consensus.
+#[derive(Clone, Copy, Debug, PartialEq, Eq)]
+pub enum CalcFault {
+    /// So many votes are held, which are not of more than half of a roster of so many authorities.
+    TooFew { held: u64, roster: u32 },
+    /// There was no memory.
+    Memory,
+}
+
+impl From<Memory> for CalcFault {
+    ghost use Rattle.consensus_calc.specs.declared.record.CalcFault.TheVariants.{Memory as NoMemory};
+
+    ghost from_gives = { λ _ e. e ≡ NoMemory };
+
+    fn from(_: Memory) -> Self {
+        CalcFault::Memory
+    }
+}
+
+/// The consensus of the held votes (dir-spec, "Computing a consensus from a set of votes"), where the roster has so many
+/// authorities. `TooFew` comes where the votes are not of more than half of it, and `Memory` where there is no memory.
+pub fn compute(alloc: Global, roster: u32, votes: &Accepted) -> Result<Consensus, CalcFault>
+    ensures calculates { Calculates roster votes.now.votes result }
+    ensures moments { IfOk result (λ c. HasMoments c) }
+{
+    let held = votes.len() as u64;
+    if !over(held, roster) {
+        return Err(CalcFault::TooFew { held, roster });
+    }
+    Ok(consensus_of(alloc, votes)?)
+}
+
+// The consensus of votes, whatever the roster.
+fn consensus_of(alloc: Global, votes: &Accepted) -> Result<Consensus, Memory>
+    ensures value { IfOk result (λ c. (roster : ℕ) → c ≡ terms.consensus roster votes.now.votes) }
+    ensures moments { IfOk result (λ c. HasMoments c) }
+{
+    Ok(Consensus {
+        method: 32,
+        valid_after: median(alloc, votes, Timing::ValidAfter)?,
+        fresh_until: median(alloc, votes, Timing::FreshUntil)?,
+        valid_until: median(alloc, votes, Timing::ValidUntil)?,
+        vote_seconds: median(alloc, votes, Timing::VoteSeconds)? as u32,
+        dist_seconds: median(alloc, votes, Timing::DistSeconds)? as u32,
+        known_flags: known_flags(alloc, votes)?,
+        sources: sources(alloc, votes)?,
+    })
+}
+
+// What the consensus says of each vote's authority, in the order of the votes.
+fn sources(alloc: Global, votes: &Accepted) -> Result<Seq<SourceLine>, Memory>
+    ensures { IfOk result (λ lines. lines ≡ map terms.source_of votes.now.votes) }
+{
+    let count = votes.len();
+    let mut lines = Vec::with_capacity(alloc, count)?;
+    'votes: for i in 0..count {
+        lines.push(source_of(alloc, votes.vote(i).vote())?)?;
+    }
+    Ok(Seq::new(lines))
+}
+
+fn source_of(alloc: Global, vote: &Vote) -> Result<SourceLine, Memory>
+    ensures { IfOk result (λ line. line ≡ terms.source_of vote.now) }
+{
+    Ok(SourceLine {
+        nickname: Text::copy_of(alloc, vote.nickname())?,
+        identity: vote.identity(),
+        address: Text::copy_of(alloc, vote.address())?,
+        ip: vote.ip(),
+        dir_port: vote.dir_port(),
+        or_port: vote.or_port(),
+        contact: contact_of(alloc, vote)?,
+        vote_digest: vote.vote_digest(),
+    })
+}
+
+fn contact_of(alloc: Global, vote: &Vote) -> Result<Option<Text>, Memory>
+    ensures { IfOk result (λ contact. contact ≡ vote.now.contact) }
+{
+    match vote.contact() {
+        Some(text) => Ok(Some(Text::copy_of(alloc, text)?)),
+        None => Ok(None),
+    }
+}

@@ -1,0 +1,55 @@
+// The times of a consensus.
+ghost use Rattle.std.specs.Prelude.{◌≡◌, ◌≤◌, IfOk, All, map};
+ghost use Rattle.vote_terms.specs.Preamble.{median_of};
+ghost use Rattle.consensus_calc.specs.Timings as timings;
+
+use crate::counts::low_median;
+use dir_bytes::Memory;
+use std::alloc::Global;
+use vote_doc::{Accepted, Vote};
+
+/// What votes say of time: three moments, in seconds since 1970-01-01 00:00:00 UTC, and two numbers of seconds.
+#[derive(Clone, Copy, Debug)]
+pub enum Timing {
+    ValidAfter,
+    FreshUntil,
+    ValidUntil,
+    VoteSeconds,
+    DistSeconds,
+}
+
+// What a vote says.
+fn said(vote: &Vote, timing: Timing) -> u64
+    ensures value { result ≡ timings.said timing vote.now }
+    ensures within { result ≤ timings.most timing }
+{
+    match timing {
+        Timing::ValidAfter => vote.valid_after(),
+        Timing::FreshUntil => vote.fresh_until(),
+        Timing::ValidUntil => vote.valid_until(),
+        Timing::VoteSeconds => vote.vote_seconds() as u64,
+        Timing::DistSeconds => vote.dist_seconds() as u64,
+    }
+}
+
+// What the votes say, in their order.
+fn all_said(alloc: Global, votes: &Accepted, timing: Timing) -> Result<Vec<u64>, Memory>
+    ensures values { IfOk result (λ values. values.items ≡ map (timings.said timing) votes.now.votes) }
+    ensures within { IfOk result (λ values. All (λ value. value ≤ timings.most timing) values.items) }
+{
+    let count = votes.len();
+    let mut values = Vec::with_capacity(alloc, count)?;
+    'votes: for i in 0..count {
+        values.push(said(votes.vote(i).vote(), timing))?;
+    }
+    Ok(values)
+}
+
+/// The low median of what the votes say.
+pub fn median(alloc: Global, votes: &Accepted, timing: Timing) -> Result<u64, Memory>
+    ensures value { IfOk result (λ value. value ≡ median_of (timings.said timing) votes.now.votes) }
+    ensures within { IfOk result (λ value. value ≤ timings.most timing) }
+{
+    let values = all_said(alloc, votes, timing)?;
+    Ok(low_median(&values))
+}
