@@ -1,0 +1,31 @@
+-- The command line, as clap reads it.
+use Rattle.std.specs.Prelude.{true, List, ℕ, String, string_bytes, map, Option, Some, codes}
+use Rattle.std.specs.Global.{Global}
+use Rattle.clap.specs.Words.{App, Kinds, Row, Rule, Text, fault_of, new_app, new_rule, subcommand_of, with_rule, with_subcommand}
+use Rattle.clap.specs.declared.builder.action.ArgAction.TheVariants.{Set}
+
+-- an option that must stand once, as `--name value` or `--name=value`
+abbrev pub needed_option : List ℕ → Rule
+needed_option name = record (new_rule name) { long = Some name; required = true; action = Some Set }
+
+-- the command `compute` with its options, which stand in any order
+abbrev pub compute : App
+compute = with_rule (with_rule (new_app (codes "compute")) (needed_option (codes "authorities"))) (needed_option (codes "valid-after"))
+
+-- the program before its commands: the words do not begin with its name, a command must stand there, and no words ask for help
+abbrev pub program : App
+program = let plain = new_app (codes "authority_daemon") in record plain {
+  top = record plain.top { no_binary_name = true; disable_help_flag = true; disable_help_subcommand = true; subcommand_required = true };
+}
+
+-- the program with its commands
+abbrev pub command_line : App
+command_line = with_subcommand program compute.top
+
+-- what is wrong with the words: nothing, where they are of this command line
+unfoldable pub faults : List (String Global) → Kinds
+faults words = fault_of command_line (map (λ word. string_bytes word) words)
+
+-- the command that the words name, with the values of its options
+unfoldable pub command_in : List (String Global) → Option (Text × List Row)
+command_in words = subcommand_of command_line (map (λ word. string_bytes word) words)

@@ -1,0 +1,4 @@
+pub mod CommandLine
+pub mod Lending
+pub mod Values
+pub mod Words

@@ -1,0 +1,39 @@
+-- The grammar of the words.
+use Rattle.std.specs.Prelude.{ℕ, List, [], String, Option, Some, None, codes, if◌then◌else◌}
+use Rattle.std.specs.Str.{bytes_eq}
+use Rattle.std.specs.Global.{Global}
+use Rattle.clap.specs.Words.{Kinds, Row, Text, first_of}
+use Rattle.dir_values.specs.declared.digest.Fingerprint.{Fingerprint}
+use Rattle.daemon_words.specs.CommandLine.{faults, command_in}
+use Rattle.daemon_words.specs.Values.{roster, moment}
+use Rattle.daemon_words.specs.declared.command.Command.{Command}
+use Rattle.daemon_words.specs.declared.command.Command.TheVariants as command
+
+-- `compute` for a roster and a moment, where both were read
+abbrev pub computing : Option (List Fingerprint) → Option ℕ → Option Command
+computing (Some members) (Some valid_after) = Some (command.Compute (record { roster = members; valid_after = valid_after }))
+computing _ _ = None
+
+-- `compute` with the texts of its options
+abbrev pub compute_of : List ℕ → List ℕ → Option Command
+compute_of authorities valid_after = computing (roster authorities) (moment valid_after)
+
+-- the same, where both options stand there
+abbrev pub compute_with : Option (List ℕ) → Option (List ℕ) → Option Command
+compute_with (Some authorities) (Some valid_after) = compute_of authorities valid_after
+compute_with _ _ = None
+
+-- the command of a name, with the values of its options
+abbrev pub command_named : Text → List Row → Option Command
+command_named name options =
+    if bytes_eq name (codes "compute") then compute_with (first_of (codes "authorities") options) (first_of (codes "valid-after") options)
+    else None
+
+-- the command that was named, if nothing is wrong with the words
+abbrev pub command_read : Kinds → Option (Text × List Row) → Option Command
+command_read [] (Some named) = command_named named.0 named.1
+command_read _ _ = None
+
+-- the command that the words give, if they are of the grammar
+abbrev pub command_of : List (String Global) → Option Command
+command_of words = command_read (faults words) (command_in words)

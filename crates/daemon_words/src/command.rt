@@ -1,0 +1,80 @@
+// The commands of the program.
+ghost use Rattle.std.specs.Prelude.{◌≡◌, IfOk};
+ghost use Rattle.clap.specs.Words.{found_of, rows_of};
+ghost use Rattle.daemon_words.specs.Words as grammar;
+
+use crate::command_line::matches_of;
+use crate::values::{read_moment, read_roster};
+use clap::ArgMatches;
+use dir_bytes::Memory;
+use dir_values::Roster;
+use std::alloc::Global;
+
+/// What a consensus is computed for.
+#[derive(Debug, Drop)]
+pub struct Compute {
+    /// The authorities of which a consensus speaks.
+    pub roster: Roster,
+    /// When it becomes valid, in seconds since 1970-01-01 00:00:00 UTC.
+    pub valid_after: u64,
+}
+
+/// A command with its options.
+#[derive(Debug, Drop)]
+pub enum Command {
+    /// Reads votes, and writes their unsigned consensus.
+    Compute(Compute),
+}
+
+/// The command that the words give, without the program's name in front, or nothing where they are not of the grammar.
+pub fn command_of(alloc: Global, words: &[String]) -> Result<Option<Command>, Memory>
+    ensures { IfOk result (λ command. command ≡ grammar.command_of words.now) }
+{
+    let Some(matches) = matches_of(alloc, words)? else {
+        return Ok(None);
+    };
+    match matches.subcommand() {
+        Some((name, options)) => command_named(alloc, name, options),
+        None => Ok(None),
+    }
+}
+
+// The command of a name and its options.
+fn command_named(
+    alloc: Global,
+    name: &str,
+    options: &ArgMatches<'_>,
+) -> Result<Option<Command>, Memory>
+    ensures { IfOk result (λ command. command ≡ grammar.command_named name.now (rows_of (found_of options.now))) }
+{
+    if name != "compute" {
+        return Ok(None);
+    }
+    let Some(authorities) = options.get_str("authorities") else {
+        return Ok(None);
+    };
+    let Some(valid_after) = options.get_str("valid-after") else {
+        return Ok(None);
+    };
+    compute_of(alloc, authorities.as_bytes(), valid_after.as_bytes())
+}
+
+// `compute` with the texts of its options.
+fn compute_of(
+    alloc: Global,
+    authorities: &[u8],
+    valid_after: &[u8],
+) -> Result<Option<Command>, Memory>
+    ensures { IfOk result (λ command. command ≡ grammar.compute_of authorities.now valid_after.now) }
+{
+    let (Some(roster), Some(valid_after)) = (
+        read_roster(alloc, authorities)?,
+        read_moment(valid_after),
+    ) else {
+        return Ok(None);
+    };
+    Ok(Some(Command::Compute(Compute {
+        roster,
+        valid_after,
+    })))
+}

@@ -1,0 +1,60 @@
+// The command line, as clap reads it.
+ghost use Rattle.std.specs.Prelude.{◌≡◌, false, IfOk};
+ghost use Rattle.clap.specs.Words.{app_of, rule_of};
+ghost use Rattle.clap.specs.declared.builder.command.Command.TheViews.{out-Command};
+ghost use Rattle.daemon_words.specs.CommandLine as command_line;
+ghost use Rattle.daemon_words.specs.Lending.{Matches};
+
+use clap::error::ErrorKind;
+use clap::{Arg, ArgAction, ArgMatches, Command};
+use dir_bytes::Memory;
+use std::alloc::{AllocError, Global};
+
+/// What clap reads in the words, if they are of the command line.
+pub fn matches_of<'a>(alloc: Global, words: &'a [String]) -> Result<Option<ArgMatches<'a>>, Memory>
+    ensures { IfOk result (Matches words.entry.now) }
+{
+    let command_line = command_line(alloc)?;
+    let error = match command_line.try_get_matches_from(words) {
+        Ok(matches) => return Ok(Some(matches)),
+        Err(error) => error,
+    };
+    match error.kind() {
+        ErrorKind::OutOfMemory => Err(Memory),
+        _ => Ok(None),
+    }
+}
+
+// The command line: its commands, and no words for help or a version.
+fn command_line<'a>(alloc: Global) -> Result<Command<'a>, AllocError>
+    ensures { IfOk result (λ command. app_of command ≡ command_line.command_line) }
+{
+    let compute = compute(alloc)?;
+    Command::new(alloc, "authority_daemon")
+        .no_binary_name(true)
+        .disable_help_flag(true)
+        .disable_help_subcommand(true)
+        .subcommand_required(true)
+        .subcommand(compute)
+}
+
+// The command `compute` with its options.
+fn compute<'a>(alloc: Global) -> Result<Command<'a>, AllocError>
+    ensures app { IfOk result (λ command. app_of command ≡ command_line.compute) }
+    ensures local { IfOk result (λ command. (out-Command command).has_globals ≡ false) }
+{
+    Command::new(alloc, "compute")
+        .arg(needed_option(alloc, "authorities"))?
+        .arg(needed_option(alloc, "valid-after"))
+}
+
+// An option that must stand once, with a value.
+fn needed_option<'a>(alloc: Global, name: &'a str) -> Arg<'a>
+    ensures rule { rule_of result ≡ command_line.needed_option name.entry.now }
+    ensures local { result.global ≡ false }
+{
+    Arg::new(alloc, name)
+        .long(name)
+        .required(true)
+        .action(ArgAction::Set)
+}

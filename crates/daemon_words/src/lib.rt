@@ -1,0 +1,11 @@
+//! The words of the program: which command they give, with which options.
+#![tactic(auto)]
+
+mod command;
+mod command_line;
+mod values;
+
+pub use command::{Command, Compute, command_of};
+
+#[cfg(test)]
+mod tests;
