@@ -1,0 +1,89 @@
+-- What a whole run says: of the words, the input, what was written, and the counts of faults.
+use Rattle.std.specs.Prelude.{◌≡◌, ℕ, ◌<◌, ◌≤◌, List, [], length, take, Option, Some, None, Result, Ok, Err, Bool, true}
+use Rattle.std.specs.Bool.{OnTrue}
+use Rattle.std.specs.Io.KnownBytes.{Appends, Keeps}
+use Rattle.dir_bytes.specs.Causes.{Rose}
+use Rattle.authority_daemon.specs.Commands.{Answerable}
+use Rattle.daemon_words.specs.declared.command.Command.{Command}
+use Rattle.daemon_words.specs.declared.command.Command.TheVariants as command
+use Rattle.authority_daemon.specs.declared.status.Status.{Status}
+use Rattle.authority_daemon.specs.declared.status.Status.TheVariants as status
+use Rattle.authority_daemon.specs.declared.status.Refusal.{Refusal}
+
+-- how many bytes an input may have
+abbrev pub input_limit : ℕ
+input_limit = 268435456
+
+-- where an object tells what it has
+abbrev pub Told : {A : Type 0} → Option A → (A → Type 0) → Type 0
+Told None P = Unit {0}
+Told (Some x) P = P x
+
+-- bad words are words that give no command, and any other status but want of memory has a command
+abbrev pub KnowsWords : Option Command → Status → Type 0
+KnowsWords given status.Memory = Unit {0}
+KnowsWords given status.BadWords = given ≡ None
+KnowsWords given _ = (c : Command) × (given ≡ Some c)
+
+-- whether a command reads the input
+abbrev pub reads_input : Command → Bool
+reads_input (command.Compute wanted) = true
+
+-- an input past the limit is said to be so, and no other is
+abbrev pub KeepsLimit : Command → List ℕ → Status → Type 0
+KeepsLimit c bytes status.Memory = Unit {0}
+KeepsLimit c bytes status.BadWords = Unit {0}
+KeepsLimit c bytes status.ReadFault = Unit {0}
+KeepsLimit c bytes status.TooLong = input_limit < length bytes
+KeepsLimit c bytes _ = OnTrue (reads_input c) (length bytes ≤ input_limit)
+
+-- the command's text was written whole, or where a write failed a front of it that lacks some byte, or the command refuses the input
+abbrev pub Ends : (Result (List ℕ) Refusal → Type 0) → Option (List ℕ) → Option (List ℕ) → Status → Type 0
+Ends answers old new status.Done = (text : List ℕ) × answers (Ok text) × Appends old new text
+Ends answers old new status.WriteFault = (text : List ℕ) × (n : ℕ) × answers (Ok text) × (n < length text) × Appends old new (take n text)
+Ends answers old new (status.Refused refusal) = answers (Err refusal)
+Ends answers old new status.Memory = Unit {0}
+Ends answers old new status.BadWords = Unit {0}
+Ends answers old new status.ReadFault = Unit {0}
+Ends answers old new status.TooLong = Unit {0}
+
+-- nothing was written, but with the two statuses of writing
+abbrev pub WritesOnlyAnswers : Option (List ℕ) → Option (List ℕ) → Status → Type 0
+WritesOnlyAnswers old new status.Done = Unit {0}
+WritesOnlyAnswers old new status.WriteFault = Unit {0}
+WritesOnlyAnswers old new _ = Keeps old new
+
+-- nothing is left of what a source had
+abbrev pub HasEnded : Option (List ℕ) → Option (List ℕ) → Type 0
+HasEnded None new = Unit {0}
+HasEnded (Some old) new = new ≡ Some []
+
+-- the input was read to its end, also where the command refuses it
+abbrev pub ReadsThrough : Command → Option (List ℕ) → Option (List ℕ) → Status → Type 0
+ReadsThrough c old new status.Done = OnTrue (reads_input c) (HasEnded old new)
+ReadsThrough c old new status.WriteFault = OnTrue (reads_input c) (HasEnded old new)
+ReadsThrough c old new (status.Refused refusal) = OnTrue (reads_input c) (HasEnded old new)
+ReadsThrough c old new status.Memory = Unit {0}
+ReadsThrough c old new status.BadWords = Unit {0}
+ReadsThrough c old new status.ReadFault = Unit {0}
+ReadsThrough c old new status.TooLong = Unit {0}
+
+-- A front of the text was written, and all of it unless the count rose.
+pub record Reports (old new : Option (List ℕ)) (before now : ℕ) (text : List ℕ) : Type 0 where
+  pub sent : ℕ
+  pub written : Appends old new (take sent text)
+  pub cause : sent < length text → Rose before now
+
+abbrev pub IsDoneOrMemory : Status → Type 0
+IsDoneOrMemory status.Done = Unit {0}
+IsDoneOrMemory status.Memory = Unit {0}
+IsDoneOrMemory _ = ⊥
+
+-- The words give a command that has to answer this input, which passes no limit.
+pub record MustAnswer (given : Option Command) (left : Option (List ℕ)) : Type 0 where
+  pub command : Command
+  pub words : given ≡ Some command
+  pub bytes : List ℕ
+  pub input : left ≡ Some bytes
+  pub within : length bytes ≤ input_limit
+  pub answerable : Answerable command bytes
