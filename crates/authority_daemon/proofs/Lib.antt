@@ -1,5 +1,6 @@
 pub mod Fronts
 pub mod Queues
+pub mod Refusing
 pub mod Chains
 pub mod Completeness
 pub mod Computing

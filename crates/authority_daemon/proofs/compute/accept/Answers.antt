@@ -1,11 +1,22 @@
-use Rattle.std.proofs.Common.{◌≡◌, ◌<◌, ◌∙◌, List, length, get_or, ap, arith}
+use Rattle.std.proofs.Common.{◌≡◌, ◌+◌, ◌<◌, ◌∙◌, List, length, get_or, ap, sym, subst, arith}
 use Rattle.vote_terms.specs.Votes.{VoteFacts}
 use Rattle.vote_terms.specs.Held.{placed}
-use Rattle.vote_terms.specs.Acceptable.{IsAcceptable}
+use Rattle.vote_terms.specs.Acceptable.{IsAcceptable, IsFirstRefused}
 use Rattle.vote_doc.specs.Holdings.{Holding}
 use Rattle.vote_doc.proofs.Placing as placing
 use Rattle.authority_daemon.proofs.Queues.{within, first, others, one_more, one_more_held}
+use Rattle.authority_daemon.proofs.Refusing.{stops_at}
 use Rattle.authority_daemon.proofs.compute.accept.Goals as goal
+
+pub returns-in-Err : goal.returns-in-Err
+returns-in-Err c =
+    let all = c.args.votes.items in
+    let left = c.votes.votes.items in
+    let n = c.votes.before in
+    let vote = c.remove-vote.result in
+    subst (λ w. IsFirstRefused c.args.wanted.now.roster c.args.wanted.now.valid_after all (n + 1) w) (sym c.word_of-word.ensures)
+    (stops_at c.args.wanted.now.roster c.args.wanted.now.valid_after all n vote c.in-Err.refusal (within all left n c.votes.invariant.rest (omega arith))
+    (first all left n vote c.votes.invariant.rest c.remove-vote.ensures.value) c.votes.invariant.acceptable c.in-Err.ensures.refused)
 
 pub votes-preserved : goal.votes-preserved
 votes-preserved c =
