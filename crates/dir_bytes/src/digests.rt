@@ -24,21 +24,17 @@ pub fn read_hex(text: &[u8], out: &mut [u8]) -> Result<(), BadField>
 /// The bytes that the text spells in strict base64 without `=`, as many as `out` has. `BadField` where they are others;
 /// then `out` holds anything.
 pub fn read_base64(text: &[u8], out: &mut [u8]) -> Result<(), BadField>
-    requires { length out.old ≤ 64 }
     ensures ok { OnOk result (fields.base64 (length out.old) text.now ≡ Some out.new) }
     ensures err { OnErr result (fields.base64 (length out.old) text.now ≡ None) }
 {
-    if text.len() > 86 {
-        return Err(BadField);
-    }
-    let mut room = [0u8; 66];
-    match STANDARD_NO_PAD.decode_slice_unchecked(text, &mut room) {
+    let wanted = out.len();
+    match STANDARD_NO_PAD.decode_slice(text, out) {
         Ok(count) => {
-            if count != out.len() {
-                return Err(BadField);
+            if count == wanted {
+                Ok(())
+            } else {
+                Err(BadField)
             }
-            out.copy_from_slice(&room[..count]);
-            Ok(())
         }
         Err(_) => Err(BadField),
     }

@@ -136,6 +136,21 @@ fn reads_digests(rt: HostRuntime) {
 }
 
 #[test]
+fn reads_long_base64(rt: HostRuntime) {
+    let text =
+        b"AAECAwQFBgcICQoLDA0ODxAREhMUFRYXGBkaGxwdHh8gISIjJCUmJygpKissLS4vMDEyMzQ1Njc4OTo7PD0+P0BBQkNERUZHSElKS0xNTk9QUVJTVFVWV1hZWltcXV5fYGFiYw";
+    let mut out = [0; 100];
+    assert_eq!(rt; read_base64(text, &mut out), Ok(()));
+    assert_eq!(rt; out[0], 0);
+    assert_eq!(rt; out[66], 66);
+    assert_eq!(rt; out[99], 99);
+    let mut more = [0; 101];
+    assert_eq!(rt; read_base64(text, &mut more), Err(BadField));
+    let mut fewer = [0; 99];
+    assert_eq!(rt; read_base64(text, &mut fewer), Err(BadField));
+}
+
+#[test]
 fn writes_fields(rt: HostRuntime) -> Result<(), Memory> {
     let mut out = Vec::new(rt.alloc());
     push_decimal(&mut out, 120)?;

@@ -9,7 +9,8 @@ use dir_bytes::{Memory, push_base64, push_hex_upper, read_base64, read_hex};
 #[derive(Clone, Copy, Debug, PartialEq, Eq, PartialOrd, Ord)]
 pub struct Fingerprint(pub [u8; 20]);
 
-/// A SHA-1 digest. Its text is base64 without `=`, of 27 characters.
+/// A SHA-1 digest. Its text is base64 without `=`, of 27 characters; the digest of a signing key in a
+/// `directory-signature` is 40 hex digits instead.
 #[derive(Clone, Copy, Debug, PartialEq, Eq, PartialOrd, Ord)]
 pub struct Digest1(pub [u8; 20]);
 

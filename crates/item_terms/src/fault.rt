@@ -4,7 +4,8 @@
 ///
 /// Of several that apply to a line, the limits come first, each as soon as so many bytes were
 /// seen: of those that are reached at one byte, the document's, then the object's, then the
-/// line's. The others follow in the order `Unterminated`, `Nul`, and then what the line should
+/// line's. A BEGIN line alone is asked for the object's limit only when it has ended without a
+/// fault of its own. The others follow in the order `Unterminated`, `Nul`, and then what the line should
 /// have been.
 #[derive(Clone, Copy, Debug, PartialEq, Eq)]
 pub enum DocReason {
