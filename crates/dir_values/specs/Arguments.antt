@@ -1,5 +1,5 @@
 -- The arguments of a text, one after the other (dir-spec, meta-format).
-use Rattle.std.specs.Prelude.{ℕ, ◌+◌, ◌==◌, Bool, true, ◌||◌, List, [], ◌∷◌, if◌then◌else◌}
+use Rattle.std.specs.Prelude.{ℕ, ◌+◌, ◌==◌, Bool, true, ◌||◌, List, [], ◌∷◌, map, if◌then◌else◌}
 
 -- a space or a tab
 abbrev pub is_blank : ℕ → Bool
@@ -27,3 +27,7 @@ arguments_at place (byte ∷ text) =
     if is_blank byte then arguments_at (place + 1) text
     else if ends_or_blank text then record { place = place; text = byte ∷ [] } ∷ arguments_at (place + 1) text
     else onto place byte (arguments_at (place + 1) text)
+
+-- the words of a text: its arguments without their places
+abbrev pub words_in : List ℕ → List (List ℕ)
+words_in text = map (λ argument. argument.text) (arguments_at 0 text)

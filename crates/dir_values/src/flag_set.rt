@@ -1,5 +1,7 @@
 // Sets of flags.
-ghost use Rattle.std.specs.Prelude.{◌≡◌, ◌==◌, ◌+◌, ◌<◌, ◌≤◌, ◌++◌, [], Some, IsOk, OnOk, OnErr, length, slice_get, vec_len, vec_capacity, take};
+ghost use Rattle.std.specs.Prelude.{◌≡◌, ◌==◌, ◌+◌, ◌<◌, ◌≤◌, ◌^◌, ◌++◌, [], Some, IsOk, OnOk, OnErr, length, slice_get, vec_len, vec_capacity, take};
+ghost use Rattle.std.specs.List.{fold};
+ghost use Rattle.dir_values.specs.Arguments.{words_in};
 ghost use Rattle.dir_values.specs.FlagSets as flag_sets;
 ghost use Rattle.dir_values.specs.Lending as lending;
 ghost use Rattle.dir_values.specs.Refusals.{Reads};
@@ -78,6 +80,18 @@ impl FlagSet {
         }
         let text = Text::copy_of(alloc, flag)?;
         self.flags.insert(place, text)?;
+        Ok(())
+    }
+
+    /// Puts in each word of a text. Without memory some of them may have been put in.
+    pub fn insert_words(&mut self, alloc: Global, text: &[u8]) -> Result<(), Memory>
+        requires { length text.now < 2 ^ 62 }
+        ensures { OnOk result (self.new ≡ fold flag_sets.with_flag self.old (words_in text.now)) }
+    {
+        let mut arguments = Arguments::at(0, text);
+        'arguments: while let Some(argument) = arguments.next() {
+            self.insert(alloc, argument.text)?;
+        }
         Ok(())
     }
 }
