@@ -271,7 +271,7 @@ seam_one a b h = omega arith
 seam_two : (b c : ℕ) → c < 256 → b % 16 * 4 + c / 64 < 64
 seam_two b c h = omega arith
 
-encoding_is_accepted : (bytes : List ℕ) → IsBytes bytes → goes_on Start (encode_of standard bytes) ≡ true
+pub encoding_is_accepted : (bytes : List ℕ) → IsBytes bytes → goes_on Start (encode_of standard bytes) ≡ true
 encoding_is_accepted [] fit = ap (goes_on Start) (encode_of-nil standard)
 encoding_is_accepted (a ∷ []) fit =
     let v = a % 4 * 16 in

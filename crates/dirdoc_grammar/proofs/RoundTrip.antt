@@ -1,6 +1,6 @@
--- An item that was written is read again, whatever follows it that is no object.
-use Rattle.std.proofs.Common.{◌≡◌, ℕ, suc, ◌+◌, ◌-◌, ◌<◌, Bool, true, false, cond, leb, ltb, List, [], ◌∷◌, ◌++◌, length, take, drop, Option, Some, None, Result, Ok, Err, refl, sym, ap, ◌∙◌, append_assoc, arith}
-use Rattle.std.specs.Prelude.{slice_get, not, ◌==◌, ◌&&◌}
+-- A keyword line that was written is read again, and a line whose step is known is read with what follows it.
+use Rattle.std.proofs.Common.{◌≡◌, ℕ, suc, ◌+◌, ◌-◌, ◌<◌, ◌≤◌, Bool, true, false, cond, leb, ltb, List, [], ◌∷◌, ◌++◌, length, take, drop, Option, Some, None, Result, Ok, Err, refl, sym, ap, ◌∙◌, append_assoc, arith}
+use Rattle.std.specs.Prelude.{slice_get, min, not, ◌==◌, ◌&&◌}
 use Rattle.std.specs.List.{prefix_len, list_all}
 use Rattle.std.proofs.lemmas.Bool.{le-leb, lt-ltb, le-ltb, false≢true}
 use Rattle.std.proofs.lemmas.Bool.Decides.{nat_tests}
@@ -10,12 +10,30 @@ use Rattle.item_terms.specs.declared.fault.DocReason.TheVariants.{Keyword, LineT
 use Rattle.item_terms.specs.Lines.{Line, size}
 use Rattle.item_terms.specs.Words.{argument_start, is_blank, is_word_byte, is_letter_or_digit, keyword, keyword_len, after_keyword, separator, arguments, trim, trim_end, first_is, ends_or_blank, is_keyword_line, is_blank_line, nul_in, begins_dash, begin_words}
 use Rattle.item_terms.specs.Faults.{line_fault, too_long, nul_fault, or_else, at, max_line}
-use Rattle.item_terms.specs.Steps.{keyword_item, Item, Step, step, nothing, keyword_line, open_item, item_unless, open_unless, read_line, line_item, first_object_line}
+use Rattle.item_terms.specs.Steps.{keyword_item, Item, Open, Step, step, nothing, keyword_line, open_item, item_unless, open_unless, read_line, line_item, first_object_line}
 use Rattle.item_terms.specs.Items.{Contents, contents, contents_of, also, proceed}
-use Rattle.dirdoc_grammar.specs.Writing.{tail, IsKeyword, written_item, MayStand}
+use Rattle.dirdoc_grammar.specs.Writing.{tail, IsKeyword}
 use Rattle.dirdoc_grammar.specs.Reading.{first_line, first_line_len}
 use Rattle.dirdoc_grammar.proofs.FirstLine.{at_first}
 use Rattle.dirdoc_grammar.proofs.LineSteps.{first_dash}
+
+-- the item of a line that has this keyword and these arguments, without an object
+abbrev pub written_item : ℕ → List ℕ → List ℕ → Item
+written_item place word args = record {
+  keyword = word;
+  separator = slice_get (tail args) 0;
+  arguments = args;
+  start = argument_start place (word ++ tail args);
+  object = None;
+  place = place;
+  after = place + (length (word ++ tail args) + 1);
+}
+
+-- the line may stand at this place of a document: it has no NL and no NUL, and passes no limit
+pub record MayStand (limit place : ℕ) (line : List ℕ) : Type 0 where
+  pub no_nl : list_all (λ b. not (b == 10)) line ≡ true
+  pub no_nul : list_all (λ b. not (b == 0)) line ≡ true
+  pub fits : length line + 1 ≤ min (limit - place) max_line
 
 both : (a b : Bool) → a && b ≡ true → (a ≡ true) × (b ≡ true)
 both true b e = (refl, e)
@@ -103,7 +121,7 @@ item_of_line place word args h trimmed =
     ∙ ap (λ (s : Option ℕ). Ok (Some (item_with place line word s (arguments line)))) (ap (λ (r : List ℕ). slice_get r 0) (rest_again word args h))
     ∙ ap (λ (a : List ℕ). Ok (Some (item_with place line word (slice_get (tail args) 0) a))) args_is
 
-sound_line : (limit place : ℕ) (line : List ℕ) → MayStand limit place line → line_fault limit place (record { text = line; ended = true }) ≡ None
+pub sound_line : (limit place : ℕ) (line : List ℕ) → MayStand limit place line → line_fault limit place (record { text = line; ended = true }) ≡ None
 sound_line limit place line h =
     let short : too_long limit place (length line + 1) ≡ None = ap (λ (b : Bool). cond b None (Some (cond (leb (limit - place) max_line) (at limit DocumentTooLong) (at (place + max_line) LineTooLong)))) (le-leb _ _ h.fits) in
     let n : prefix_len (λ b. not (b == 0)) line ≡ length line = prefix_whole (λ b. not (b == 0)) line h.no_nul in
@@ -111,7 +129,7 @@ sound_line limit place line h =
     ap (λ (f : Option DocFault). or_else f (or_else None (nul_fault place (nul_in line)))) short ∙ ap (λ (o : Option ℕ). nul_fault place o) none
 
 -- where no object follows, the item of a keyword line is whole
-whole_item : (limit place : ℕ) (item : Item) (rest : List ℕ) → begins_dash rest ≡ false → contents limit place (keyword_line item) rest ≡ also (Some item) (contents limit place nothing rest)
+pub whole_item : (limit place : ℕ) (item : Item) (rest : List ℕ) → begins_dash rest ≡ false → contents limit place (keyword_line item) rest ≡ also (Some item) (contents limit place nothing rest)
 unfolding contents_of
 whole_item limit place item [] dash = refl
 whole_item limit place item (b ∷ bytes) dash =
@@ -122,22 +140,26 @@ whole_item limit place item (b ∷ bytes) dash =
     ∙ ap (λ (s : Step). also s.whole (proceed s.next (λ next. contents limit (place + size line) next (drop (size line) rest)))) (ap (λ (t : Bool). cond t (record { whole = None; next = open_unless (line_fault limit place line) (first_object_line place item line (begin_words line.text)) }) made) (sym (first_dash rest) ∙ dash))
     ∙ ap (λ (c : Contents). also (Some item) c) (sym (at_first limit place nothing rest (omega arith)))
 
--- An item that was written is the first that is read, and what follows is read as it would be alone.
-pub item_again : (limit place : ℕ) (word args rest : List ℕ) → IsKeyword word → trim args ≡ args → MayStand limit place (word ++ tail args) → begins_dash rest ≡ false
-    → contents limit place nothing ((word ++ tail args) ++ 10 ∷ rest) ≡ also (Some (written_item place word args)) (contents limit (place + (length (word ++ tail args) + 1)) nothing rest)
-item_again limit place word args rest h trimmed stands dash =
-    let line = word ++ tail args in
+-- a line with its NL whose step is known, and what follows it
+pub read_over : (limit place : ℕ) (so_far : Open) (line rest : List ℕ) (whole : Option Item) (next : Open) → list_all (λ b. not (b == 10)) line ≡ true
+    → step limit place so_far (record { text = line; ended = true }) ≡ record { whole = whole; next = Ok next }
+    → contents limit place so_far (line ++ 10 ∷ rest) ≡ also whole (contents limit (place + (length line + 1)) next rest)
+read_over limit place so_far line rest whole next no_nl made =
     let bytes = line ++ 10 ∷ rest in
     let l : Line = record { text = line; ended = true } in
-    let first : first_line bytes ≡ l = first_line_again line rest stands.no_nl in
-    let item = written_item place word args in
-    let made : step limit place nothing l ≡ record { whole = None; next = Ok (keyword_line item) } =
-    ap (λ (f : Option DocFault). record { whole = None; next = open_item (item_unless f (line_item place l)) }) (sound_line limit place line stands)
-    ∙ ap (λ (r : Result (Option Item) DocFault). record { whole = None; next = open_item r }) (item_of_line place word args h trimmed) in
     let long : 0 < length bytes = omega (arith, length-append line (10 ∷ rest)) in
     let left : drop (length line + 1) bytes ≡ rest = ap (λ (b : List ℕ). drop (length line + 1) b) (sym (append_assoc line (10 ∷ []) rest)) ∙ drop_at (line ++ 10 ∷ []) rest (length line + 1) (length-append line (10 ∷ [])) in
-    at_first limit place nothing bytes long
-    ∙ ap (λ (k : Line). also (step limit place nothing k).whole (proceed (step limit place nothing k).next (λ next. contents limit (place + size k) next (drop (size k) bytes)))) first
-    ∙ ap (λ (s : Step). also s.whole (proceed s.next (λ next. contents limit (place + (length line + 1)) next (drop (length line + 1) bytes)))) made
-    ∙ ap (λ (r : List ℕ). contents limit (place + (length line + 1)) (keyword_line item) r) left
-    ∙ whole_item limit (place + (length line + 1)) item rest dash
+    at_first limit place so_far bytes long
+    ∙ ap (λ (k : Line). also (step limit place so_far k).whole (proceed (step limit place so_far k).next (λ open_. contents limit (place + size k) open_ (drop (size k) bytes)))) (first_line_again line rest no_nl)
+    ∙ ap (λ (s : Step). also s.whole (proceed s.next (λ open_. contents limit (place + (length line + 1)) open_ (drop (length line + 1) bytes)))) made
+    ∙ ap (λ (r : List ℕ). also whole (contents limit (place + (length line + 1)) next r)) left
+
+-- a keyword line that was written opens its item
+pub line_again : (limit place : ℕ) (word args rest : List ℕ) → IsKeyword word → trim args ≡ args → MayStand limit place (word ++ tail args)
+    → contents limit place nothing ((word ++ tail args) ++ 10 ∷ rest) ≡ contents limit (place + (length (word ++ tail args) + 1)) (keyword_line (written_item place word args)) rest
+line_again limit place word args rest h trimmed stands =
+    let line = word ++ tail args in
+    let l : Line = record { text = line; ended = true } in
+    read_over limit place nothing line rest None (keyword_line (written_item place word args)) stands.no_nl
+    (ap (λ (f : Option DocFault). record { whole = None; next = open_item (item_unless f (line_item place l)) }) (sound_line limit place line stands)
+    ∙ ap (λ (r : Result (Option Item) DocFault). record { whole = None; next = open_item r }) (item_of_line place word args h trimmed))

@@ -1,5 +1,9 @@
 pub mod Seen
 pub mod Reading
 pub mod Groups
+pub mod Bodies
 pub mod Writing
+pub mod Writers
 pub mod InPlace
+pub mod Blocks
+pub mod BlockFaults

@@ -1,10 +1,11 @@
 // An item of a document and its object, borrowed from the document's bytes.
 
-ghost use Rattle.std.specs.Prelude.{◌≡◌, IfOk, Ok, option_map, true};
+ghost use Rattle.std.specs.Prelude.{◌≡◌, IfOk, Ok, Some, option_map, true};
 ghost use Rattle.item_terms.specs.Base64Text.{is_base64, is_body, joined};
 ghost use Rattle.item_terms.specs.Words as line_words;
 ghost use Rattle.base64.specs.Engines.{standard};
 ghost use Rattle.base64.specs.GeneralPurpose.{decode_of};
+ghost use Rattle.dirdoc_grammar.specs.Bodies.{decoded};
 
 use crate::bytes::first_word;
 use base64::DecodeAllocError;
@@ -25,8 +26,9 @@ pub struct ObjectText<'a> {
 
 impl ObjectText<'_> {
     /// The bytes that the lines spell. Fails only for want of memory.
+    #[tactic(auto, unfolding(crate::specs::Bodies::decoded))]
     pub fn decode(&self, alloc: Global) -> Result<Vec<u8>, AllocError>
-        ensures { IfOk result (λ bytes. decode_of standard (joined self.now.lines.now) ≡ Ok bytes.items) }
+        ensures { IfOk result (λ bytes. decoded self.now.lines.now ≡ Some bytes.items) }
     {
         let text = joined_lines(alloc, self.lines)?;
         decode_strict(alloc, &text)
@@ -47,6 +49,20 @@ fn decode_strict(alloc: Global, text: &[u8]) -> Result<Vec<u8>, AllocError>
         Ok(bytes) => Ok(bytes),
         Err(DecodeAllocError::OutOfMemory) => Err(AllocError),
         Err(DecodeAllocError::DecodeError(_)) => unreachable!(),
+    }
+}
+
+/// The bytes that the lines of an object spell, or nothing where they are no strict base64. Fails
+/// only for want of memory.
+#[tactic(auto, unfolding(crate::specs::Bodies::decoded))]
+pub fn decode_lines(alloc: Global, lines: &[u8]) -> Result<Option<Vec<u8>>, AllocError>
+    ensures { IfOk result (λ found. option_map (λ bytes. bytes.items) found ≡ decoded lines.now) }
+{
+    let text = joined_lines(alloc, lines)?;
+    match STANDARD.decode(alloc, &text) {
+        Ok(bytes) => Ok(Some(bytes)),
+        Err(DecodeAllocError::OutOfMemory) => Err(AllocError),
+        Err(DecodeAllocError::DecodeError(_)) => Ok(None),
     }
 }
 

@@ -3,8 +3,6 @@
 ghost use Rattle.std.specs.Prelude.{◌≤◌, ◌<◌, ◌≡◌, ◌^◌, drop, length, IfOk, IfSome};
 ghost use Rattle.item_terms.specs.Items.{contents, items_of, items_from, nothing, Contents};
 ghost use Rattle.dirdoc_grammar.specs.Seen.{seen, Gives, LiesInOrder};
-ghost use Rattle.dirdoc_grammar.specs.Writing.{ReadsAgain};
-ghost use Rattle.dirdoc_grammar.specs.InPlace.{StandInPlace};
 
 use crate::item::Item;
 use crate::line::line_at;
@@ -77,15 +75,3 @@ impl<'a> Items<'a> {
         Ok(None)
     }
 }
-
-/// A law: a keyword line that was written is read again, whatever follows it that begins with no
-/// `-`, and what follows is read as it would be alone.
-pub fn reads_again()
-    ensures { ReadsAgain }
-{}
-
-/// A law: the keyword, the arguments and the object of each item stand in the input where the item
-/// says, in order, and the item ends within the input.
-pub fn stand_in_place()
-    ensures { StandInPlace }
-{}

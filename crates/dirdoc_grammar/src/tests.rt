@@ -3,6 +3,7 @@
 ghost use Rattle.std.specs.Prelude.{◌<◌, ◌^◌, length};
 
 use super::*;
+use std::alloc::{AllocError, Global};
 use std::test::Fail;
 
 fn first_fault(bytes: &[u8], limit: u64) -> Option<DocFault>
@@ -64,5 +65,60 @@ fn reads(rt: HostRuntime) -> Result<(), Fail> {
         reason: DocReason::DocumentTooLong,
     };
     assert_eq!(rt; items.next().err(), Some(long));
+    Ok(())
+}
+
+/// The document of one item that has an object of these bytes.
+fn written(alloc: Global, bytes: &[u8]) -> Result<Vec<u8>, AllocError> {
+    let mut writer = Writer::new(Vec::new(alloc));
+    writer.begin(b"key")?;
+    writer.argument(b"x")?;
+    writer.rest(b"y  z")?;
+    writer.end()?;
+    writer.object(b"TEST KEY", bytes)?;
+    Ok(writer.finish())
+}
+
+/// Whether the item that is written with these bytes is read again.
+fn is_read_again(alloc: Global, bytes: &[u8]) -> Result<bool, AllocError> {
+    let text = written(alloc, bytes)?;
+    if text.len() > 4000 {
+        return Ok(false);
+    }
+    let mut items = Items::new(&text, 4000);
+    let Ok(Some(item)) = items.next() else {
+        return Ok(false);
+    };
+    let Some(object) = item.object else {
+        return Ok(false);
+    };
+    let back = object.decode(alloc)?;
+    let same_line = item.keyword == b"key".as_slice() && item.arguments == b"x y  z".as_slice();
+    Ok(same_line && object.words == b"TEST KEY".as_slice() && back.as_slice() == bytes)
+}
+
+#[test]
+fn read_again(rt: HostRuntime) -> Result<(), Fail> {
+    let alloc = rt.alloc();
+    let bytes = [201u8; 100];
+    assert!(rt; is_read_again(alloc, &bytes[..0])?);
+    assert!(rt; is_read_again(alloc, &bytes[..48])?);
+    assert!(rt; is_read_again(alloc, &bytes[..49])?);
+    assert!(rt; is_read_again(alloc, &bytes[..96])?);
+    assert!(rt; is_read_again(alloc, &bytes)?);
+    Ok(())
+}
+
+// The values are those of RFC 4648, section 10, and by its table 48 bytes of zero are 64 letters A.
+#[test]
+fn writes(rt: HostRuntime) -> Result<(), Fail> {
+    let alloc = rt.alloc();
+    let foobar = b"key x y  z\n-----BEGIN TEST KEY-----\nZm9vYmFy\n-----END TEST KEY-----\n";
+    assert_eq!(rt; written(alloc, b"foobar")?.as_slice(), foobar.as_slice());
+    let empty = b"key x y  z\n-----BEGIN TEST KEY-----\n-----END TEST KEY-----\n";
+    assert_eq!(rt; written(alloc, b"")?.as_slice(), empty.as_slice());
+    let zeros =
+        b"key x y  z\n-----BEGIN TEST KEY-----\nAAAAAAAAAAAAAAAAAAAAAAAAAAAAAAAAAAAAAAAAAAAAAAAAAAAAAAAAAAAAAAAA\nAA==\n-----END TEST KEY-----\n";
+    assert_eq!(rt; written(alloc, &[0; 49])?.as_slice(), zeros.as_slice());
     Ok(())
 }
