@@ -7,8 +7,8 @@ use Rattle.dir_bytes.specs.Fields.{number, hex}
 use Rattle.dir_values.specs.declared.digest.Fingerprint.{Fingerprint}
 use Rattle.dir_values.specs.declared.digest.Digest1.{Digest1}
 use Rattle.frame_terms.specs.declared.value.Span.{Span}
-use Rattle.frame_terms.specs.declared.value.Algorithm.{Algorithm}
-use Rattle.frame_terms.specs.declared.value.Algorithm.TheVariants.{Sha1, Sha256}
+use Rattle.dir_values.specs.declared.algorithm.Algorithm.{Algorithm}
+use Rattle.dir_values.specs.declared.algorithm.Algorithm.TheVariants.{Sha1, Sha256}
 use Rattle.frame_terms.specs.Arguments.{Argument}
 use Rattle.frame_terms.specs.Rows.{is_text}
 

@@ -4,7 +4,7 @@ use Rattle.item_terms.specs.Items.{Item, Object}
 use Rattle.frame_terms.specs.declared.row.ObjectWords.{ObjectWords}
 use Rattle.frame_terms.specs.declared.row.ObjectWords.TheVariants.{Signature}
 use Rattle.frame_terms.specs.declared.value.Span.{Span}
-use Rattle.frame_terms.specs.declared.value.Algorithm.{Algorithm}
+use Rattle.dir_values.specs.declared.algorithm.Algorithm.{Algorithm}
 use Rattle.frame_terms.specs.declared.value.Value.{Value}
 use Rattle.frame_terms.specs.declared.value.Value.TheVariants as value
 use Rattle.frame_terms.specs.Arguments.{Argument, arguments_of, front, others, field, next}

@@ -32,6 +32,10 @@ pub enum FrameReason {
     /// byte, and the item's where the argument is missing, or the object, or has other words. After
     /// `directory-signature` stands no space: the place is that of the byte that stands there.
     Value,
+    /// An entry does not come after the one before it, by their identities. The place is the item's first byte.
+    Unsorted,
+    /// An Ed25519 key stands in an earlier entry too. The place is the item's first byte.
+    DuplicateEd,
 }
 
 /// What is wrong with a document, and where.

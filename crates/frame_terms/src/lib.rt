@@ -11,10 +11,11 @@ mod tables;
 mod value;
 mod vocabulary;
 
+pub use dir_values::Algorithm;
 pub use document::{Group, Made, Open};
 pub use fault::{FrameFault, FrameReason, ReadRefusal};
 pub use keyword::Keyword;
 pub use row::{Count, Kind, Limit, Literal, ObjectWords, Row};
 pub use section::{DocKind, SectionName};
-pub use value::{Algorithm, DirSource, Span, Taken, Value, VoteSignature};
+pub use value::{DirSource, Span, Taken, Value, VoteSignature};
 pub use vocabulary::keyword_of;

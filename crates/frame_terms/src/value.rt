@@ -1,6 +1,6 @@
 // What items say: numbers, and the places of their texts in the document.
 use crate::keyword::Keyword;
-use dir_values::{Digest1, Fingerprint};
+use dir_values::{Algorithm, Digest1, Fingerprint};
 
 /// Where a text stands: the places of its first byte and of the byte after its last, counted from
 /// the input's first byte.
@@ -27,15 +27,6 @@ pub struct DirSource {
     pub dir_port: u16,
     /// Its onion routing port.
     pub or_port: u16,
-}
-
-/// The digest that a signature is over.
-#[derive(Clone, Copy, Debug, PartialEq, Eq)]
-pub enum Algorithm {
-    /// `sha1`
-    Sha1,
-    /// `sha256`
-    Sha256,
 }
 
 /// What a `directory-signature` item says.
