@@ -2,10 +2,11 @@
 use Rattle.std.proofs.Common.{◌≡◌, ℕ, Bool, true, false, cond, ◌&&◌, ◌||◌, List, [], ◌∷◌, ◌++◌, refl, sym, ap, ◌∙◌}
 use Rattle.std.specs.Prelude.{codes}
 use Rattle.std.specs.Str.{bytes_eq}
+use Rattle.dir_values.specs.Arguments.{words_in}
 use Rattle.dir_values.specs.FlagSets.{has_flag}
 use Rattle.dir_values.proofs.Flags as flag_sets
-use Rattle.vote_terms.specs.Votes.{VoteFacts}
-use Rattle.vote_terms.specs.Flags.{flags_in, listed_flags, with_own_flags, is_listed, KnowsFlags}
+use Rattle.vote_terms.specs.Votes.{ReadVote}
+use Rattle.vote_terms.specs.Flags.{listed_flags, with_own_flags, is_listed, KnowsFlags}
 
 or_assoc : (a b c : Bool) → ((a || b) || c) ≡ (a || (b || c))
 or_assoc true b c = refl
@@ -21,10 +22,10 @@ has_either [] ys flag = refl
 has_either (x ∷ xs) ys flag = ap (λ (b : Bool). bytes_eq x flag || b) (has_either xs ys flag) ∙ sym (or_assoc (bytes_eq x flag) (has_flag xs flag) (has_flag ys flag))
 
 -- a flag that some vote lists is among those that votes list
-has_listed : (votes : List VoteFacts) (flag : List ℕ) → has_flag (listed_flags votes) flag ≡ is_listed votes flag
+has_listed : (votes : List ReadVote) (flag : List ℕ) → has_flag (listed_flags votes) flag ≡ is_listed votes flag
 has_listed [] flag = refl
 has_listed (vote ∷ votes) flag =
-    has_either (flags_in vote.known_flags) (listed_flags votes) flag ∙ ap (λ (b : Bool). has_flag (flags_in vote.known_flags) flag || b) (has_listed votes flag)
+    has_either (words_in vote.known_flags) (listed_flags votes) flag ∙ ap (λ (b : Bool). has_flag (words_in vote.known_flags) flag || b) (has_listed votes flag)
 
 own_by : (middle_only : Bool) (flag : List ℕ) → has_flag (codes "NoEdConsensus" ∷ cond middle_only (codes "BadExit" ∷ []) []) flag
     ≡ (bytes_eq (codes "NoEdConsensus") flag || (bytes_eq (codes "BadExit") flag && middle_only))

@@ -5,46 +5,46 @@ use Rattle.std.specs.List.{fold}
 use Rattle.std.proofs.lemmas.Bool.{false≢true}
 use Rattle.dir_values.specs.Digests.{identity_below}
 use Rattle.dir_values.specs.declared.digest.Fingerprint.{Fingerprint}
-use Rattle.vote_terms.specs.Votes.{VoteFacts, rank_of}
+use Rattle.vote_terms.specs.Votes.{ReadVote, rank_of}
 use Rattle.vote_terms.specs.Held.{outranks, same_authority, placed, held, IsHeld, SameMembers, RanksApart, HeldAgree, RanksAgree}
 use Rattle.vote_terms.proofs.Orders.{Below, below_trans, not_itself, not_both, other_way, same_one, above_trans, above_itself, above_other}
 
 -- what putting a vote among others comes to at the first of them
-data Step (w : VoteFacts) (ws : List VoteFacts) (v : VoteFacts) : Type 0 where
+data Step (w : ReadVote) (ws : List ReadVote) (v : ReadVote) : Type 0 where
   goes_on : Below w.identity v.identity → placed (w ∷ ws) v ≡ w ∷ placed ws v → Step w ws v
   replaces : w.identity ≡ v.identity → outranks v w ≡ true → placed (w ∷ ws) v ≡ v ∷ ws → Step w ws v
   stays : w.identity ≡ v.identity → outranks v w ≡ false → placed (w ∷ ws) v ≡ w ∷ ws → Step w ws v
   stands_before : Below v.identity w.identity → placed (w ∷ ws) v ≡ v ∷ w ∷ ws → Step w ws v
 
-step_by : (a b c : Bool) (w : VoteFacts) (ws : List VoteFacts) (v : VoteFacts) → identity_below w.identity v.identity ≡ a → same_authority w v ≡ b → outranks v w ≡ c → Step w ws v
+step_by : (a b c : Bool) (w : ReadVote) (ws : List ReadVote) (v : ReadVote) → identity_below w.identity v.identity ≡ a → same_authority w v ≡ b → outranks v w ≡ c → Step w ws v
 step_by true b c w ws v e f o = goes_on e (rw e refl)
 step_by false true true w ws v e f o = replaces (same_one w.identity v.identity f) o (rw (e, f, o) refl)
 step_by false true false w ws v e f o = stays (same_one w.identity v.identity f) o (rw (e, f, o) refl)
 step_by false false c w ws v e f o = stands_before (other_way w.identity v.identity e f) (rw (e, f) refl)
 
-step : (w : VoteFacts) (ws : List VoteFacts) (v : VoteFacts) → Step w ws v
+step : (w : ReadVote) (ws : List ReadVote) (v : ReadVote) → Step w ws v
 step w ws v = step_by _ _ _ w ws v refl refl refl
 
 -- x is one of the votes
-abbrev pub In : VoteFacts → List VoteFacts → Type 0
+abbrev pub In : ReadVote → List ReadVote → Type 0
 In x [] = ⊥
 In x (y ∷ ys) = (x ≡ y) ⊎ In x ys
 
-at_index : (xs : List VoteFacts) (k : ℕ) (d x : VoteFacts) → k < length xs → get_or xs k d ≡ x → In x xs
+at_index : (xs : List ReadVote) (k : ℕ) (d x : ReadVote) → k < length xs → get_or xs k d ≡ x → In x xs
 at_index [] k d x lt e = absurd (omega (arith, lt))
 at_index (y ∷ ys) zero d x lt e = inl (sym e)
 at_index (y ∷ ys) (suc k) d x lt e = inr (at_index ys k d x (omega (arith, lt)) e)
 
-pub in_from : (xs : List VoteFacts) (x : VoteFacts) → Contains xs x → In x xs
+pub in_from : (xs : List ReadVote) (x : ReadVote) → Contains xs x → In x xs
 in_from xs x h = at_index xs h.0 x x h.1 h.2
 
-pub in_to : (xs : List VoteFacts) (x : VoteFacts) → In x xs → Contains xs x
+pub in_to : (xs : List ReadVote) (x : ReadVote) → In x xs → Contains xs x
 in_to [] x h = absurd h
 in_to (y ∷ ys) x h = ⊎_elim (λ (e : x ≡ y). (0, omega arith, sym e)) (λ t. let r = in_to ys x t in (suc r.0, omega (arith, r.1), r.2)) h
 
-abbrev pub Ascends : List VoteFacts → Type 0
+abbrev pub Ascends : List ReadVote → Type 0
 Ascends [] = Unit {0}
-Ascends (w ∷ ws) = ((x : VoteFacts) → In x ws → Below w.identity x.identity) × Ascends ws
+Ascends (w ∷ ws) = ((x : ReadVote) → In x ws → Below w.identity x.identity) × Ascends ws
 
 -- a fact of one identity is one of another that is the same
 along : (a b c : Fingerprint) → b ≡ c → Below a b → Below a c
@@ -54,7 +54,7 @@ before : (a b c : Fingerprint) → a ≡ b → Below a c → Below b c
 before a b c e h = let P : Fingerprint → Type 0 = λ x. Below x c in subst P e h
 
 -- only the vote that was put is new
-pub only : (ws : List VoteFacts) (v x : VoteFacts) → In x (placed ws v) → In x ws ⊎ (x ≡ v)
+pub only : (ws : List ReadVote) (v x : ReadVote) → In x (placed ws v) → In x ws ⊎ (x ≡ v)
 only [] v x h = ⊎_elim (λ (e : x ≡ v). inr e) (λ t. absurd t) h
 only (w ∷ ws) v x h = elim (step w ws v) [
   | goes_on lt e ↦ ⊎_elim (λ (i : x ≡ w). inl (inl i)) (λ t. ⊎_elim (λ (i : In x ws). inl (inr i)) (λ i. inr i) (only ws v x t)) (subst (λ l. In x l) e h)
@@ -64,7 +64,7 @@ only (w ∷ ws) v x h = elim (step w ws v) [
 ]
 
 -- a vote that was there is there still, or the new one outranks it
-pub kept : (ws : List VoteFacts) (v x : VoteFacts) → In x ws → In x (placed ws v) ⊎ ((x.identity ≡ v.identity) × (outranks v x ≡ true) × In v (placed ws v))
+pub kept : (ws : List ReadVote) (v x : ReadVote) → In x ws → In x (placed ws v) ⊎ ((x.identity ≡ v.identity) × (outranks v x ≡ true) × In v (placed ws v))
 kept [] v x h = absurd h
 kept (w ∷ ws) v x h = elim (step w ws v) [
   | goes_on lt e ↦ rw e (⊎_elim (λ (i : x ≡ w). inl (inl i)) (λ t. ⊎_elim (λ (i : In x (placed ws v)). inl (inr i)) (λ i. inr (i.0, i.1, inr i.2)) (kept ws v x t)) h)
@@ -74,10 +74,10 @@ kept (w ∷ ws) v x h = elim (step w ws v) [
 ]
 
 -- after the put there is a vote of the same authority that the new one does not outrank
-lost_to_itself : (v : VoteFacts) → outranks v v ≡ false
+lost_to_itself : (v : ReadVote) → outranks v v ≡ false
 lost_to_itself v = above_itself (rank_of v)
 
-there : (ws : List VoteFacts) (v : VoteFacts) → (h : VoteFacts) × In h (placed ws v) × (h.identity ≡ v.identity) × (outranks v h ≡ false)
+there : (ws : List ReadVote) (v : ReadVote) → (h : ReadVote) × In h (placed ws v) × (h.identity ≡ v.identity) × (outranks v h ≡ false)
 there [] v = (v, inl refl, refl, lost_to_itself v)
 there (w ∷ ws) v = elim (step w ws v) [
   | goes_on lt e ↦ let r = there ws v in (r.0, rw e (inr r.1), r.2, r.3)
@@ -86,7 +86,7 @@ there (w ∷ ws) v = elim (step w ws v) [
   | stands_before lt e ↦ (v, rw e (inl refl), refl, lost_to_itself v)
 ]
 
-ascends : (ws : List VoteFacts) (v : VoteFacts) → Ascends ws → Ascends (placed ws v)
+ascends : (ws : List ReadVote) (v : ReadVote) → Ascends ws → Ascends (placed ws v)
 ascends [] v a = (λ x t. absurd t, tt)
 ascends (w ∷ ws) v a = elim (step w ws v) [
   | goes_on lt e ↦ rw e (λ x t. ⊎_elim (λ (i : In x ws). a.0 x i) (λ (i : x ≡ v). rw i lt) (only ws v x t), ascends ws v a.1)
@@ -96,31 +96,31 @@ ascends (w ∷ ws) v a = elim (step w ws v) [
 ]
 
 -- a vote that outranks one that outranks a third outranks the third
-ranks : (a b c : VoteFacts) → outranks a b ≡ true → outranks b c ≡ true → outranks a c ≡ true
+ranks : (a b c : ReadVote) → outranks a b ≡ true → outranks b c ≡ true → outranks a c ≡ true
 ranks a b c h k = above_trans (rank_of a) (rank_of b) (rank_of c) h k
 
 -- the votes stand for those that were seen
-pub record Stands (seen : VoteFacts → Type 0) (votes : List VoteFacts) : Type 0 where
-  pub each : (x : VoteFacts) → seen x → (h : VoteFacts) × In h votes × (h.identity ≡ x.identity) × (outranks x h ≡ false)
-  pub from : (h : VoteFacts) → In h votes → seen h
+pub record Stands (seen : ReadVote → Type 0) (votes : List ReadVote) : Type 0 where
+  pub each : (x : ReadVote) → seen x → (h : ReadVote) × In h votes × (h.identity ≡ x.identity) × (outranks x h ≡ false)
+  pub from : (h : ReadVote) → In h votes → seen h
   pub apart : Ascends votes
 
-one_of : (b : Bool) (seen : VoteFacts → Type 0) (votes : List VoteFacts) (v x h : VoteFacts) → outranks x v ≡ b → In h votes → h.identity ≡ x.identity → outranks x h ≡ false
-    → (g : VoteFacts) × In g (placed votes v) × (g.identity ≡ x.identity) × (outranks x g ≡ false)
+one_of : (b : Bool) (seen : ReadVote → Type 0) (votes : List ReadVote) (v x h : ReadVote) → outranks x v ≡ b → In h votes → h.identity ≡ x.identity → outranks x h ≡ false
+    → (g : ReadVote) × In g (placed votes v) × (g.identity ≡ x.identity) × (outranks x g ≡ false)
 one_of true seen votes v x h o i q r = ⊎_elim (λ (k : In h (placed votes v)). (h, k, q, r)) (λ k. absurd (false≢true (sym r ∙ ranks x v h o k.1))) (kept votes v h i)
 one_of false seen votes v x h o i q r = ⊎_elim (λ (k : In h (placed votes v)). (h, k, q, r)) (λ k. (v, k.2, sym k.0 ∙ q, o)) (kept votes v h i)
 
-one_more : (seen : VoteFacts → Type 0) (votes : List VoteFacts) (v : VoteFacts) → Stands seen votes → Stands (λ x. seen x ⊎ (x ≡ v)) (placed votes v)
+one_more : (seen : ReadVote → Type 0) (votes : List ReadVote) (v : ReadVote) → Stands seen votes → Stands (λ x. seen x ⊎ (x ≡ v)) (placed votes v)
 one_more seen votes v s = record {
   each = λ x t. ⊎_elim (λ (i : seen x). let r = s.each x i in one_of _ seen votes v x r.0 refl r.1 r.2 r.3) (λ (i : x ≡ v). rw i (there votes v)) t;
   from = λ h t. ⊎_elim (λ (i : In h votes). inl (s.from h i)) (λ (i : h ≡ v). inr i) (only votes v h t);
   apart = ascends votes v s.apart;
 }
 
-alike : (seen other : VoteFacts → Type 0) (votes : List VoteFacts) → ((x : VoteFacts) → seen x → other x) → ((x : VoteFacts) → other x → seen x) → Stands seen votes → Stands other votes
+alike : (seen other : ReadVote → Type 0) (votes : List ReadVote) → ((x : ReadVote) → seen x → other x) → ((x : ReadVote) → other x → seen x) → Stands seen votes → Stands other votes
 alike seen other votes to back s = record { each = λ x i. s.each x (back x i); from = λ h i. to h (s.from h i); apart = s.apart }
 
-all : (list : List VoteFacts) (seen : VoteFacts → Type 0) (votes : List VoteFacts) → Stands seen votes → Stands (λ x. seen x ⊎ In x list) (fold placed votes list)
+all : (list : List ReadVote) (seen : ReadVote → Type 0) (votes : List ReadVote) → Stands seen votes → Stands (λ x. seen x ⊎ In x list) (fold placed votes list)
 all [] seen votes s = alike seen (λ x. seen x ⊎ ⊥) votes (λ x i. inl i) (λ x i. ⊎_elim (λ (k : seen x). k) (λ k. absurd k) i) s
 all (v ∷ list) seen votes s =
     alike (λ x. (seen x ⊎ (x ≡ v)) ⊎ In x list) (λ x. seen x ⊎ ((x ≡ v) ⊎ In x list)) (fold placed (placed votes v) list)
@@ -128,24 +128,24 @@ all (v ∷ list) seen votes s =
     (λ x i. ⊎_elim (λ (j : seen x). inl (inl j)) (λ j. ⊎_elim (λ (k : x ≡ v). inl (inr k)) (λ k. inr k) j) i)
     (all list (λ x. seen x ⊎ (x ≡ v)) (placed votes v) (one_more seen votes v s))
 
-single : (votes : List VoteFacts) (g h : VoteFacts) → Ascends votes → In g votes → In h votes → g.identity ≡ h.identity → g ≡ h
+single : (votes : List ReadVote) (g h : ReadVote) → Ascends votes → In g votes → In h votes → g.identity ≡ h.identity → g ≡ h
 single [] g h a i j q = absurd i
 single (w ∷ ws) g h a i j q =
-    ⊎_elim (λ (k : g ≡ w). ⊎_elim (λ (l : h ≡ w). k ∙ sym l) (λ l. absurd (not_itself w.identity (along w.identity h.identity w.identity (sym q ∙ ap (λ (x : VoteFacts). x.identity) k) (a.0 h l)))) j)
-    (λ k. ⊎_elim (λ (l : h ≡ w). absurd (not_itself w.identity (along w.identity g.identity w.identity (q ∙ ap (λ (x : VoteFacts). x.identity) l) (a.0 g k)))) (λ l. single ws g h a.1 k l q) j) i
+    ⊎_elim (λ (k : g ≡ w). ⊎_elim (λ (l : h ≡ w). k ∙ sym l) (λ l. absurd (not_itself w.identity (along w.identity h.identity w.identity (sym q ∙ ap (λ (x : ReadVote). x.identity) k) (a.0 h l)))) j)
+    (λ k. ⊎_elim (λ (l : h ≡ w). absurd (not_itself w.identity (along w.identity g.identity w.identity (q ∙ ap (λ (x : ReadVote). x.identity) l) (a.0 g k)))) (λ l. single ws g h a.1 k l q) j) i
 
-stands : (list : List VoteFacts) → Stands (λ x. ⊥ ⊎ In x list) (held list)
+stands : (list : List ReadVote) → Stands (λ x. ⊥ ⊎ In x list) (held list)
 stands list = all list (λ _. ⊥) [] (record { each = λ x i. absurd i; from = λ h i. absurd i; apart = tt })
 
 -- what is new after a put outranks each vote of its authority that was there
-pub newer : (ws : List VoteFacts) (v x : VoteFacts) → Ascends ws → In x (placed ws v)
-    → In x ws ⊎ ((x ≡ v) × ((h : VoteFacts) → In h ws → h.identity ≡ v.identity → outranks v h ≡ true))
+pub newer : (ws : List ReadVote) (v x : ReadVote) → Ascends ws → In x (placed ws v)
+    → In x ws ⊎ ((x ≡ v) × ((h : ReadVote) → In h ws → h.identity ≡ v.identity → outranks v h ≡ true))
 newer [] v x a i = ⊎_elim (λ (e : x ≡ v). inr (e, λ h j q. absurd j)) (λ j. absurd j) i
 newer (w ∷ ws) v x a i = elim (step w ws v) [
   | goes_on lt e ↦
       ⊎_elim (λ (j : x ≡ w). inl (inl j))
       (λ j. ⊎_elim (λ (k : In x ws). inl (inr k))
-      (λ k. inr (k.0, λ h m q. ⊎_elim (λ (n : h ≡ w). absurd (not_itself v.identity (before w.identity v.identity v.identity (sym (ap (λ (y : VoteFacts). y.identity) n) ∙ q) lt))) (λ n. k.1 h n q) m))
+      (λ k. inr (k.0, λ h m q. ⊎_elim (λ (n : h ≡ w). absurd (not_itself v.identity (before w.identity v.identity v.identity (sym (ap (λ (y : ReadVote). y.identity) n) ∙ q) lt))) (λ n. k.1 h n q) m))
       (newer ws v x a.1 j))
       (subst (λ l. In x l) e i)
   | replaces p o e ↦
@@ -156,59 +156,59 @@ newer (w ∷ ws) v x a i = elim (step w ws v) [
       ⊎_elim (λ (j : x ≡ v). inr (
         j,
         λ h m q. ⊎_elim
-            (λ (n : h ≡ w). absurd (not_itself v.identity (along v.identity w.identity v.identity (sym (ap (λ (y : VoteFacts). y.identity) n) ∙ q) lt)))
+            (λ (n : h ≡ w). absurd (not_itself v.identity (along v.identity w.identity v.identity (sym (ap (λ (y : ReadVote). y.identity) n) ∙ q) lt)))
             (λ n. absurd (not_itself v.identity (along v.identity h.identity v.identity q (below_trans v.identity w.identity h.identity lt (a.0 h n))))) m,
       ))
       (λ j. inl j) (subst (λ l. In x l) e i)
 ]
 
 -- each held vote of an authority was among the first ones, or it outranks one of that authority
-abbrev Early : (VoteFacts → Type 0) → VoteFacts → List VoteFacts → Type 0
-Early seen v votes = (g : VoteFacts) → In g votes → g.identity ≡ v.identity → seen g ⊎ (outranks g v ≡ true)
+abbrev Early : (ReadVote → Type 0) → ReadVote → List ReadVote → Type 0
+Early seen v votes = (g : ReadVote) → In g votes → g.identity ≡ v.identity → seen g ⊎ (outranks g v ≡ true)
 
 -- a vote stands there that this one does not outrank
-abbrev Met : VoteFacts → List VoteFacts → Type 0
-Met v votes = (h : VoteFacts) × In h votes × (h.identity ≡ v.identity) × (outranks v h ≡ false)
+abbrev Met : ReadVote → List ReadVote → Type 0
+Met v votes = (h : ReadVote) × In h votes × (h.identity ≡ v.identity) × (outranks v h ≡ false)
 
-still_met : (votes : List VoteFacts) (v w : VoteFacts) → Met v votes → Met v (placed votes w)
+still_met : (votes : List ReadVote) (v w : ReadVote) → Met v votes → Met v (placed votes w)
 still_met votes v w m = one_of _ (λ _. ⊥) votes w v m.0 refl m.1 m.2 m.3
 
-still_early : (seen : VoteFacts → Type 0) (votes : List VoteFacts) (v w : VoteFacts) → Ascends votes → Met v votes → Early seen v votes → Early seen v (placed votes w)
+still_early : (seen : ReadVote → Type 0) (votes : List ReadVote) (v w : ReadVote) → Ascends votes → Met v votes → Early seen v votes → Early seen v (placed votes w)
 still_early seen votes v w a m e g i q =
     ⊎_elim (λ (j : In g votes). e g j q)
     (λ j.
-    let same_name : m.0.identity ≡ w.identity = m.2 ∙ sym q ∙ ap (λ (y : VoteFacts). y.identity) j.0 in
+    let same_name : m.0.identity ≡ w.identity = m.2 ∙ sym q ∙ ap (λ (y : ReadVote). y.identity) j.0 in
     let beats : outranks w v ≡ true = above_other (rank_of w) (rank_of m.0) (rank_of v) (j.1 m.0 m.1 same_name) m.3 in
     inr (rw j.0 beats))
     (newer votes w g a i)
 
-early_after : (list : List VoteFacts) (seen : VoteFacts → Type 0) (votes : List VoteFacts) (v : VoteFacts) → Ascends votes → Met v votes → Early seen v votes → Early seen v (fold placed votes list)
+early_after : (list : List ReadVote) (seen : ReadVote → Type 0) (votes : List ReadVote) (v : ReadVote) → Ascends votes → Met v votes → Early seen v votes → Early seen v (fold placed votes list)
 early_after [] seen votes v a m e = e
 early_after (w ∷ list) seen votes v a m e = early_after list seen (placed votes w) v (ascends votes w a) (still_met votes v w m) (still_early seen votes v w a m e)
 
-fold_split : (xs ys start : List VoteFacts) → fold placed start (xs ++ ys) ≡ fold placed (fold placed start xs) ys
+fold_split : (xs ys start : List ReadVote) → fold placed start (xs ++ ys) ≡ fold placed (fold placed start xs) ys
 fold_split [] ys start = refl
 fold_split (x ∷ xs) ys start = fold_split xs ys (placed start x)
 
 -- of votes of equal rank the first is held
-first_held : (before_it after_it : List VoteFacts) (h v : VoteFacts) → In h (held (before_it ++ v ∷ after_it)) → h.identity ≡ v.identity → outranks h v ≡ false → (h ≡ v) ⊎ In h before_it
+first_held : (before_it after_it : List ReadVote) (h v : ReadVote) → In h (held (before_it ++ v ∷ after_it)) → h.identity ≡ v.identity → outranks h v ≡ false → (h ≡ v) ⊎ In h before_it
 first_held before_it after_it h v i q o =
     let s = stands before_it in
     let start = held before_it in
     let known : Early (λ x. (x ≡ v) ⊎ In x before_it) v (placed start v) =
     λ g j _. ⊎_elim (λ (k : In g start). inl (inr (⊎_elim (λ (n : ⊥). absurd n) (λ n. n) (s.from g k)))) (λ k. inl (inl k)) (only start v g j) in
     let last = early_after after_it (λ x. (x ≡ v) ⊎ In x before_it) (placed start v) v (ascends start v s.apart) (there start v) known in
-    let here : In h (fold placed (placed start v) after_it) = subst (λ (l : List VoteFacts). In h l) (fold_split before_it (v ∷ after_it) []) i in
+    let here : In h (fold placed (placed start v) after_it) = subst (λ (l : List ReadVote). In h l) (fold_split before_it (v ∷ after_it) []) i in
     ⊎_elim (λ (k : (h ≡ v) ⊎ In h before_it). k) (λ k. absurd (false≢true (sym o ∙ k))) (last h here q)
 
-in_or : (h v : VoteFacts) (before_it : List VoteFacts) → (h ≡ v) ⊎ In h before_it → (h ≡ v) ⊎ Contains before_it h
+in_or : (h v : ReadVote) (before_it : List ReadVote) → (h ≡ v) ⊎ In h before_it → (h ≡ v) ⊎ Contains before_it h
 in_or h v before_it c = ⊎_elim (λ (e : h ≡ v). inl e) (λ i. inr (in_to before_it h i)) c
 
-pub held_law : (list : List VoteFacts) → IsHeld list (held list)
+pub held_law : (list : List ReadVote) → IsHeld list (held list)
 held_law list =
     let s = stands list in
-    let seen = λ (x : VoteFacts) (i : In x list). s.each x (inr i) in
-    let back = λ (h : VoteFacts) (i : In h (held list)). ⊎_elim (λ (k : ⊥). absurd k) (λ (k : In h list). k) (s.from h i) in
+    let seen = λ (x : ReadVote) (i : In x list). s.each x (inr i) in
+    let back = λ (h : ReadVote) (i : In h (held list)). ⊎_elim (λ (k : ⊥). absurd k) (λ (k : In h list). k) (s.from h i) in
     record {
       each = λ v c. let r = seen v (in_from list v c) in (r.0, in_to (held list) r.0 r.1, r.2);
       from = λ h c. in_to list h (back h (in_from (held list) h c));
@@ -218,23 +218,23 @@ held_law list =
           rw e r.3;
       one = λ g h cg ch q. single (held list) g h s.apart (in_from (held list) g cg) (in_from (held list) h ch) q;
       first = λ before_it after_it h v e c q o.
-          in_or h v before_it (first_held before_it after_it h v (subst (λ (l : List VoteFacts). In h (held l)) e (in_from (held list) h c)) q o);
+          in_or h v before_it (first_held before_it after_it h v (subst (λ (l : List ReadVote). In h (held l)) e (in_from (held list) h c)) q o);
     }
 
 -- ascending lists with the same members are equal
-equal_lists : (g h : List VoteFacts) → Ascends g → Ascends h → ((x : VoteFacts) → In x g → In x h) → ((x : VoteFacts) → In x h → In x g) → g ≡ h
+equal_lists : (g h : List ReadVote) → Ascends g → Ascends h → ((x : ReadVote) → In x g → In x h) → ((x : ReadVote) → In x h → In x g) → g ≡ h
 equal_lists [] [] a b to back = refl
 equal_lists [] (y ∷ ys) a b to back = absurd (back y (inl refl))
 equal_lists (x ∷ xs) [] a b to back = absurd (to x (inl refl))
 equal_lists (x ∷ xs) (y ∷ ys) a b to back =
     let first : x ≡ y = ⊎_elim (λ (i : x ≡ y). i) (λ i. ⊎_elim (λ (j : y ≡ x). sym j) (λ j. absurd (not_both x.identity y.identity (a.0 y j) (b.0 x i))) (back y (inl refl))) (to x (inl refl)) in
-    let same_place : x.identity ≡ y.identity = ap (λ (v : VoteFacts). v.identity) first in
+    let same_place : x.identity ≡ y.identity = ap (λ (v : ReadVote). v.identity) first in
     let rest = equal_lists xs ys a.1 b.1
-    (λ z i. ⊎_elim (λ (j : z ≡ y). absurd (not_itself x.identity (along x.identity z.identity x.identity (ap (λ (v : VoteFacts). v.identity) j ∙ sym same_place) (a.0 z i)))) (λ j. j) (to z (inr i)))
-    (λ z i. ⊎_elim (λ (j : z ≡ x). absurd (not_itself y.identity (along y.identity z.identity y.identity (ap (λ (v : VoteFacts). v.identity) j ∙ same_place) (b.0 z i)))) (λ j. j) (back z (inr i))) in
-    ap (λ (v : VoteFacts). v ∷ xs) first ∙ ap (λ (l : List VoteFacts). y ∷ l) rest
+    (λ z i. ⊎_elim (λ (j : z ≡ y). absurd (not_itself x.identity (along x.identity z.identity x.identity (ap (λ (v : ReadVote). v.identity) j ∙ sym same_place) (a.0 z i)))) (λ j. j) (to z (inr i)))
+    (λ z i. ⊎_elim (λ (j : z ≡ x). absurd (not_itself y.identity (along y.identity z.identity y.identity (ap (λ (v : ReadVote). v.identity) j ∙ same_place) (b.0 z i)))) (λ j. j) (back z (inr i))) in
+    ap (λ (v : ReadVote). v ∷ xs) first ∙ ap (λ (l : List ReadVote). y ∷ l) rest
 
-one_way : (l m : List VoteFacts) → SameMembers l m → RanksApart l → (x : VoteFacts) → In x (held l) → In x (held m)
+one_way : (l m : List ReadVote) → SameMembers l m → RanksApart l → (x : ReadVote) → In x (held l) → In x (held m)
 one_way l m s apart x i =
     let at_l = held_law l in
     let at_m = held_law m in

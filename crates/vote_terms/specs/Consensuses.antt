@@ -1,13 +1,13 @@
 -- The consensus of held votes (dir-spec, "Computing a consensus from a set of votes").
 use Rattle.std.specs.Prelude.{ℕ, List, map}
-use Rattle.vote_terms.specs.Votes.{VoteFacts, vote_digest}
+use Rattle.vote_terms.specs.Votes.{ReadVote, vote_digest}
 use Rattle.vote_terms.specs.Preamble.{median_of}
 use Rattle.vote_terms.specs.Flags.{known_flags}
 use Rattle.vote_terms.specs.declared.consensus.Consensus.{Consensus}
 use Rattle.vote_terms.specs.declared.consensus.SourceLine.{SourceLine}
 
 -- what a consensus says of a vote's authority
-abbrev pub source_of : VoteFacts → SourceLine
+abbrev pub source_of : ReadVote → SourceLine
 source_of vote = record {
   nickname = vote.nickname;
   identity = vote.identity;
@@ -20,7 +20,7 @@ source_of vote = record {
 }
 
 -- the consensus of the held votes, where the roster has so many authorities
-abbrev pub consensus : ℕ → List VoteFacts → Consensus
+abbrev pub consensus : ℕ → List ReadVote → Consensus
 consensus roster votes = record {
   method = 32;
   valid_after = median_of (λ vote. vote.valid_after) votes;

@@ -3,6 +3,7 @@ pub mod Counts
 pub mod Held
 pub mod Acceptable
 pub mod Flags
+pub mod Facts
 pub mod Preamble
 pub mod Consensuses
 pub mod Texts

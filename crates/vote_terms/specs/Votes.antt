@@ -5,10 +5,13 @@ use Rattle.sha2.specs.Sha256.{sha256}
 use Rattle.dir_values.specs.declared.digest.Fingerprint.{Fingerprint}
 use Rattle.dir_values.specs.declared.digest.Digest1.{Digest1}
 use Rattle.dir_values.specs.Digests.{bytes_below}
+use Rattle.vote_terms.specs.declared.facts.CertificateFacts.{CertificateFacts}
+use Rattle.vote_terms.specs.declared.facts.SignatureFacts.{SignatureFacts}
 use Rattle.vote_terms.specs.declared.rank.Rank.{Rank}
 
--- A vote: its bytes, and the values of its items. Moments are seconds since 1970-01-01 00:00:00 UTC; a list is its text.
-pub record VoteFacts : Type 0 where
+-- A vote that was read: its bytes, and the values of its items. Moments are seconds since 1970-01-01 00:00:00 UTC; a list
+-- is its text.
+pub record ReadVote : Type 0 where
   -- the bytes from the first item through the last object
   pub whole : List ℕ
   -- of these the part that is signed: through the one space after `directory-signature`
@@ -32,13 +35,16 @@ pub record VoteFacts : Type 0 where
   pub dir_port : ℕ
   pub or_port : ℕ
   pub contact : Option (List ℕ)
+  -- the authority's certificate, and the signature
+  pub certificate : CertificateFacts
+  pub signature : SignatureFacts
 
 -- the digest that names a vote, whatever its signature is made with
-abbrev pub vote_digest : VoteFacts → Digest1
+abbrev pub vote_digest : ReadVote → Digest1
 vote_digest vote = record { 0 = sha1 vote.signed }
 
 -- the rank of a vote
-abbrev pub rank_of : VoteFacts → Rank
+abbrev pub rank_of : ReadVote → Rank
 rank_of vote = record { published = vote.published; whole = record { 0 = sha256 vote.whole } }
 
 -- whether a rank is above another: published later, or at the same moment with the greater digest

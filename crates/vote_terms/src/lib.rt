@@ -2,11 +2,13 @@
 #![tactic(auto)]
 
 mod consensus;
+mod facts;
 mod laws;
 mod rank;
 mod word;
 
 pub use consensus::{Consensus, SourceLine};
+pub use facts::{CertificateFacts, SignatureFacts, VoteFacts};
 pub use laws::{held_agree, held_is_held, knows_flags, ranks_agree};
 pub use rank::Rank;
 pub use word::VoteWord;

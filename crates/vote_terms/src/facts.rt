@@ -1,0 +1,80 @@
+// What a vote says, as values.
+use dir_bytes::{Seq, Text};
+use dir_values::{Algorithm, Digest1, Fingerprint, FlagSet};
+
+/// What a key certificate says (dir-spec, "Creating key certificates"), but for its version. Moments are seconds since
+/// 1970-01-01 00:00:00 UTC.
+#[derive(Debug, Drop)]
+pub struct CertificateFacts {
+    /// The address of its authority, where it names one.
+    pub address: Option<Text>,
+    /// The identity of its authority.
+    pub fingerprint: Fingerprint,
+    /// The identity key.
+    pub identity_key: Text,
+    /// When the certificate was made.
+    pub published: u64,
+    /// Until when the signing key may be used.
+    pub expires: u64,
+    /// The signing key.
+    pub signing_key: Text,
+    /// The signing key's signature over the digest of the identity key.
+    pub crosscert: Text,
+    /// The identity key's signature over the certificate.
+    pub certification: Text,
+}
+
+/// What a `directory-signature` says.
+#[derive(Debug, Drop)]
+pub struct SignatureFacts {
+    /// The hash that the signature is made over, SHA-1 where the line names none.
+    pub algorithm: Algorithm,
+    /// The identity of the authority that signed.
+    pub identity: Fingerprint,
+    /// The digest of its signing key.
+    pub key_digest: Digest1,
+    /// The signature.
+    pub signature: Text,
+}
+
+/// What a vote says (dir-spec, "Vote and consensus status document formats"): a field for each item that is read, but for
+/// those that say always the same. Moments are seconds since 1970-01-01 00:00:00 UTC.
+#[derive(Debug, Drop)]
+pub struct VoteFacts {
+    /// The consensus methods in the order in which the vote names them, where it does.
+    pub methods: Option<Seq<u32>>,
+    /// When the vote was published.
+    pub published: u64,
+    /// When the period begins that the vote is for.
+    pub valid_after: u64,
+    /// Until when the consensus is to be fresh.
+    pub fresh_until: u64,
+    /// Until when the consensus is to be valid.
+    pub valid_until: u64,
+    /// The seconds for exchanging votes.
+    pub vote_seconds: u32,
+    /// The seconds for exchanging signatures.
+    pub dist_seconds: u32,
+    /// The flags that the vote knows.
+    pub known_flags: FlagSet,
+    /// The text of its flag thresholds, where it gives them.
+    pub flag_thresholds: Option<Text>,
+    /// The authority's nickname.
+    pub nickname: Text,
+    /// The authority's identity.
+    pub identity: Fingerprint,
+    /// The name of the authority's host.
+    pub address: Text,
+    /// The authority's IPv4 address, its first byte highest.
+    pub ip: u32,
+    /// The authority's directory port.
+    pub dir_port: u16,
+    /// The authority's onion routing port.
+    pub or_port: u16,
+    /// The text of the authority's contact, where the vote gives it.
+    pub contact: Option<Text>,
+    /// The authority's certificate.
+    pub certificate: CertificateFacts,
+    /// The signature.
+    pub signature: SignatureFacts,
+}
