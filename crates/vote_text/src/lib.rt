@@ -1,0 +1,6 @@
+//! The canonical text of a vote, item by item.
+#![tactic(auto)]
+
+mod writing;
+
+pub use writing::write;

@@ -1,0 +1,293 @@
+// Writing a vote.
+ghost use Rattle.std.specs.Prelude.{◌≡◌, ◌++◌, IfOk, OnOk, codes, option_map};
+ghost use Rattle.dir_bytes.specs.FieldTexts.{hex_text, moment_text};
+ghost use Rattle.dirdoc_grammar.specs.Writing.{item_text, items_text};
+ghost use Rattle.vote_terms.specs.Facts.{moment_of};
+ghost use Rattle.vote_text.specs.Texts as texts;
+
+use dir_bytes::{LAST_MOMENT, Memory, Text, push_address, push_decimal, push_hex_upper, push_time};
+use dir_values::{Algorithm, Fingerprint};
+use dirdoc_grammar::{push_line, push_object};
+use frame_terms::Keyword;
+use std::alloc::Global;
+use vote_terms::{CertificateFacts, SignatureFacts, VoteFacts};
+
+// An item without an object.
+fn push_bare(out: &mut Vec<u8>, keyword: Keyword, rest: &[u8]) -> Result<(), Memory>
+    ensures { OnOk result (out.new.items ≡ out.old.items ++ item_text (texts.bare keyword rest.now)) }
+{
+    push_line(out, keyword.text(), rest)?;
+    Ok(())
+}
+
+// An item without an object, where there is a rest of its line.
+fn push_if(out: &mut Vec<u8>, keyword: Keyword, rest: &Option<Text>) -> Result<(), Memory>
+    ensures { OnOk result (out.new.items ≡ out.old.items ++ items_text (texts.item_if keyword rest.now)) }
+{
+    match rest {
+        Some(rest) => push_bare(out, keyword, rest.as_bytes()),
+        None => Ok(()),
+    }
+}
+
+// An item with an object.
+fn push_with_object(
+    out: &mut Vec<u8>,
+    keyword: Keyword,
+    rest: &[u8],
+    words: &[u8],
+    bytes: &Text,
+) -> Result<(), Memory>
+    ensures { OnOk result (out.new.items ≡ out.old.items ++ item_text (texts.with_object keyword rest.now words.now bytes.now)) }
+{
+    push_line(out, keyword.text(), rest)?;
+    push_object(out, words, bytes.as_bytes())?;
+    Ok(())
+}
+
+// An item that says a moment.
+fn push_timed(out: &mut Vec<u8>, alloc: Global, keyword: Keyword, number: u64) -> Result<(), Memory>
+    ensures { OnOk result (out.new.items ≡ out.old.items ++ item_text (texts.timed keyword number)) }
+{
+    let mut rest = Vec::new(alloc);
+    push_time(&mut rest, number.min(LAST_MOMENT))?;
+    push_bare(out, keyword, &rest)
+}
+
+// Numbers with single spaces between them.
+fn push_numbers(out: &mut Vec<u8>, numbers: &[u32]) -> Result<(), Memory>
+    ensures { OnOk result (out.new.items ≡ out.old.items ++ texts.numbers_text numbers.now) }
+{
+    let Some((first, others)) = numbers.split_first() else {
+        return Ok(());
+    };
+    push_decimal(out, *first as u64)?;
+    'numbers: for number in others {
+        out.push(b' ')?;
+        push_decimal(out, *number as u64)?;
+    }
+    Ok(())
+}
+
+// The item of a vote's methods, where it names them.
+fn push_methods(out: &mut Vec<u8>, alloc: Global, facts: &VoteFacts) -> Result<(), Memory>
+    ensures { OnOk result (out.new.items ≡ out.old.items ++ items_text (texts.item_if Keyword.ConsensusMethods (option_map texts.numbers_text facts.now.methods))) }
+{
+    let Some(methods) = &facts.methods else {
+        return Ok(());
+    };
+    let mut rest = Vec::new(alloc);
+    push_numbers(&mut rest, methods.as_slice())?;
+    push_bare(out, Keyword::ConsensusMethods, &rest)
+}
+
+// What the document is, and its methods.
+fn push_kind(out: &mut Vec<u8>, alloc: Global, facts: &VoteFacts) -> Result<(), Memory>
+    ensures { OnOk result (out.new.items ≡ out.old.items ++ items_text (texts.kind_items facts.now)) }
+{
+    push_bare(out, Keyword::NetworkStatusVersion, b"3")?;
+    push_bare(out, Keyword::VoteStatus, b"vote")?;
+    push_methods(out, alloc, facts)
+}
+
+// The item of the two delays.
+fn push_delays(out: &mut Vec<u8>, alloc: Global, facts: &VoteFacts) -> Result<(), Memory>
+    ensures { OnOk result (out.new.items ≡ out.old.items ++ item_text (texts.bare Keyword.VotingDelay (texts.delays_text facts.now))) }
+{
+    let mut rest = Vec::new(alloc);
+    push_decimal(&mut rest, facts.vote_seconds as u64)?;
+    rest.push(b' ')?;
+    push_decimal(&mut rest, facts.dist_seconds as u64)?;
+    push_bare(out, Keyword::VotingDelay, &rest)
+}
+
+// The times.
+fn push_times(out: &mut Vec<u8>, alloc: Global, facts: &VoteFacts) -> Result<(), Memory>
+    ensures { OnOk result (out.new.items ≡ out.old.items ++ items_text (texts.time_items facts.now)) }
+{
+    push_timed(out, alloc, Keyword::Published, facts.published)?;
+    push_timed(out, alloc, Keyword::ValidAfter, facts.valid_after)?;
+    push_timed(out, alloc, Keyword::FreshUntil, facts.fresh_until)?;
+    push_timed(out, alloc, Keyword::ValidUntil, facts.valid_until)?;
+    push_delays(out, alloc, facts)?;
+    Ok(())
+}
+
+// The flags.
+fn push_flags(out: &mut Vec<u8>, alloc: Global, facts: &VoteFacts) -> Result<(), Memory>
+    ensures { OnOk result (out.new.items ≡ out.old.items ++ items_text (texts.flag_items facts.now)) }
+{
+    let mut rest = Vec::new(alloc);
+    facts.known_flags.push(&mut rest)?;
+    push_bare(out, Keyword::KnownFlags, &rest)?;
+    push_if(out, Keyword::FlagThresholds, &facts.flag_thresholds)
+}
+
+// The authority's names.
+fn push_names(rest: &mut Vec<u8>, facts: &VoteFacts) -> Result<(), Memory>
+    ensures { OnOk result (rest.new.items ≡ rest.old.items ++ texts.names_text facts.now) }
+{
+    rest.extend_from_slice(facts.nickname.as_bytes())?;
+    rest.push(b' ')?;
+    push_hex_upper(rest, &facts.identity.0)?;
+    rest.push(b' ')?;
+    rest.extend_from_slice(facts.address.as_bytes())?;
+    Ok(())
+}
+
+// The authority's IPv4 address and ports.
+fn push_ports(rest: &mut Vec<u8>, facts: &VoteFacts) -> Result<(), Memory>
+    ensures { OnOk result (rest.new.items ≡ rest.old.items ++ texts.ports_text facts.now) }
+{
+    push_address(rest, facts.ip)?;
+    rest.push(b' ')?;
+    push_decimal(rest, facts.dir_port as u64)?;
+    rest.push(b' ')?;
+    push_decimal(rest, facts.or_port as u64)
+}
+
+// Who the authority is.
+fn push_source(rest: &mut Vec<u8>, facts: &VoteFacts) -> Result<(), Memory>
+    ensures { OnOk result (rest.new.items ≡ rest.old.items ++ texts.source_text facts.now) }
+{
+    push_names(rest, facts)?;
+    rest.push(b' ')?;
+    push_ports(rest, facts)
+}
+
+// The authority.
+fn push_authority(out: &mut Vec<u8>, alloc: Global, facts: &VoteFacts) -> Result<(), Memory>
+    ensures { OnOk result (out.new.items ≡ out.old.items ++ items_text (texts.authority_items facts.now)) }
+{
+    let mut rest = Vec::new(alloc);
+    push_source(&mut rest, facts)?;
+    push_bare(out, Keyword::DirSource, &rest)?;
+    push_if(out, Keyword::Contact, &facts.contact)
+}
+
+// The item that says whose a certificate is.
+fn push_identity(out: &mut Vec<u8>, alloc: Global, identity: Fingerprint) -> Result<(), Memory>
+    ensures { OnOk result (out.new.items ≡ out.old.items ++ item_text (texts.bare Keyword.Fingerprint (hex_text identity.0))) }
+{
+    let mut rest = Vec::new(alloc);
+    push_hex_upper(&mut rest, &identity.0)?;
+    push_bare(out, Keyword::Fingerprint, &rest)
+}
+
+// Whose certificate it is.
+fn push_holder(
+    out: &mut Vec<u8>,
+    alloc: Global,
+    certificate: &CertificateFacts,
+) -> Result<(), Memory>
+    ensures { OnOk result (out.new.items ≡ out.old.items ++ items_text (texts.holder_items certificate.now)) }
+{
+    push_bare(out, Keyword::DirKeyCertificateVersion, b"3")?;
+    push_if(out, Keyword::DirAddress, &certificate.address)?;
+    push_identity(out, alloc, certificate.fingerprint)?;
+    Ok(())
+}
+
+// The certificate's keys and times.
+fn push_keys(out: &mut Vec<u8>, alloc: Global, certificate: &CertificateFacts) -> Result<(), Memory>
+    ensures { OnOk result (out.new.items ≡ out.old.items ++ items_text (texts.key_items certificate.now)) }
+{
+    let words = b"RSA PUBLIC KEY";
+    push_with_object(
+        out,
+        Keyword::DirIdentityKey,
+        b"",
+        words,
+        &certificate.identity_key,
+    )?;
+    push_timed(out, alloc, Keyword::DirKeyPublished, certificate.published)?;
+    push_timed(out, alloc, Keyword::DirKeyExpires, certificate.expires)?;
+    push_with_object(
+        out,
+        Keyword::DirSigningKey,
+        b"",
+        words,
+        &certificate.signing_key,
+    )?;
+    Ok(())
+}
+
+// The certificate's signatures.
+fn push_proofs(out: &mut Vec<u8>, certificate: &CertificateFacts) -> Result<(), Memory>
+    ensures { OnOk result (out.new.items ≡ out.old.items ++ items_text (texts.proof_items certificate.now)) }
+{
+    push_with_object(
+        out,
+        Keyword::DirKeyCrosscert,
+        b"",
+        b"ID SIGNATURE",
+        &certificate.crosscert,
+    )?;
+    push_with_object(
+        out,
+        Keyword::DirKeyCertification,
+        b"",
+        b"SIGNATURE",
+        &certificate.certification,
+    )?;
+    Ok(())
+}
+
+// The name of an algorithm and a space; SHA-1 is not named.
+fn algorithm_text(algorithm: Algorithm) -> &'static [u8]
+    ensures { result.now ≡ texts.algorithm_text algorithm }
+{
+    match algorithm {
+        Algorithm::Sha1 => b"",
+        Algorithm::Sha256 => b"sha256 ",
+    }
+}
+
+// By whom a vote is signed, and with which key.
+fn push_signer(rest: &mut Vec<u8>, signature: &SignatureFacts) -> Result<(), Memory>
+    ensures { OnOk result (rest.new.items ≡ rest.old.items ++ texts.signer_text signature.now) }
+{
+    rest.extend_from_slice(algorithm_text(signature.algorithm))?;
+    push_hex_upper(rest, &signature.identity.0)?;
+    rest.push(b' ')?;
+    push_hex_upper(rest, &signature.key_digest.0)
+}
+
+// The footer.
+fn push_footer(out: &mut Vec<u8>, alloc: Global, signature: &SignatureFacts) -> Result<(), Memory>
+    ensures { OnOk result (out.new.items ≡ out.old.items ++ items_text (texts.footer_items signature.now)) }
+{
+    push_bare(out, Keyword::DirectoryFooter, b"")?;
+    let mut rest = Vec::new(alloc);
+    push_signer(&mut rest, signature)?;
+    push_with_object(
+        out,
+        Keyword::DirectorySignature,
+        &rest,
+        b"SIGNATURE",
+        &signature.signature,
+    )?;
+    Ok(())
+}
+
+/// The canonical text of a vote that says this: its items in the order of dir-spec's tables, with single spaces, flags
+/// by their bytes, numbers without leading zeros, digits in upper case, objects in lines of 64. A moment past the
+/// calendar is written as its last one.
+///
+/// # Errors
+/// `Memory` is want of memory.
+#[tactic(auto, using(crate::proofs::ItemsTexts::sections))]
+pub fn write(alloc: Global, facts: &VoteFacts) -> Result<Vec<u8>, Memory>
+    ensures { IfOk result (λ text. text.items ≡ texts.vote_text facts.now) }
+{
+    let mut out = Vec::new(alloc);
+    push_kind(&mut out, alloc, facts)?;
+    push_times(&mut out, alloc, facts)?;
+    push_flags(&mut out, alloc, facts)?;
+    push_authority(&mut out, alloc, facts)?;
+    push_holder(&mut out, alloc, &facts.certificate)?;
+    push_keys(&mut out, alloc, &facts.certificate)?;
+    push_proofs(&mut out, &facts.certificate)?;
+    push_footer(&mut out, alloc, &facts.signature)?;
+    Ok(out)
+}
