@@ -1,12 +1,26 @@
 -- What is kept of a vote's sections. The tables of the document see to it that each item is there which has to stand;
 -- where one is not, its value is nothing.
 use Rattle.std.specs.Prelude.{List, None}
-use Rattle.frame_terms.specs.declared.keyword.Keyword.TheVariants.{NetworkStatusVersion, ConsensusMethods, Published, ValidAfter, FreshUntil, ValidUntil, VotingDelay, KnownFlags, FlagThresholds, DirSource as DirSourceLine, Contact, DirectorySignature}
+use Rattle.frame_terms.specs.declared.keyword.Keyword.TheVariants.{NetworkStatusVersion, ConsensusMethods, Published, ValidAfter, FreshUntil, ValidUntil, VotingDelay, KnownFlags, FlagThresholds, DirSource as DirSourceLine, Contact, DirAddress, Fingerprint, DirIdentityKey, DirKeyPublished, DirKeyExpires, DirSigningKey, DirKeyCrosscert, DirKeyCertification, DirectorySignature}
 use Rattle.frame_terms.specs.declared.section.SectionName.{SectionName}
 use Rattle.frame_terms.specs.declared.section.SectionName.TheVariants.{Preamble, Authority, Certificate, Entry, Footer}
 use Rattle.frame_terms.specs.declared.value.Taken.{Taken}
 use Rattle.vote_doc.specs.declared.head.Head.{Head}
-use Rattle.vote_doc.specs.Values.{item_at, place_in, nowhere, number_in, text_if, text_in, delays_in, no_source, source_in, no_signature, signature_in, ends_in}
+use Rattle.vote_doc.specs.declared.head.CertificateHead.{CertificateHead}
+use Rattle.vote_doc.specs.Values.{item_at, place_in, nowhere, number_in, text_if, text_in, delays_in, no_source, source_in, no_signature, signature_in, no_identity, fingerprint_in, object_in, ends_in}
+
+-- a certificate of which nothing was read
+abbrev pub no_certificate : CertificateHead
+no_certificate = record {
+  address = None;
+  fingerprint = no_identity;
+  identity_key = nowhere;
+  published = 0;
+  expires = 0;
+  signing_key = nowhere;
+  crosscert = nowhere;
+  certification = nowhere;
+}
 
 -- what is kept where nothing was read
 abbrev pub no_head : Head
@@ -23,6 +37,7 @@ no_head = record {
   flag_thresholds = None;
   source = no_source;
   contact = None;
+  certificate = no_certificate;
   signature = no_signature;
   signed_end = 0;
   end = 0;
@@ -47,6 +62,23 @@ with_preamble head taken = record head {
 abbrev pub with_authority : Head → List Taken → Head
 with_authority head taken = record head { source = source_in (item_at taken DirSourceLine); contact = text_if (item_at taken Contact) }
 
+-- what is kept of a certificate
+abbrev pub certificate_of : List Taken → CertificateHead
+certificate_of taken = record {
+  address = text_if (item_at taken DirAddress);
+  fingerprint = fingerprint_in (item_at taken Fingerprint);
+  identity_key = object_in (item_at taken DirIdentityKey);
+  published = number_in (item_at taken DirKeyPublished);
+  expires = number_in (item_at taken DirKeyExpires);
+  signing_key = object_in (item_at taken DirSigningKey);
+  crosscert = object_in (item_at taken DirKeyCrosscert);
+  certification = object_in (item_at taken DirKeyCertification);
+}
+
+-- what is kept after a certificate
+abbrev pub with_certificate : Head → List Taken → Head
+with_certificate head taken = record head { certificate = certificate_of taken }
+
 -- what is kept after a footer
 abbrev pub with_footer : Head → List Taken → Head
 with_footer head taken = record head {
@@ -59,6 +91,6 @@ with_footer head taken = record head {
 abbrev pub head_with : Head → SectionName → List Taken → Head
 head_with head Preamble taken = with_preamble head taken
 head_with head Authority taken = with_authority head taken
-head_with head Certificate taken = head
+head_with head Certificate taken = with_certificate head taken
 head_with head Entry taken = head
 head_with head Footer taken = with_footer head taken

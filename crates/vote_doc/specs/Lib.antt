@@ -5,3 +5,4 @@ pub mod Checks
 pub mod Holdings
 pub mod Lending
 pub mod Reading
+pub mod Again

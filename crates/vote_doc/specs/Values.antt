@@ -1,6 +1,7 @@
 -- What the items of a section say. Where an item is not there, or says something else, its value is nothing.
 use Rattle.std.specs.Prelude.{ℕ, ◌+◌, ◌-◌, ◌^◌, min, List, [], ◌∷◌, Option, Some, None}
 use Rattle.std.specs.List.{find}
+use Rattle.dir_values.specs.declared.digest.Fingerprint.{Fingerprint}
 use Rattle.frame_terms.specs.declared.keyword.Keyword.{Keyword}
 use Rattle.frame_terms.specs.declared.value.Value.{Value}
 use Rattle.frame_terms.specs.declared.value.Value.TheVariants as value
@@ -63,6 +64,28 @@ delays_in item = delays_of_value (value_if item)
 -- twenty zeros
 abbrev pub no_digest : List ℕ
 no_digest = 0 ∷ 0 ∷ 0 ∷ 0 ∷ 0 ∷ 0 ∷ 0 ∷ 0 ∷ 0 ∷ 0 ∷ 0 ∷ 0 ∷ 0 ∷ 0 ∷ 0 ∷ 0 ∷ 0 ∷ 0 ∷ 0 ∷ 0 ∷ []
+
+-- the identity of nobody
+abbrev pub no_identity : Fingerprint
+no_identity = record { 0 = no_digest }
+
+-- the identity that a value is
+abbrev pub fingerprint_of_value : Value → Fingerprint
+fingerprint_of_value (value.Fingerprint identity) = identity
+fingerprint_of_value _ = no_identity
+
+-- the identity that an item says
+abbrev pub fingerprint_in : Option Taken → Fingerprint
+fingerprint_in item = fingerprint_of_value (value_if item)
+
+-- where the lines of an object stand, if a value is one
+abbrev pub object_of_value : Value → Span
+object_of_value (value.Object lines) = lines
+object_of_value _ = nowhere
+
+-- where the lines of an item's object stand
+abbrev pub object_in : Option Taken → Span
+object_in item = object_of_value (value_if item)
 
 -- an authority of which nothing is known
 abbrev pub no_source : DirSource

@@ -1,10 +1,35 @@
 // What is kept of a vote's sections: numbers, and where its texts stand.
 ghost use Rattle.std.specs.Prelude.{◌≡◌};
 ghost use Rattle.vote_doc.specs.Heads as heads;
-ghost use Rattle.vote_doc.specs.Values as values;
 
-use dir_values::{Digest1, Fingerprint};
-use frame_terms::{DirSource, Keyword, SectionName, Span, Taken, Value, VoteSignature};
+use crate::values::{
+    delays_at, fingerprint_at, no_identity, no_signature, no_source, nowhere, number_at, object_at,
+    place_at, signature_at, signed_to, source_at, text_at, text_if,
+};
+use dir_values::Fingerprint;
+use frame_terms::{DirSource, Keyword, SectionName, Span, Taken, VoteSignature};
+
+/// What the items of a certificate say, and where its texts stand in the vote's bytes. Moments are seconds since
+/// 1970-01-01 00:00:00 UTC.
+#[derive(Clone, Copy, Debug)]
+pub(crate) struct CertificateHead {
+    /// The address of its authority.
+    pub address: Option<Span>,
+    /// The identity of its authority.
+    pub fingerprint: Fingerprint,
+    /// The lines of the identity key.
+    pub identity_key: Span,
+    /// When the certificate was made.
+    pub published: u64,
+    /// Until when the signing key may be used.
+    pub expires: u64,
+    /// The lines of the signing key.
+    pub signing_key: Span,
+    /// The lines of the signing key's signature.
+    pub crosscert: Span,
+    /// The lines of the identity key's signature.
+    pub certification: Span,
+}
 
 /// What a vote's items say, and where its texts stand in its bytes. Moments are seconds since 1970-01-01 00:00:00 UTC.
 #[derive(Clone, Copy, Debug)]
@@ -33,6 +58,8 @@ pub(crate) struct Head {
     pub source: DirSource,
     /// The authority's contact.
     pub contact: Option<Span>,
+    /// The authority's certificate.
+    pub certificate: CertificateHead,
     /// The signature.
     pub signature: VoteSignature,
     /// The place after the one space that follows `directory-signature`.
@@ -41,138 +68,19 @@ pub(crate) struct Head {
     pub end: u64,
 }
 
-// The first item of a keyword.
-fn item_at(taken: &[Taken], keyword: Keyword) -> Option<Taken>
-    ensures { result ≡ values.item_at taken.now keyword }
+// A certificate of which nothing was read.
+fn no_certificate() -> CertificateHead
+    ensures { result ≡ heads.no_certificate }
 {
-    taken.iter().copied().find(|one| one.keyword.same(keyword))
-}
-
-// Where the first item of a keyword begins, and 0 of none.
-fn place_at(taken: &[Taken], keyword: Keyword) -> u64
-    ensures { result ≡ values.place_in (values.item_at taken.now keyword) }
-{
-    match item_at(taken, keyword) {
-        Some(one) => one.place,
-        None => 0,
-    }
-}
-
-// The number that the first item of a keyword says, and 0 of none.
-fn number_at(taken: &[Taken], keyword: Keyword) -> u64
-    ensures { result ≡ values.number_in (values.item_at taken.now keyword) }
-{
-    match item_at(taken, keyword) {
-        Some(
-            Taken {
-                value: Value::Number(number),
-                ..
-            },
-        ) => number,
-        _ => 0,
-    }
-}
-
-// Where the text of the first item of a keyword stands, if there is one.
-fn text_if(taken: &[Taken], keyword: Keyword) -> Option<Span>
-    ensures { result ≡ values.text_if (values.item_at taken.now keyword) }
-{
-    match item_at(taken, keyword) {
-        Some(
-            Taken {
-                value: Value::Text(span),
-                ..
-            },
-        ) => Some(span),
-        _ => None,
-    }
-}
-
-// The span of no text.
-fn nowhere() -> Span
-    ensures { result ≡ values.nowhere }
-{
-    Span { start: 0, end: 0 }
-}
-
-// Where the text of the first item of a keyword stands.
-fn text_at(taken: &[Taken], keyword: Keyword) -> Span
-    ensures { result ≡ values.text_in (values.text_if (values.item_at taken.now keyword)) }
-{
-    match text_if(taken, keyword) {
-        Some(span) => span,
-        None => nowhere(),
-    }
-}
-
-// The seconds for exchanging votes and signatures.
-fn delays_at(taken: &[Taken]) -> (u32, u32)
-    ensures { result ≡ values.delays_in (values.item_at taken.now Keyword.VotingDelay) }
-{
-    match item_at(taken, Keyword::VotingDelay) {
-        Some(
-            Taken {
-                value: Value::Delays(vote, dist),
-                ..
-            },
-        ) => (vote, dist),
-        _ => (0, 0),
-    }
-}
-
-// An authority of which nothing is known.
-fn no_source() -> DirSource
-    ensures { result ≡ values.no_source }
-{
-    DirSource {
-        nickname: nowhere(),
-        identity: Fingerprint([0; 20]),
-        address: nowhere(),
-        ip: 0,
-        dir_port: 0,
-        or_port: 0,
-    }
-}
-
-// The authority.
-fn source_at(taken: &[Taken]) -> DirSource
-    ensures { result ≡ values.source_in (values.item_at taken.now Keyword.DirSource) }
-{
-    match item_at(taken, Keyword::DirSource) {
-        Some(
-            Taken {
-                value: Value::Source(source),
-                ..
-            },
-        ) => source,
-        _ => no_source(),
-    }
-}
-
-// A signature of nothing.
-fn no_signature() -> VoteSignature
-    ensures { result ≡ values.no_signature }
-{
-    VoteSignature {
-        algorithm: None,
-        identity: Fingerprint([0; 20]),
-        key_digest: Digest1([0; 20]),
-        signature: nowhere(),
-    }
-}
-
-// The signature.
-fn signature_at(taken: &[Taken]) -> VoteSignature
-    ensures { result ≡ values.signature_in (values.item_at taken.now Keyword.DirectorySignature) }
-{
-    match item_at(taken, Keyword::DirectorySignature) {
-        Some(
-            Taken {
-                value: Value::Signature(signature),
-                ..
-            },
-        ) => signature,
-        _ => no_signature(),
+    CertificateHead {
+        address: None,
+        fingerprint: no_identity(),
+        identity_key: nowhere(),
+        published: 0,
+        expires: 0,
+        signing_key: nowhere(),
+        crosscert: nowhere(),
+        certification: nowhere(),
     }
 }
 
@@ -193,6 +101,7 @@ pub(crate) fn empty_head() -> Head
         flag_thresholds: None,
         source: no_source(),
         contact: None,
+        certificate: no_certificate(),
         signature: no_signature(),
         signed_end: 0,
         end: 0,
@@ -230,13 +139,29 @@ fn with_authority(head: Head, taken: &[Taken]) -> Head
     }
 }
 
-// The places after the part that is signed, and after the vote.
-fn signed_to(taken: &[Taken]) -> (u64, u64)
-    ensures { result ≡ values.ends_in (values.item_at taken.now Keyword.DirectorySignature) }
+// What is kept of a certificate.
+fn certificate_of(taken: &[Taken]) -> CertificateHead
+    ensures { result ≡ heads.certificate_of taken.now }
 {
-    match item_at(taken, Keyword::DirectorySignature) {
-        Some(one) => (one.place.saturating_add(20), one.after),
-        None => (0, 0),
+    CertificateHead {
+        address: text_if(taken, Keyword::DirAddress),
+        fingerprint: fingerprint_at(taken, Keyword::Fingerprint),
+        identity_key: object_at(taken, Keyword::DirIdentityKey),
+        published: number_at(taken, Keyword::DirKeyPublished),
+        expires: number_at(taken, Keyword::DirKeyExpires),
+        signing_key: object_at(taken, Keyword::DirSigningKey),
+        crosscert: object_at(taken, Keyword::DirKeyCrosscert),
+        certification: object_at(taken, Keyword::DirKeyCertification),
+    }
+}
+
+// What is kept after a certificate.
+fn with_certificate(head: Head, taken: &[Taken]) -> Head
+    ensures { result ≡ heads.with_certificate head taken.now }
+{
+    Head {
+        certificate: certificate_of(taken),
+        ..head
     }
 }
 
@@ -260,7 +185,8 @@ pub(crate) fn with_section(head: Head, section: SectionName, taken: &[Taken]) ->
     match section {
         SectionName::Preamble => with_preamble(head, taken),
         SectionName::Authority => with_authority(head, taken),
-        SectionName::Certificate | SectionName::Entry => head,
+        SectionName::Certificate => with_certificate(head, taken),
+        SectionName::Entry => head,
         SectionName::Footer => with_footer(head, taken),
     }
 }

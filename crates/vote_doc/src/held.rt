@@ -15,9 +15,9 @@ pub struct HeldVote {
 
 impl Model for HeldVote {
     ghost use Rattle.std.specs.Prelude.{◌≡◌};
-    ghost use Rattle.vote_terms.specs.Votes.{VoteFacts, rank_of};
+    ghost use Rattle.vote_terms.specs.Votes.{ReadVote, rank_of};
 
-    ghost Value = { VoteFacts };
+    ghost Value = { ReadVote };
 
     ghost view = { λ h. h.vote };
 

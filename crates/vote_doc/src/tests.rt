@@ -1,6 +1,6 @@
 // A vote without relays, and two votes of one authority.
 use super::*;
-use dir_bytes::{BadField, read_hex};
+use dir_bytes::{BadField, Memory, read_hex};
 use dir_values::{Digest1, Digest2, Fingerprint, Roster};
 use frame_terms::ReadRefusal;
 use std::alloc::Global;
@@ -116,5 +116,69 @@ fn holds_the_vote_of_the_greater_digest(rt: HostRuntime) -> Result<(), Fail> {
         assert_eq!(rt; held.len(), 1);
         assert_eq!(rt; held.vote(0).rank(), greater);
     }
+    Ok(())
+}
+
+// A vote without a `contact` line, spelled otherwise: its items in another order, other blanks, leading zeros, digits in
+// lower case, flags in another order, keys in shorter lines, other words and names, and items that are passed over.
+const OTHERWISE: &[u8] = b"\n\
+network-status-version\t3 and more\n\
+known-flags Valid \t Running \n\
+vote-status vote\n\
+\t \n\
+voting-delay 0300 300 5\n\
+consensus-methods 00032\n\
+x-unknown \n\
+-----BEGIN ANY WORDS-----\n\
+-----END ANY WORDS-----\n\
+valid-until 2026-01-01 03:00:00\n\
+fresh-until 2026-01-01\t01:00:00\n\
+valid-after 2026-01-01 00:00:00\n\
+published 2025-12-31 23:50:00\n\
+dir-source auth1 2fd4e1c67a2d28fced849ee1bb76e7391b93eb12  auth1.example 192.000.02.1 0080 443\n\
+dir-key-certificate-version 3\n\
+dir-signing-key\n\
+-----BEGIN RSA PUBLIC KEY-----\n\
+c2lnb\n\
+i0x\n\
+-----END RSA PUBLIC KEY-----\n\
+dir-key-expires 2026-12-01 00:00:00\n\
+dir-key-published 2025-12-01 00:00:00\n\
+dir-identity-key\n\
+-----BEGIN RSA PUBLIC KEY-----\n\
+VGhlIHF1aWNrIGJyb3duIGZveCBqdW1wcyBvdmVyIHRoZSBs\n\
+YXp5IGRvZw==\n\
+-----END RSA PUBLIC KEY-----\n\
+fingerprint 2fd4e1c67a2d28fced849ee1bb76e7391b93eb12\n\
+dir-key-crosscert\n\
+-----BEGIN SIGNATURE-----\n\
+W7g1vpnAfFlPotdxglWgJ9ZctyQMrB4xhHhiZVRrp/Q=\n\
+-----END SIGNATURE-----\n\
+dir-key-certification\n\
+-----BEGIN SIGNATURE-----\n\
+Zw20WLCU5zapzeLufxICg2CtoDETZ1JgmEU5tdnIBmA=\n\
+-----END SIGNATURE-----\n\
+directory-footer\n\
+directory-signature sha1 2FD4E1C67A2D28FCED849EE1BB76E7391B93EB12 6f72c48dadd6efeb0dcb997e00f90619ca181eec\n\
+-----BEGIN SIGNATURE-----\n\
+MqbYcq3B0vw+uX6qJMMwdeX1QHgvqQkqHisTccO6uRg=\n\
+-----END SIGNATURE-----\n\
+";
+
+// What is written for a vote that was read.
+fn written(alloc: Global, vote: &Vote) -> Result<Vec<u8>, Memory> {
+    write(alloc, &vote.facts(alloc)?)
+}
+
+#[test]
+fn writes_a_vote(rt: HostRuntime) -> Result<(), Fail> {
+    let alloc = rt.alloc();
+    let (vote, _) = vote_with(alloc, b"contact operator 1\n")?;
+    let text = written(alloc, &vote)?;
+    assert_eq!(rt; text.as_slice(), vote.bytes());
+    let (plain, _) = vote_with(alloc, b"")?;
+    let (vote, _) = read(alloc, OTHERWISE)?;
+    let text = written(alloc, &vote)?;
+    assert_eq!(rt; text.as_slice(), plain.bytes());
     Ok(())
 }

@@ -1,6 +1,7 @@
 // A vote: its bytes, and where its texts stand.
 ghost use Rattle.std.specs.Prelude.{◌≡◌, ◌≤◌, ◌<◌, ◌^◌, length, slice_range, option_map};
 ghost use Rattle.dir_bytes.specs.Causes.{last_moment};
+ghost use Rattle.vote_terms.specs.Facts.{moment_of};
 ghost use Rattle.vote_terms.specs.Votes.{rank_of, vote_digest};
 ghost use Rattle.vote_doc.specs.Facts as facts;
 
@@ -16,16 +17,16 @@ use vote_terms::Rank;
 /// A vote (dir-spec, "Vote and consensus status document formats"). Its texts are slices of its bytes.
 #[derive(Drop)]
 pub struct Vote {
-    bytes: Vec<u8>,
-    head: Head,
+    pub(crate) bytes: Vec<u8>,
+    pub(crate) head: Head,
 }
 
 impl Model for Vote {
     ghost use Rattle.std.specs.Prelude.{◌<◌, ◌^◌, length};
-    ghost use Rattle.vote_terms.specs.Votes.{VoteFacts};
+    ghost use Rattle.vote_terms.specs.Votes.{ReadVote};
     ghost use Rattle.vote_doc.specs.Facts.{facts_of};
 
-    ghost Value = { VoteFacts };
+    ghost Value = { ReadVote };
 
     ghost view = { λ v. facts_of v.bytes.items v.head };
 
@@ -53,8 +54,8 @@ pub(crate) fn between(bytes: &[u8], start: u64, end: u64) -> &[u8]
     &rest[..count]
 }
 
-// The text that stands in a span.
-fn part(bytes: &[u8], span: Span) -> &[u8]
+/// The text that stands in a span.
+pub(crate) fn part(bytes: &[u8], span: Span) -> &[u8]
     ensures part { result.now ≡ facts.part bytes.now span }
     ensures within { length result.now ≤ length bytes.now }
 {
@@ -71,9 +72,9 @@ fn part_if(bytes: &[u8], span: Option<Span>) -> Option<&[u8]>
     }
 }
 
-// A moment that was read, which is one of the calendar.
-fn moment(number: u64) -> u64
-    ensures value { result ≡ facts.moment_of number }
+/// A moment that was read, which is one of the calendar.
+pub(crate) fn moment(number: u64) -> u64
+    ensures value { result ≡ moment_of number }
     ensures within { result ≤ last_moment }
 {
     number.min(LAST_MOMENT)

@@ -1,0 +1,80 @@
+-- A vote that was written is read again (dir-spec, "Vote and consensus status document formats").
+use Rattle.std.specs.Prelude.{◌≡◌, ℕ, ◌≤◌, ◌<◌, ◌^◌, true, List, ◌++◌, length, All, IfSome, Ok}
+use Rattle.base64.specs.GeneralPurpose.{IsBytes}
+use Rattle.dir_bytes.specs.Causes.{last_moment}
+use Rattle.dir_values.specs.FlagSets.{Ascend, is_name}
+use Rattle.dirdoc_grammar.specs.Writers.{is_argument}
+use Rattle.dirdoc_grammar.specs.Writing.{NewItem, AreWritable, items_text}
+use Rattle.frame_terms.specs.Fields.{is_nickname}
+use Rattle.vote_terms.specs.Facts.{said}
+use Rattle.vote_terms.specs.Votes.{ReadVote}
+use Rattle.vote_terms.specs.declared.facts.CertificateFacts.{CertificateFacts}
+use Rattle.vote_terms.specs.declared.facts.SignatureFacts.{SignatureFacts}
+use Rattle.vote_terms.specs.declared.facts.VoteFacts.{VoteFacts}
+use Rattle.vote_text.specs.Texts.{holder_items, key_items, proof_items, vote_items, vote_text}
+use Rattle.vote_doc.specs.Reading.{max_vote, vote_of}
+
+-- the bytes are twenty, as those of an identity or of a key's digest
+pub record AreTwenty (bytes : List ℕ) : Type 0 where
+  pub count : length bytes ≡ 20
+  pub each : IsBytes bytes
+
+-- the consensus methods are at most 64 numbers of 32 bits
+pub record AreMethods (methods : List ℕ) : Type 0 where
+  pub count : length methods ≤ 64
+  pub each : All (λ method. method ≤ 4294967295) methods
+
+-- the flags are at most 64 names, ascending
+pub record AreFlags (flags : List (List ℕ)) : Type 0 where
+  pub count : length flags ≤ 64
+  pub ascend : Ascend flags
+  pub each : All (λ flag. is_name flag ≡ true) flags
+
+-- the items of a certificate that says this
+abbrev pub certificate_items : CertificateFacts → List NewItem
+certificate_items certificate = holder_items certificate ++ key_items certificate ++ proof_items certificate
+
+-- The certificate says what can be read: its address is an argument, its moments are of the calendar, and its text passes no
+-- limit.
+pub record IsCertificateInRange (certificate : CertificateFacts) : Type 0 where
+  pub address : IfSome certificate.address (λ address. is_argument address ≡ true)
+  pub fingerprint : AreTwenty certificate.fingerprint.0
+  pub published : certificate.published ≤ last_moment
+  pub expires : certificate.expires ≤ last_moment
+  pub fits : length (items_text (certificate_items certificate)) ≤ 65536
+
+-- the signature says what can be read
+pub record IsSignatureInRange (signature : SignatureFacts) : Type 0 where
+  pub identity : AreTwenty signature.identity.0
+  pub key_digest : AreTwenty signature.key_digest.0
+
+-- The vote says what can be read: each number, text and list is one that an item may have. Its items may be written: those
+-- of its texts that fill a line are such, its objects are bytes, and no line, no object and not the whole passes its limit.
+pub record IsInRange (facts : VoteFacts) : Type 0 where
+  pub methods : IfSome facts.methods AreMethods
+  pub published : facts.published ≤ last_moment
+  pub valid_after : facts.valid_after ≤ last_moment
+  pub fresh_until : facts.fresh_until ≤ last_moment
+  pub valid_until : facts.valid_until ≤ last_moment
+  pub vote_seconds : facts.vote_seconds ≤ 4294967295
+  pub dist_seconds : facts.dist_seconds ≤ 4294967295
+  pub known_flags : AreFlags facts.known_flags
+  pub nickname : is_nickname facts.nickname ≡ true
+  pub identity : AreTwenty facts.identity.0
+  pub address : is_argument facts.address ≡ true
+  pub ip : facts.ip < 2 ^ 32
+  pub dir_port : facts.dir_port ≤ 65535
+  pub or_port : facts.or_port ≤ 65535
+  pub certificate : IsCertificateInRange facts.certificate
+  pub signature : IsSignatureInRange facts.signature
+  pub items : AreWritable max_vote 0 (vote_items facts)
+
+-- the vote that is read of a vote's text says the same and has the text's bytes
+pub record IsReadBack (facts : VoteFacts) (vote : ReadVote) : Type 0 where
+  pub says : said vote ≡ facts
+  pub whole : vote.whole ≡ vote_text facts
+
+-- A vote that was written is read again, whatever follows: what is read says the same, has the text's bytes, and ends with it.
+abbrev pub VotesAreReadAgain : Type 0
+VotesAreReadAgain = (facts : VoteFacts) (rest : List ℕ) → IsInRange facts
+    → (vote : ReadVote) × (vote_of (vote_text facts ++ rest) ≡ Ok (vote, length (vote_text facts))) × IsReadBack facts vote
