@@ -1,7 +1,7 @@
 -- What computing a consensus answers.
 use Rattle.std.specs.Prelude.{◌≡◌, ◌≤◌, ℕ, true, false, List, length, Result, Ok, Err}
 use Rattle.dir_bytes.specs.Causes.{last_moment}
-use Rattle.vote_terms.specs.Votes.{VoteFacts}
+use Rattle.vote_terms.specs.Votes.{ReadVote}
 use Rattle.vote_terms.specs.Counts.{over}
 use Rattle.vote_terms.specs.Consensuses.{consensus}
 use Rattle.vote_terms.specs.declared.consensus.Consensus.{Consensus}
@@ -9,7 +9,7 @@ use Rattle.consensus_calc.specs.declared.record.CalcFault.{CalcFault}
 use Rattle.consensus_calc.specs.declared.record.CalcFault.TheVariants.{TooFew, Memory}
 
 -- the consensus of the held votes where they are of more than half of the roster, and else how many there are
-abbrev pub Calculates : ℕ → List VoteFacts → Result Consensus CalcFault → Type 0
+abbrev pub Calculates : ℕ → List ReadVote → Result Consensus CalcFault → Type 0
 Calculates roster votes (Ok c) = (over (length votes) roster ≡ true) × (c ≡ consensus roster votes)
 Calculates roster votes (Err (TooFew held of_roster)) = (over (length votes) roster ≡ false) × (held ≡ length votes) × (of_roster ≡ roster)
 Calculates roster votes (Err Memory) = Unit {0}

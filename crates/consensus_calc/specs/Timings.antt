@@ -1,12 +1,12 @@
 -- What votes say of time.
 use Rattle.std.specs.Prelude.{ℕ, ◌-◌, ◌^◌}
 use Rattle.dir_bytes.specs.Causes.{last_moment}
-use Rattle.vote_terms.specs.Votes.{VoteFacts}
+use Rattle.vote_terms.specs.Votes.{ReadVote}
 use Rattle.consensus_calc.specs.declared.timing.Timing.{Timing}
 use Rattle.consensus_calc.specs.declared.timing.Timing.TheVariants.{ValidAfter, FreshUntil, ValidUntil, VoteSeconds, DistSeconds}
 
 -- what a vote says
-abbrev pub said : Timing → VoteFacts → ℕ
+abbrev pub said : Timing → ReadVote → ℕ
 said ValidAfter vote = vote.valid_after
 said FreshUntil vote = vote.fresh_until
 said ValidUntil vote = vote.valid_until

@@ -1,12 +1,11 @@
 // The flags that a consensus knows.
-ghost use Rattle.std.specs.Prelude.{◌≡◌, ◌<◌, ◌^◌, IfOk, OnOk, length};
-ghost use Rattle.std.specs.List.{fold};
-ghost use Rattle.dir_values.specs.FlagSets.{as_set, with_flag};
-ghost use Rattle.vote_terms.specs.Flags.{flags_in, listed_flags, known_flags};
+ghost use Rattle.std.specs.Prelude.{◌≡◌, IfOk, OnOk};
+ghost use Rattle.dir_values.specs.FlagSets.{as_set};
+ghost use Rattle.vote_terms.specs.Flags.{listed_flags, known_flags};
 ghost use Rattle.consensus_calc.specs.Knowing.{with_own};
 
 use dir_bytes::Memory;
-use dir_values::{Arguments, FlagSet};
+use dir_values::FlagSet;
 use std::alloc::Global;
 use vote_doc::Accepted;
 
@@ -25,21 +24,9 @@ fn listed(alloc: Global, votes: &Accepted) -> Result<FlagSet, Memory>
 {
     let mut set = FlagSet::new(alloc);
     'votes: for i in 0..votes.len() {
-        add_listed(alloc, &mut set, votes.vote(i).vote().known_flags())?;
+        set.insert_words(alloc, votes.vote(i).vote().known_flags())?;
     }
     Ok(set)
-}
-
-// Adds the flags that a vote lists.
-fn add_listed(alloc: Global, set: &mut FlagSet, text: &[u8]) -> Result<(), Memory>
-    requires { length text.now < 2 ^ 62 }
-    ensures { OnOk result (set.new ≡ fold with_flag set.old (flags_in text.now)) }
-{
-    let mut arguments = Arguments::at(0, text);
-    'arguments: while let Some(argument) = arguments.next() {
-        set.insert(alloc, argument.text)?;
-    }
-    Ok(())
 }
 
 // Adds the flags that a consensus has of its own.
