@@ -1,20 +1,19 @@
 -- The command that clap names, and its refusals.
-use Rattle.std.proofs.Common.{◌≡◌, ℕ, List, [], ◌∷◌, Option, Some, None, true, false, refl, sym, ap₂, ◌∙◌, inl, inr}
-use Rattle.std.specs.Prelude.{Box, option_map, codes}
-use Rattle.std.specs.Str.{bytes_eq}
+use Rattle.std.proofs.Common.{◌≡◌, ℕ, List, [], ◌∷◌, Option, Some, None, refl, sym, ap, ap₂, ◌∙◌, inl, inr}
+use Rattle.std.specs.Prelude.{Box, option_and_then, option_map, codes}
 use Rattle.std.specs.Box.{box_value}
 use Rattle.clap.specs.Kinds.{HasKind, Kinds}
 use Rattle.clap.specs.Words.{Row, first_of, first_value, kind_of, rows_of, subcommand_rows}
 use Rattle.clap.specs.declared.parser.matches.Found.{Found}
 use Rattle.clap.proofs.WalkLemmas.{first_value-rows}
 use Rattle.clap.specs.declared.error.Error.{Error}
-use Rattle.clap.specs.declared.error.kind.ErrorKind.TheVariants as kind
+use Rattle.clap.specs.declared.error.kind.ErrorKind.TheVariants as error_kind
 use Rattle.clap.specs.declared.parser.matches.SubCommand.{SubCommand}
 use Rattle.clap.specs.declared.parser.matches.ArgMatches.TheViews.{out-SubCommand}
-use Rattle.daemon_words.specs.Words.{command_named, command_read, compute_of, compute_with}
+use Rattle.daemon_words.specs.Words.{command_named, command_read, compute_in, compute_of, compute_with, kind_in, kind_named}
 
 -- an error other than want of memory comes only where something is wrong with the words
-pub refused : (kinds : Kinds) (e : Error) → HasKind kinds e → (kind_of e ≡ kind.OutOfMemory → ⊥) → kinds ≡ [] → ⊥
+pub refused : (kinds : Kinds) (e : Error) → HasKind kinds e → (kind_of e ≡ error_kind.OutOfMemory → ⊥) → kinds ≡ [] → ⊥
 refused [] e has other_kind none = elim has [ inl memory ↦ other_kind memory | inr other ↦ other ]
 refused (k ∷ ks) e has other_kind none = absurd cc
 
@@ -41,30 +40,33 @@ named_read kinds named name rows none is = rw (none, is) refl
 pub none_named : (kinds : Kinds) (named : Option (List ℕ × List Row)) → kinds ≡ [] → named ≡ None → command_read kinds named ≡ None
 none_named kinds named none is = rw (none, is) refl
 
--- another name is no command
-pub other_name : (name : List ℕ) (options : List Row) → bytes_eq name (codes "compute") ≡ false → command_named name options ≡ None
-other_name name options is = rw is refl
-
 option_is : (f : Found) (id : List ℕ) (value : Option (List ℕ)) → value ≡ first_value f id → first_of id (rows_of f) ≡ value
 option_is f id value is = sym (is ∙ first_value-rows f id)
 
-computes : (name : List ℕ) (f : Found) (authorities valid_after : Option (List ℕ)) → bytes_eq name (codes "compute") ≡ true → first_of (codes "authorities") (rows_of f) ≡ authorities
-    → first_of (codes "valid-after") (rows_of f) ≡ valid_after → command_named name (rows_of f) ≡ compute_with authorities valid_after
-computes name f authorities valid_after is first second = rw is (ap₂ compute_with first second)
+computes : (f : Found) (authorities valid_after : Option (List ℕ)) → first_of (codes "authorities") (rows_of f) ≡ authorities
+    → first_of (codes "valid-after") (rows_of f) ≡ valid_after → compute_in (rows_of f) ≡ compute_with authorities valid_after
+computes f authorities valid_after first second = ap₂ compute_with first second
 
 -- `compute` with both options
-pub compute_is : (name : List ℕ) (f : Found) (authorities valid_after : List ℕ) → bytes_eq name (codes "compute") ≡ true → Some authorities ≡ first_value f (codes "authorities")
-    → Some valid_after ≡ first_value f (codes "valid-after") → command_named name (rows_of f) ≡ compute_of authorities valid_after
-compute_is name f authorities valid_after is first second =
-    computes name f (Some authorities) (Some valid_after) is (option_is f (codes "authorities") (Some authorities) first) (option_is f (codes "valid-after") (Some valid_after) second)
+pub compute_is : (f : Found) (authorities valid_after : List ℕ) → Some authorities ≡ first_value f (codes "authorities")
+    → Some valid_after ≡ first_value f (codes "valid-after") → compute_in (rows_of f) ≡ compute_of authorities valid_after
+compute_is f authorities valid_after first second =
+    computes f (Some authorities) (Some valid_after) (option_is f (codes "authorities") (Some authorities) first) (option_is f (codes "valid-after") (Some valid_after) second)
 
 -- `compute` without its first option
-pub no_authorities : (name : List ℕ) (f : Found) → bytes_eq name (codes "compute") ≡ true → None ≡ first_value f (codes "authorities") → command_named name (rows_of f) ≡ None
-no_authorities name f is first =
-    computes name f None (first_of (codes "valid-after") (rows_of f)) is (option_is f (codes "authorities") None first) refl
+pub no_authorities : (f : Found) → None ≡ first_value f (codes "authorities") → compute_in (rows_of f) ≡ None
+no_authorities f first = computes f None (first_of (codes "valid-after") (rows_of f)) (option_is f (codes "authorities") None first) refl
 
 -- `compute` without its second option
-pub no_valid_after : (name : List ℕ) (f : Found) (authorities : List ℕ) → bytes_eq name (codes "compute") ≡ true → Some authorities ≡ first_value f (codes "authorities")
-    → None ≡ first_value f (codes "valid-after") → command_named name (rows_of f) ≡ None
-no_valid_after name f authorities is first second =
-    computes name f (Some authorities) None is (option_is f (codes "authorities") (Some authorities) first) (option_is f (codes "valid-after") None second)
+pub no_valid_after : (f : Found) (authorities : List ℕ) → Some authorities ≡ first_value f (codes "authorities")
+    → None ≡ first_value f (codes "valid-after") → compute_in (rows_of f) ≡ None
+no_valid_after f authorities first second =
+    computes f (Some authorities) None (option_is f (codes "authorities") (Some authorities) first) (option_is f (codes "valid-after") None second)
+
+-- the kind that the word names
+pub kind_is : (f : Found) (word : List ℕ) → Some word ≡ first_value f (codes "kind") → kind_in (rows_of f) ≡ kind_named word
+kind_is f word stands = ap (λ w. option_and_then kind_named w) (option_is f (codes "kind") (Some word) stands)
+
+-- no word stands there
+pub no_kind : (f : Found) → None ≡ first_value f (codes "kind") → kind_in (rows_of f) ≡ None
+no_kind f none = ap (λ w. option_and_then kind_named w) (option_is f (codes "kind") None none)

@@ -8,9 +8,17 @@ use Rattle.clap.specs.declared.builder.action.ArgAction.TheVariants.{Set}
 abbrev pub needed_option : List ℕ → Rule
 needed_option name = record (new_rule name) { long = Some name; required = true; action = Some Set }
 
+-- a word that must stand once, by itself
+abbrev pub needed_word : List ℕ → Rule
+needed_word name = record (new_rule name) { required = true; action = Some Set }
+
 -- the command `compute` with its options, which stand in any order
 abbrev pub compute : App
 compute = with_rule (with_rule (new_app (codes "compute")) (needed_option (codes "authorities"))) (needed_option (codes "valid-after"))
+
+-- a command of this name that takes one kind of document
+abbrev pub of_kind : List ℕ → App
+of_kind name = with_rule (new_app name) (needed_word (codes "kind"))
 
 -- the program before its commands: the words do not begin with its name, a command must stand there, and no words ask for help
 abbrev pub program : App
@@ -20,7 +28,8 @@ program = let plain = new_app (codes "authority_daemon") in record plain {
 
 -- the program with its commands
 abbrev pub command_line : App
-command_line = with_subcommand program compute.top
+command_line =
+    with_subcommand (with_subcommand (with_subcommand program compute.top) (of_kind (codes "check")).top) (of_kind (codes "show")).top
 
 -- what is wrong with the words: nothing, where they are of this command line
 unfoldable pub faults : List (String Global) → Kinds

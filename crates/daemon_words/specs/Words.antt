@@ -1,5 +1,5 @@
 -- The grammar of the words.
-use Rattle.std.specs.Prelude.{ℕ, List, [], String, Option, Some, None, codes, if◌then◌else◌}
+use Rattle.std.specs.Prelude.{ℕ, List, [], String, Option, Some, None, option_and_then, option_map, codes, if◌then◌else◌}
 use Rattle.std.specs.Str.{bytes_eq}
 use Rattle.std.specs.Global.{Global}
 use Rattle.clap.specs.Words.{Kinds, Row, Text, first_of}
@@ -8,6 +8,8 @@ use Rattle.daemon_words.specs.CommandLine.{faults, command_in}
 use Rattle.daemon_words.specs.Values.{roster, moment}
 use Rattle.daemon_words.specs.declared.command.Command.{Command}
 use Rattle.daemon_words.specs.declared.command.Command.TheVariants as command
+use Rattle.daemon_words.specs.declared.command.Kind.{Kind}
+use Rattle.daemon_words.specs.declared.command.Kind.TheVariants as kind
 
 -- `compute` for a roster and a moment, where both were read
 abbrev pub computing : Option (List Fingerprint) → Option ℕ → Option Command
@@ -23,11 +25,25 @@ abbrev pub compute_with : Option (List ℕ) → Option (List ℕ) → Option Com
 compute_with (Some authorities) (Some valid_after) = compute_of authorities valid_after
 compute_with _ _ = None
 
--- the command of a name, with the values of its options
+-- `compute` with the values of its options
+abbrev pub compute_in : List Row → Option Command
+compute_in options = compute_with (first_of (codes "authorities") options) (first_of (codes "valid-after") options)
+
+-- the kind of document that a word names
+abbrev pub kind_named : List ℕ → Option Kind
+kind_named word = if bytes_eq word (codes "vote") then Some kind.Vote else None
+
+-- the kind of document that stands among the values
+abbrev pub kind_in : List Row → Option Kind
+kind_in options = option_and_then kind_named (first_of (codes "kind") options)
+
+-- the command of a name, with the values of its options: a line for each command
 abbrev pub command_named : Text → List Row → Option Command
 command_named name options =
-    if bytes_eq name (codes "compute") then compute_with (first_of (codes "authorities") options) (first_of (codes "valid-after") options)
-    else None
+    if bytes_eq name (codes "compute") then compute_in options
+    else (if bytes_eq name (codes "check") then option_map command.Check (kind_in options)
+    else (if bytes_eq name (codes "show") then option_map command.Show (kind_in options)
+    else None))
 
 -- the command that was named, if nothing is wrong with the words
 abbrev pub command_read : Kinds → Option (Text × List Row) → Option Command

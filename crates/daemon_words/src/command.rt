@@ -19,11 +19,22 @@ pub struct Compute {
     pub valid_after: u64,
 }
 
+/// A kind of document that is checked or shown.
+#[derive(Clone, Copy, Debug, PartialEq, Eq)]
+pub enum Kind {
+    /// A vote.
+    Vote,
+}
+
 /// A command with its options.
 #[derive(Debug, Drop)]
 pub enum Command {
     /// Reads votes, and writes their unsigned consensus.
     Compute(Compute),
+    /// Reads a document of this kind, and says whether it is one.
+    Check(Kind),
+    /// Reads a document of this kind, and writes its canonical text.
+    Show(Kind),
 }
 
 /// The command that the words give, without the program's name in front, or nothing where they are not of the grammar.
@@ -47,9 +58,36 @@ fn command_named(
 ) -> Result<Option<Command>, Memory>
     ensures { IfOk result (λ command. command ≡ grammar.command_named name.now (rows_of (found_of options.now))) }
 {
-    if name != "compute" {
-        return Ok(None);
+    match name {
+        "compute" => compute_with(alloc, options),
+        "check" => Ok(kind_in(options).map(Command::Check)),
+        "show" => Ok(kind_in(options).map(Command::Show)),
+        _ => Ok(None),
     }
+}
+
+// The kind of document that stands among the values.
+fn kind_in(values: &ArgMatches<'_>) -> Option<Kind>
+    ensures { result ≡ grammar.kind_in (rows_of (found_of values.now)) }
+{
+    let word = values.get_str("kind")?;
+    kind_named(word)
+}
+
+// The kind of document that a word names.
+fn kind_named(word: &str) -> Option<Kind>
+    ensures { result ≡ grammar.kind_named word.now }
+{
+    match word {
+        "vote" => Some(Kind::Vote),
+        _ => None,
+    }
+}
+
+// `compute` with its options.
+fn compute_with(alloc: Global, options: &ArgMatches<'_>) -> Result<Option<Command>, Memory>
+    ensures { IfOk result (λ command. command ≡ grammar.compute_in (rows_of (found_of options.now))) }
+{
     let Some(authorities) = options.get_str("authorities") else {
         return Ok(None);
     };

@@ -30,12 +30,16 @@ fn command_line<'a>(alloc: Global) -> Result<Command<'a>, AllocError>
     ensures { IfOk result (λ command. app_of command ≡ command_line.command_line) }
 {
     let compute = compute(alloc)?;
+    let check = of_kind(alloc, "check")?;
+    let show = of_kind(alloc, "show")?;
     Command::new(alloc, "authority_daemon")
         .no_binary_name(true)
         .disable_help_flag(true)
         .disable_help_subcommand(true)
         .subcommand_required(true)
-        .subcommand(compute)
+        .subcommand(compute)?
+        .subcommand(check)?
+        .subcommand(show)
 }
 
 // The command `compute` with its options.
@@ -46,6 +50,22 @@ fn compute<'a>(alloc: Global) -> Result<Command<'a>, AllocError>
     Command::new(alloc, "compute")
         .arg(needed_option(alloc, "authorities"))?
         .arg(needed_option(alloc, "valid-after"))
+}
+
+// A command of this name that takes one kind of document.
+fn of_kind<'a>(alloc: Global, name: &'a str) -> Result<Command<'a>, AllocError>
+    ensures app { IfOk result (λ command. app_of command ≡ command_line.of_kind name.entry.now) }
+    ensures local { IfOk result (λ command. (out-Command command).has_globals ≡ false) }
+{
+    Command::new(alloc, name).arg(needed_word(alloc, "kind"))
+}
+
+// A word that must stand once, by itself.
+fn needed_word<'a>(alloc: Global, name: &'a str) -> Arg<'a>
+    ensures rule { rule_of result ≡ command_line.needed_word name.entry.now }
+    ensures local { result.global ≡ false }
+{
+    Arg::new(alloc, name).required(true).action(ArgAction::Set)
 }
 
 // An option that must stand once, with a value.

@@ -5,7 +5,7 @@ mod command;
 mod command_line;
 mod values;
 
-pub use command::{Command, Compute, command_of};
+pub use command::{Command, Compute, Kind, command_of};
 
 #[cfg(test)]
 mod tests;

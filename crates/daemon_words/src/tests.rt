@@ -1,5 +1,5 @@
 // Words of the program, and whether they are of the grammar.
-use crate::{Command, command_of};
+use crate::{Command, Kind, command_of};
 use std::alloc::Global;
 use std::test::Fail;
 
@@ -47,5 +47,79 @@ fn other_words_give_nothing(rt: HostRuntime) -> Result<(), Fail> {
     );
     assert!(rt; read(alloc, &["compute", "--authorities=", "--valid-after", TIME])?.is_none());
     assert!(rt; read(alloc, &["--help"])?.is_none());
+    Ok(())
+}
+
+#[test]
+fn one_kind_is_checked_and_shown(rt: HostRuntime) -> Result<(), Fail> {
+    let alloc = rt.alloc();
+    for words in [
+        &["check", "vote"][..],
+        &["check", "--", "vote"],
+        &["check", "vote", "--"],
+    ] {
+        let given = read(alloc, words)?;
+        assert!(rt; matches!(&given, Some(Command::Check(Kind::Vote))));
+    }
+    let given = read(alloc, &["show", "vote"])?;
+    assert!(rt; matches!(&given, Some(Command::Show(Kind::Vote))));
+    Ok(())
+}
+
+#[test]
+fn other_kinds_give_nothing(rt: HostRuntime) -> Result<(), Fail> {
+    let alloc = rt.alloc();
+    for rest in [
+        &[][..],
+        &["votes"],
+        &["Vote"],
+        &[""],
+        &["vote", "vote"],
+        &["vote", ""],
+        &["--kind", "vote"],
+        &["--kind=vote"],
+        &["-vote"],
+        &["--", "-vote"],
+        &["--help"],
+        &["help"],
+    ] {
+        for command in ["check", "show"] {
+            let mut words = Vec::new(alloc);
+            words.push(command)?;
+            words.extend_from_slice(rest)?;
+            assert!(rt; read(alloc, &words)?.is_none());
+        }
+    }
+    for words in [&[][..], &["help"], &["vote"], &["--", "check", "vote"]] {
+        assert!(rt; read(alloc, words)?.is_none());
+    }
+    Ok(())
+}
+
+// The identities that end with the numbers from 10 on, up to but not with this one, with commas between them.
+fn identities(alloc: Global, end: u64) -> Result<String, Fail> {
+    let mut text = String::new(alloc);
+    for number in 10..end {
+        if !text.is_empty() {
+            text.push_str(",")?;
+        }
+        let identity = format!(in alloc; "00000000000000000000000000000000000000{number}")?;
+        text.push_str(&identity)?;
+    }
+    Ok(text)
+}
+
+#[test]
+fn a_roster_has_32_members_at_most(rt: HostRuntime) -> Result<(), Fail> {
+    let alloc = rt.alloc();
+    let roster = identities(alloc, 42)?;
+    let words = ["compute", "--authorities", &roster, "--valid-after", TIME];
+    let Some(Command::Compute(compute)) = read(alloc, &words)? else {
+        return Err("refused".into());
+    };
+    assert_eq!(rt; compute.roster.len(), 32);
+    let roster = identities(alloc, 43)?;
+    let words = ["compute", "--authorities", &roster, "--valid-after", TIME];
+    assert!(rt; read(alloc, &words)?.is_none());
     Ok(())
 }

@@ -1,19 +1,19 @@
-use Rattle.std.proofs.Common.{rules, sym, ap₂, ◌∙◌}
+use Rattle.std.proofs.Common.{sym, ap₂, ◌∙◌}
 use Rattle.std.proofs.lemmas.Result.{IfOk-weaker}
 use Rattle.clap.specs.Words.{found_of}
 use Rattle.daemon_words.specs.Words.{compute_of}
 use Rattle.daemon_words.proofs.Named.{compute_is, no_authorities, no_valid_after}
-use Rattle.daemon_words.proofs.command.command_named.Goals as goal
+use Rattle.daemon_words.proofs.command.compute_with.Goals as goal
 
 pub returns-in_default : goal.returns-in_default
-returns-in_default c = sym (no_authorities c.args.name.now (found_of c.args.options.now) (search rules) c.in_default.ensures)
+returns-in_default c = sym (no_authorities (found_of c.args.options.now) c.in_default.ensures)
 
 pub returns-in_default-get_str : goal.returns-in_default-get_str
 returns-in_default-get_str c =
-    sym (no_valid_after c.args.name.now (found_of c.args.options.now) c.in-Some.authorities.now (search rules) c.in-Some.ensures c.in_default-get_str.ensures)
+    sym (no_valid_after (found_of c.args.options.now) c.in-Some.authorities.now c.in-Some.ensures c.in_default-get_str.ensures)
 
 pub returns : goal.returns
 returns c =
     let options = found_of c.args.options.now in
-    let is = compute_is c.args.name.now options c.in-Some.authorities.now c.in-Some-get_str.valid_after.now (search rules) c.in-Some.ensures c.in-Some-get_str.ensures in
+    let is = compute_is options c.in-Some.authorities.now c.in-Some-get_str.valid_after.now c.in-Some.ensures c.in-Some-get_str.ensures in
     IfOk-weaker c.compute_of.result _ _ (λ command h. h ∙ ap₂ compute_of c.as_bytes.ensures.value c.as_bytes-2.ensures.value ∙ sym is) c.compute_of.ensures
