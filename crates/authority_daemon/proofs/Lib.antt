@@ -4,3 +4,5 @@ pub mod Refusing
 pub mod Chains
 pub mod Completeness
 pub mod Computing
+pub mod LinesBehind
+pub mod Telling

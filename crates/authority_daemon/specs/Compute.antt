@@ -1,7 +1,7 @@
 -- The command that computes a consensus.
 use Rattle.std.specs.Prelude.{◌≡◌, ℕ, true, false, List, length, All, Result, Ok, Err}
 use Rattle.frame_terms.specs.declared.fault.ReadRefusal.TheVariants.{Frame}
-use Rattle.vote_terms.specs.Votes.{VoteFacts}
+use Rattle.vote_terms.specs.Votes.{ReadVote}
 use Rattle.vote_terms.specs.Counts.{over}
 use Rattle.vote_terms.specs.Held.{held}
 use Rattle.vote_terms.specs.Acceptable.{IsAcceptable, IsFirstRefused}
@@ -16,7 +16,7 @@ use Rattle.authority_daemon.specs.Votes.{votes_of}
 -- The input is votes, each acceptable, and those that are held are of more than half of the roster. The text is that of
 -- their consensus.
 pub record Computes (wanted : Compute) (bytes text : List ℕ) : Type 0 where
-  pub votes : List VoteFacts
+  pub votes : List ReadVote
   pub read : votes_of bytes ≡ Ok votes
   pub acceptable : All (λ vote. IsAcceptable wanted.roster wanted.valid_after vote) votes
   pub enough : over (length (held votes)) (length wanted.roster) ≡ true
@@ -24,13 +24,13 @@ pub record Computes (wanted : Compute) (bytes text : List ℕ) : Type 0 where
 
 -- The input is votes, and the one with this number, from 1, is the first that is not acceptable, by this word.
 pub record RefusesVote (wanted : Compute) (bytes : List ℕ) (number : ℕ) (word : VoteWord) : Type 0 where
-  pub votes : List VoteFacts
+  pub votes : List ReadVote
   pub read : votes_of bytes ≡ Ok votes
   pub first : IsFirstRefused wanted.roster wanted.valid_after votes number word
 
 -- The input is votes, each acceptable, and those that are held are not of more than half of the roster.
 pub record HasTooFew (wanted : Compute) (bytes : List ℕ) (count roster : ℕ) : Type 0 where
-  pub votes : List VoteFacts
+  pub votes : List ReadVote
   pub read : votes_of bytes ≡ Ok votes
   pub acceptable : All (λ vote. IsAcceptable wanted.roster wanted.valid_after vote) votes
   pub count_is : count ≡ length (held votes)
@@ -46,7 +46,7 @@ ComputeAnswers wanted bytes (Err (refusal.TooFew count roster)) = HasTooFew want
 
 -- The input is acceptable votes of more than half of the roster.
 pub record CanCompute (wanted : Compute) (bytes : List ℕ) : Type 0 where
-  pub votes : List VoteFacts
+  pub votes : List ReadVote
   pub read : votes_of bytes ≡ Ok votes
   pub acceptable : All (λ vote. IsAcceptable wanted.roster wanted.valid_after vote) votes
   pub enough : over (length (held votes)) (length wanted.roster) ≡ true

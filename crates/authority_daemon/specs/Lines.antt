@@ -48,6 +48,8 @@ fault_parts place (reason.Twice keyword) = at_place place (codes "twice ") (text
 fault_parts place reason.Order = at_place place (codes "order") []
 fault_parts place (reason.TooMany limit) = codes "limit " ∷ limit_name limit ∷ codes " " ∷ decimal (limit_number limit) ∷ end ∷ []
 fault_parts place reason.Value = at_place place (codes "value") []
+fault_parts place reason.Unsorted = at_place place (codes "unsorted") []
+fault_parts place reason.DuplicateEd = at_place place (codes "duplicate ed25519") []
 
 abbrev pub word_text : VoteWord → List ℕ
 word_text word.ValidAfter = codes "valid-after"
@@ -96,6 +98,8 @@ fault_number (reason.Twice keyword) = 5
 fault_number reason.Order = 5
 fault_number (reason.TooMany limit) = 9
 fault_number reason.Value = 5
+fault_number reason.Unsorted = 5
+fault_number reason.DuplicateEd = 5
 
 abbrev pub refusal_number : Refusal → ℕ
 refusal_number (refusal.Document fault) = fault_number fault.reason

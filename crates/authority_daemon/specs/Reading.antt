@@ -3,13 +3,17 @@ use Rattle.std.specs.Prelude.{◌≡◌, ℕ, List, Result, Ok, Err}
 use Rattle.std.specs.Global.{Vec}
 use Rattle.frame_terms.specs.declared.fault.ReadRefusal.{ReadRefusal}
 use Rattle.frame_terms.specs.Refusals.{Fails}
-use Rattle.vote_terms.specs.Votes.{VoteFacts}
+use Rattle.vote_terms.specs.Votes.{ReadVote}
 use Rattle.authority_daemon.specs.Votes.{vote_at}
 
-abbrev pub ReadsAt : ℕ → List ℕ → Result (VoteFacts × ℕ) ReadRefusal → Type 0
+abbrev pub ReadsAt : ℕ → List ℕ → Result (ReadVote × ℕ) ReadRefusal → Type 0
 ReadsAt place rest (Ok (vote, used)) = vote_at place rest ≡ Ok (vote, used)
 ReadsAt place rest (Err refusal) = Fails refusal (vote_at place rest)
 
-abbrev pub ReadsVotes : Result (List VoteFacts) ReadRefusal → Result (Vec VoteFacts) ReadRefusal → Type 0
+abbrev pub ReadsVotes : Result (List ReadVote) ReadRefusal → Result (Vec ReadVote) ReadRefusal → Type 0
 ReadsVotes read (Ok votes) = read ≡ Ok votes.items
 ReadsVotes read (Err refusal) = Fails refusal read
+
+abbrev pub ReadsOneVote : Result ReadVote ReadRefusal → Result ReadVote ReadRefusal → Type 0
+ReadsOneVote read (Ok vote) = read ≡ Ok vote
+ReadsOneVote read (Err refusal) = Fails refusal read

@@ -28,6 +28,8 @@ KnowsWords given _ = (c : Command) × (given ≡ Some c)
 -- whether a command reads the input
 abbrev pub reads_input : Command → Bool
 reads_input (command.Compute wanted) = true
+reads_input (command.Check kind) = true
+reads_input (command.Show kind) = true
 
 -- an input past the limit is said to be so, and no other is
 abbrev pub KeepsLimit : Command → List ℕ → Status → Type 0

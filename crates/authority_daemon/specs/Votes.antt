@@ -10,7 +10,7 @@ use Rattle.frame_terms.specs.declared.row.Limit.TheVariants.{Votes}
 use Rattle.frame_terms.specs.declared.section.DocKind.TheVariants.{Vote}
 use Rattle.frame_terms.specs.Decisions.{first_fault}
 use Rattle.frame_terms.specs.Refusals.{of_doc}
-use Rattle.vote_terms.specs.Votes.{VoteFacts}
+use Rattle.vote_terms.specs.Votes.{ReadVote}
 use Rattle.vote_doc.specs.Reading.{vote_of}
 
 -- more bytes than an input has
@@ -27,10 +27,10 @@ shifted place (Frame fault) = Frame (record { place = plus place fault.place; re
 shifted place Memory = Memory
 
 -- the vote that begins at a place of the input, and how many bytes it has
-abbrev pub vote_at : ℕ → List ℕ → Result (VoteFacts × ℕ) ReadRefusal
+abbrev pub vote_at : ℕ → List ℕ → Result (ReadVote × ℕ) ReadRefusal
 vote_at place rest = at_place place (vote_of rest)
   where
-    at_place : ℕ → Result (VoteFacts × ℕ) ReadRefusal → Result (VoteFacts × ℕ) ReadRefusal
+    at_place : ℕ → Result (ReadVote × ℕ) ReadRefusal → Result (ReadVote × ℕ) ReadRefusal
     at_place place (Ok read) = Ok read
     at_place place (Err refusal) = Err (shifted place refusal)
 
@@ -51,25 +51,25 @@ one_more rest = by_first (items_of no_limit rest).items (items_of no_limit rest)
 
 -- ---- the votes
 
-abbrev pub then_votes : Result (VoteFacts × ℕ) ReadRefusal → (VoteFacts × ℕ → Result (List VoteFacts) ReadRefusal) → Result (List VoteFacts) ReadRefusal
+abbrev pub then_votes : Result (ReadVote × ℕ) ReadRefusal → (ReadVote × ℕ → Result (List ReadVote) ReadRefusal) → Result (List ReadVote) ReadRefusal
 then_votes (Ok read) more = more read
 then_votes (Err refusal) more = Err refusal
 
-abbrev pub with_front : List VoteFacts → Result (List VoteFacts) ReadRefusal → Result (List VoteFacts) ReadRefusal
+abbrev pub with_front : List ReadVote → Result (List ReadVote) ReadRefusal → Result (List ReadVote) ReadRefusal
 with_front front (Ok votes) = Ok (front ++ votes)
 with_front front (Err refusal) = Err refusal
 
 -- no votes where the input ends, and else this
-abbrev pub unless_end : Option ReadRefusal → Result (List VoteFacts) ReadRefusal → Result (List VoteFacts) ReadRefusal
+abbrev pub unless_end : Option ReadRefusal → Result (List ReadVote) ReadRefusal → Result (List ReadVote) ReadRefusal
 unless_end None votes = Ok []
 unless_end (Some refusal) votes = votes
 
-abbrev pub refused_at : ℕ → Option ReadRefusal → Result (List VoteFacts) ReadRefusal
+abbrev pub refused_at : ℕ → Option ReadRefusal → Result (List ReadVote) ReadRefusal
 refused_at place None = Ok []
 refused_at place (Some refusal) = Err (shifted place refusal)
 
 -- the votes from a place of the input on, of which there may be so many
-unfoldable pub votes_from : ℕ → ℕ → List ℕ → Result (List VoteFacts) ReadRefusal
+unfoldable pub votes_from : ℕ → ℕ → List ℕ → Result (List ReadVote) ReadRefusal
 votes_from zero place rest = refused_at place (one_more rest)
 votes_from (suc room) place rest =
     unless_end (one_more rest) (then_votes (vote_at place rest) (λ read. with_front (read.0 ∷ []) (votes_from room (plus place read.1) (drop read.1 rest))))
@@ -79,5 +79,5 @@ abbrev pub most_votes : ℕ
 most_votes = 64
 
 -- the votes that the input is, or its first fault
-abbrev pub votes_of : List ℕ → Result (List VoteFacts) ReadRefusal
+abbrev pub votes_of : List ℕ → Result (List ReadVote) ReadRefusal
 votes_of bytes = votes_from most_votes 0 bytes

@@ -1,7 +1,9 @@
 //! The directory authority's daemon and tool: the words, the input, the text that is written, and the status.
 #![tactic(auto)]
 
+mod blanks;
 mod compute;
+mod documents;
 mod program;
 mod reading;
 mod report;

@@ -8,6 +8,7 @@ ghost use Rattle.authority_daemon.specs.Commands.{Answers, Answered};
 ghost use Rattle.authority_daemon.specs.Runs.{Told, KnowsWords, KeepsLimit, Ends, WritesOnlyAnswers, ReadsThrough, Reports, MustAnswer, IsDoneOrMemory};
 
 use crate::compute::compute;
+use crate::documents::{check, show};
 use crate::report::report;
 use crate::status::{Status, Stop};
 use daemon_words::{Command, command_of};
@@ -109,5 +110,7 @@ fn answer(alloc: Global, command: &Command, bytes: &[u8]) -> Result<Vec<u8>, Sto
 {
     match command {
         Command::Compute(wanted) => compute(alloc, wanted, bytes),
+        Command::Check(kind) => check(alloc, *kind, bytes),
+        Command::Show(kind) => show(alloc, *kind, bytes),
     }
 }

@@ -123,6 +123,8 @@ fn report_fault<E: Sink>(errors: &mut E, place: u64, reason: FrameReason)
         FrameReason::Twice(keyword) => report_at(errors, place, b"twice ", keyword.text()),
         FrameReason::Order => report_at(errors, place, b"order", b""),
         FrameReason::Value => report_at(errors, place, b"value", b""),
+        FrameReason::Unsorted => report_at(errors, place, b"unsorted", b""),
+        FrameReason::DuplicateEd => report_at(errors, place, b"duplicate ed25519", b""),
         FrameReason::TooMany(limit) => {
             let mut most = itoa::Buffer::new();
             let most = most.format(limit.number());

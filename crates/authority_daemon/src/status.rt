@@ -90,8 +90,12 @@ fn fault_number(reason: FrameReason) -> u8
         },
         FrameReason::TooMany(_) => 9,
         FrameReason::NotBuilt(_) => 14,
-        FrameReason::Missing(_) | FrameReason::Order | FrameReason::Twice(_) | FrameReason::Value =>
-            5,
+        FrameReason::Missing(_)
+        | FrameReason::Order
+        | FrameReason::Twice(_)
+        | FrameReason::Value
+        | FrameReason::Unsorted
+        | FrameReason::DuplicateEd => 5,
     }
 }
 

@@ -1,4 +1,6 @@
 // Whole runs on the votes of three or four authorities.
+mod checking;
+mod showing;
 mod texts;
 mod votes;
 
@@ -277,6 +279,16 @@ fn other_statuses_have_lines(rt: HostRuntime) -> Result<(), Fail> {
             "limit vote 16777216\n",
         ),
         (limit(DocReason::ObjectTooLong), 9, "limit object 65536\n"),
+        (
+            fault(FrameReason::Unsorted),
+            5,
+            "document fault at 0: unsorted\n",
+        ),
+        (
+            fault(FrameReason::DuplicateEd),
+            5,
+            "document fault at 0: duplicate ed25519\n",
+        ),
     ];
     for (status, number, line) in cases {
         let mut errors = sink(rt.alloc(), &[])?;
@@ -288,6 +300,9 @@ fn other_statuses_have_lines(rt: HostRuntime) -> Result<(), Fail> {
 }
 
 fn limit(reason: DocReason) -> Status {
-    let reason = FrameReason::Doc(reason);
+    fault(FrameReason::Doc(reason))
+}
+
+fn fault(reason: FrameReason) -> Status {
     Status::Refused(Refusal::Document(FrameFault { place: 0, reason }))
 }

@@ -1,5 +1,5 @@
 use Rattle.std.proofs.Common.{◌≡◌, ◌+◌, ◌<◌, ◌∙◌, List, length, get_or, ap, sym, subst, arith}
-use Rattle.vote_terms.specs.Votes.{VoteFacts}
+use Rattle.vote_terms.specs.Votes.{ReadVote}
 use Rattle.vote_terms.specs.Held.{placed}
 use Rattle.vote_terms.specs.Acceptable.{IsAcceptable, IsFirstRefused}
 use Rattle.vote_doc.specs.Holdings.{Holding}
@@ -27,12 +27,12 @@ votes-preserved c =
     let now = c.votes.accepted.votes in
     let lt : n < length all = within all left n c.votes.invariant.rest (omega arith) in
     let is : vote ≡ get_or all n vote = first all left n vote c.votes.invariant.rest c.remove-vote.ensures.value in
-    let after : c.place.new.self.votes ≡ placed now vote = ap (λ (h : Holding). h.votes) c.place.ensures.votes ∙ ap (λ (v : VoteFacts). placed now v) c.in-Ok.ensures.accepted.0 in
+    let after : c.place.new.self.votes ≡ placed now vote = ap (λ (h : Holding). h.votes) c.place.ensures.votes ∙ ap (λ (v : ReadVote). placed now v) c.in-Ok.ensures.accepted.0 in
     record {
       within = omega arith;
       rest = others all left c.remove-vote.new.self.items n c.votes.invariant.rest c.remove-vote.ensures.items;
       acceptable = one_more (λ v. IsAcceptable c.args.wanted.now.roster c.args.wanted.now.valid_after v) all n vote lt is c.votes.invariant.acceptable c.in-Ok.ensures.accepted.1;
       held_is = one_more_held all n vote now c.place.new.self.votes lt is c.votes.invariant.held_is after;
       room = ap (λ (h : Holding). h.room) c.place.ensures.votes ∙ c.votes.invariant.room;
-      few = omega (arith, ap (λ (l : List VoteFacts). length l) after, placing.one_more now vote, c.votes.invariant.few);
+      few = omega (arith, ap (λ (l : List ReadVote). length l) after, placing.one_more now vote, c.votes.invariant.few);
     }

@@ -1,0 +1,69 @@
+-- The document that an input is: one, with nothing but blank lines before and after it.
+use Rattle.std.specs.Prelude.{◌≡◌, ℕ, List, codes, ◌++◌, Option, Some, None, Result, Ok, Err}
+use Rattle.frame_terms.specs.declared.fault.FrameReason.TheVariants.{Order}
+use Rattle.frame_terms.specs.declared.fault.ReadRefusal.{ReadRefusal}
+use Rattle.frame_terms.specs.declared.fault.ReadRefusal.TheVariants.{Frame}
+use Rattle.frame_terms.specs.Refusals.{refused}
+use Rattle.vote_terms.specs.Votes.{ReadVote}
+use Rattle.vote_terms.specs.Facts.{said as facts_in}
+use Rattle.vote_text.specs.Texts.{vote_text}
+use Rattle.vote_doc.specs.Reading.{vote_of}
+use Rattle.daemon_words.specs.declared.command.Kind.{Kind}
+use Rattle.daemon_words.specs.declared.command.Kind.TheVariants as kind
+use Rattle.authority_daemon.specs.Blanks.{after_blanks}
+use Rattle.authority_daemon.specs.Lines.{end}
+use Rattle.authority_daemon.specs.declared.status.Refusal.{Refusal}
+use Rattle.authority_daemon.specs.declared.status.Refusal.TheVariants as refusal
+
+-- what was read, a line for each kind
+pub data Document : Type 0 where
+  vote : ReadVote → Document
+
+-- what was read, unless another line stands at a place behind it: that line is out of order
+abbrev pub unless_more : {X : Type 0} → X → Option ℕ → Result X ReadRefusal
+unless_more document None = Ok document
+unless_more document (Some place) = Err (refused place Order)
+
+-- what was read, where nothing but blank lines follows
+abbrev pub alone : {X : Type 0} → List ℕ → Result (X × ℕ) ReadRefusal → Result X ReadRefusal
+alone bytes (Ok (document, used)) = unless_more document (after_blanks used bytes)
+alone bytes (Err refusal) = Err refusal
+
+-- the vote that the input is, or its first fault
+abbrev pub one_vote : List ℕ → Result ReadVote ReadRefusal
+one_vote bytes = alone bytes (vote_of bytes)
+
+-- what was read, as a document
+abbrev pub as_document : {X : Type 0} → (X → Document) → Result X ReadRefusal → Result Document ReadRefusal
+as_document wrap (Ok read) = Ok (wrap read)
+as_document wrap (Err refusal) = Err refusal
+
+-- the document of a kind that the input is, or its first fault: a line for each kind
+abbrev pub document_of : Kind → List ℕ → Result Document ReadRefusal
+document_of kind.Vote bytes = as_document vote (one_vote bytes)
+
+-- what `check` says of a document that is one
+abbrev pub said : Document → List ℕ
+said document = codes "ok" ++ end
+
+-- the canonical text of a document, a line for each kind
+abbrev pub shown : Document → List ℕ
+shown (vote read) = vote_text (facts_in read)
+
+-- The input is one document of this kind, and the text is that of it.
+pub record Tells (text_of : Document → List ℕ) (kind : Kind) (bytes text : List ℕ) : Type 0 where
+  pub document : Document
+  pub read : document_of kind bytes ≡ Ok document
+  pub written : text ≡ text_of document
+
+-- what a command answers that tells something of a document: a text, or the first fault
+abbrev pub ReadAnswers : (Document → List ℕ) → Kind → List ℕ → Result (List ℕ) Refusal → Type 0
+ReadAnswers text_of kind bytes (Ok text) = Tells text_of kind bytes text
+ReadAnswers text_of kind bytes (Err (refusal.Document fault)) = document_of kind bytes ≡ Err (Frame fault)
+ReadAnswers text_of kind bytes (Err (refusal.Vote number word)) = ⊥
+ReadAnswers text_of kind bytes (Err (refusal.TooFew count roster)) = ⊥
+
+-- The input is one document of this kind.
+pub record IsDocument (kind : Kind) (bytes : List ℕ) : Type 0 where
+  pub document : Document
+  pub read : document_of kind bytes ≡ Ok document
