@@ -1,0 +1,3 @@
+pub mod LineRests
+pub mod Calls
+pub mod ReadAgain
