@@ -16,6 +16,7 @@ use std::alloc::Global;
 use vote_doc::{Vote, read, write};
 
 /// `ok`, where the input is one document of this kind, with nothing but blank lines before and after it.
+#[tactic(auto, using(crate::proofs::Telling::of_vote))]
 pub fn check(alloc: Global, kind: Kind, bytes: &[u8]) -> Result<Vec<u8>, Stop>
     requires { length bytes.now < 2 ^ 61 }
     ensures { Answered (ReadAnswers said kind bytes.now) result }
