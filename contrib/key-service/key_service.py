@@ -1,0 +1,198 @@
+#!/usr/bin/env python3
+"""An example of a key service for dirauth: answers over a Unix socket whether signatures are right, and makes them.
+
+One line each way. The kinds of key are `identity`, `signing` and `ed25519`; keys, messages and signatures are hex digits in
+lower case, `-` for an empty one.
+
+    verify <kind> <key> <message> <signature>    is answered `yes` or `no`
+    sign <kind> <key> <message>                  is answered `ok <signature>`
+
+Any other request is answered `error <why>`, which dirauth counts as a fault. Why a signature is not right, or a request
+refused, is told on standard error.
+
+`identity` and `signing` keys are RSA, as a PKCS#1 DER public key. Their message is a digest, and the signature is PKCS#1 v1.5
+with type 1 padding round the bare digest, without a DigestInfo. `ed25519` keys are the 32 bytes of the public key.
+"""
+import argparse
+import os
+import pathlib
+import socketserver
+import sys
+
+from cryptography.exceptions import InvalidSignature
+from cryptography.hazmat.primitives import serialization
+from cryptography.hazmat.primitives.asymmetric import ed25519, padding, rsa
+
+# How many bytes a line may have, with its line end.
+LINE_LIMIT = 65_536
+
+KINDS = ("identity", "signing", "ed25519")
+
+
+class Refused(Exception):
+    """A request that gets no answer but `error`, and why."""
+
+
+def value(text, name):
+    """The bytes that hex digits in lower case spell, `-` for none."""
+    if text == "-":
+        return b""
+    if not text or len(text) % 2 or any(c not in "0123456789abcdef" for c in text):
+        raise Refused(f"{name} is no lower-case hex")
+    return bytes.fromhex(text)
+
+
+def rsa_key(key):
+    """The RSA public key of a PKCS#1 DER text."""
+    try:
+        found = serialization.load_der_public_key(key)
+    except (ValueError, TypeError):
+        return None
+    if not isinstance(found, rsa.RSAPublicKey) or public_text(found) != key:
+        return None
+    return found
+
+
+def public_text(key):
+    """The text that names a public key in requests."""
+    if isinstance(key, rsa.RSAPublicKey):
+        return key.public_bytes(serialization.Encoding.DER, serialization.PublicFormat.PKCS1)
+    return key.public_bytes(serialization.Encoding.Raw, serialization.PublicFormat.Raw)
+
+
+def why_not_rsa(key, message, signature):
+    """Why an RSA signature is not right, or None where it is."""
+    public = rsa_key(key)
+    if public is None:
+        return "the key is no PKCS#1 RSA public key"
+    try:
+        found = public.recover_data_from_signature(signature, padding.PKCS1v15(), None)
+    except InvalidSignature:
+        return "the signature has not the padding of this key"
+    return None if found == message else "the signature is over another digest"
+
+
+def why_not_ed25519(key, message, signature):
+    """Why an Ed25519 signature is not right, or None where it is."""
+    try:
+        ed25519.Ed25519PublicKey.from_public_bytes(key).verify(signature, message)
+    except ValueError:
+        return "the key is no Ed25519 public key"
+    except InvalidSignature:
+        return "the signature is not of this key and message"
+    return None
+
+
+def sign_rsa(private, message):
+    """The signature round the bare digest: the library signs none without a DigestInfo."""
+    numbers = private.private_numbers()
+    modulus = numbers.public_numbers.n
+    size = (modulus.bit_length() + 7) // 8
+    if len(message) + 11 > size:
+        raise Refused("the message is too long for the key")
+    padded = b"\x00\x01" + b"\xff" * (size - len(message) - 3) + b"\x00" + message
+    return pow(int.from_bytes(padded, "big"), numbers.d, modulus).to_bytes(size, "big")
+
+
+class Keys:
+    """The private keys of a folder, by the text of their public keys."""
+
+    def __init__(self, folder):
+        self.private = {}
+        for path in sorted(pathlib.Path(folder).iterdir()):
+            if path.suffix != ".pem":
+                continue
+            key = serialization.load_pem_private_key(path.read_bytes(), None)
+            if not isinstance(key, (rsa.RSAPrivateKey, ed25519.Ed25519PrivateKey)):
+                raise SystemExit(f"{path}: neither an RSA nor an Ed25519 key")
+            self.private[public_text(key.public_key())] = key
+
+    def sign(self, kind, key, message):
+        """The signature by the private key of this public one."""
+        private = self.private.get(key)
+        if private is None:
+            raise Refused("no private key of this public key is in the folder")
+        if isinstance(private, rsa.RSAPrivateKey) == (kind == "ed25519"):
+            raise Refused("the key is of another kind")
+        return private.sign(message) if kind == "ed25519" else sign_rsa(private, message)
+
+
+def answer(keys, line, tell):
+    """The answer to a request."""
+    words = line.split(" ")
+    if len(words) < 2 or words[1] not in KINDS:
+        raise Refused("no request of a known kind of key")
+    kind = words[1]
+    if words[0] == "verify" and len(words) == 5:
+        key, message, signature = (value(w, n) for w, n in zip(words[2:], ("the key", "the message", "the signature")))
+        check = why_not_ed25519 if kind == "ed25519" else why_not_rsa
+        why = check(key, message, signature)
+        tell(f"verify {kind}: {'yes' if why is None else 'no, ' + why}")
+        return "yes" if why is None else "no"
+    if words[0] == "sign" and len(words) == 4:
+        key, message = (value(w, n) for w, n in zip(words[2:], ("the key", "the message")))
+        signature = keys.sign(kind, key, message)
+        tell(f"sign {kind}: ok")
+        return "ok " + signature.hex()
+    raise Refused("neither `verify` with four words behind it nor `sign` with three")
+
+
+class Connection(socketserver.StreamRequestHandler):
+    """One connection: a line, its answer, and so on until the other side closes."""
+
+    def handle(self):
+        while True:
+            line = self.rfile.readline(LINE_LIMIT)
+            if not line:
+                return
+            if not line.endswith(b"\n"):
+                self.server.tell("closed: a line that is too long, or cut off")
+                return
+            try:
+                text = answer(self.server.keys, line[:-1].decode("ascii"), self.server.tell)
+            except UnicodeDecodeError:
+                text = "error the request is no ASCII text"
+            except Refused as refused:
+                text = f"error {refused}"
+            if text.startswith("error"):
+                self.server.tell(text)
+            self.wfile.write(text.encode("ascii") + b"\n")
+
+
+class Service(socketserver.ThreadingMixIn, socketserver.UnixStreamServer):
+    """The service: a thread for each connection."""
+
+    daemon_threads = True
+
+    def __init__(self, path, keys, quiet):
+        self.keys = keys
+        self.tell = (lambda text: None) if quiet else (lambda text: print(text, file=sys.stderr, flush=True))
+        super().__init__(path, Connection)
+
+
+def main():
+    """Serves until it is stopped."""
+    parser = argparse.ArgumentParser(description="An example of a key service for dirauth.")
+    parser.add_argument("--keys", required=True, help="the folder with the private keys, as NAME.pem without a password")
+    parser.add_argument("--socket", default="/run/dirauth-keys", help="the path of the socket (default: %(default)s)")
+    parser.add_argument("--quiet", action="store_true", help="tell nothing on standard error")
+    given = parser.parse_args()
+    keys = Keys(given.keys)
+    if os.path.exists(given.socket):
+        os.unlink(given.socket)
+    before = os.umask(0o177)
+    try:
+        service = Service(given.socket, keys, given.quiet)
+    finally:
+        os.umask(before)
+    service.tell(f"{len(keys.private)} private keys, listening on {given.socket}")
+    try:
+        service.serve_forever()
+    except KeyboardInterrupt:
+        pass
+    finally:
+        os.unlink(given.socket)
+
+
+if __name__ == "__main__":
+    main()

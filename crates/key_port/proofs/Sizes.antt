@@ -1,0 +1,20 @@
+-- How long the parts of a request are.
+use Rattle.std.proofs.Common.{◌≡◌, ℕ, ◌+◌, ◌*◌, List, length, arith}
+use Rattle.std.proofs.lemmas.Grind.{common_steps}
+use Rattle.hex.specs.Hex.{encode_lower, lower_digits}
+use Rattle.hex.proofs.HexLemmas.{length-encode_with}
+use Rattle.key_port.specs.declared.verifier.KeyKind.{KeyKind}
+use Rattle.key_port.specs.Requests.{hex_word, kind_word, request_text}
+
+-- two digits a byte
+pub length-encode_lower : (bytes : List ℕ) → length (encode_lower bytes) ≡ 2 * length bytes
+length-encode_lower bytes = length-encode_with lower_digits bytes
+
+-- a request has eleven bytes besides its four words
+pub length-request_text : (kind : KeyKind) (key message signature : List ℕ)
+    → length (request_text kind key message signature)
+    ≡ 11 + length (kind_word kind) + length (hex_word key) + length (hex_word message) + length (hex_word signature)
+unfolding request_text
+length-request_text kind key message signature = grind (arith, common_steps)
+
+pub ruleset sizes = (length-encode_lower, length-request_text)

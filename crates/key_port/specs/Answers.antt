@@ -1,0 +1,29 @@
+-- What an answer of a verifier tells.
+use Rattle.std.specs.Prelude.{◌≡◌, ℕ, ◌+◌, ◌-◌, ◌^◌, ◌≤◌, min, Bool, true, not, List}
+use Rattle.key_port.specs.declared.verifier.KeyKind.{KeyKind}
+use Rattle.key_port.specs.declared.verifier.VerifyAnswer.{VerifyAnswer}
+use Rattle.key_port.specs.declared.verifier.VerifyAnswer.TheVariants as answer
+use Rattle.dir_bytes.specs.Causes.{Rose}
+
+-- yes comes only where the signature may be accepted, no only where it may be refused
+abbrev pub AnswersBy : Bool → Bool → VerifyAnswer → Type 0
+AnswersBy accepts refuses answer.Yes = accepts ≡ true
+AnswersBy accepts refuses answer.No = refuses ≡ true
+AnswersBy accepts refuses answer.Fault = Unit {0}
+
+-- the count of faults does not fall, and rose where the verifier failed
+abbrev pub CountsAnswers : ℕ → ℕ → VerifyAnswer → Type 0
+CountsAnswers before now answer.Yes = before ≤ now
+CountsAnswers before now answer.No = before ≤ now
+CountsAnswers before now answer.Fault = Rose before now × (before ≤ now)
+
+-- how many faults there are after an answer to keys that had so many
+abbrev pub faults_after : ℕ → VerifyAnswer → ℕ
+faults_after faults answer.Yes = faults
+faults_after faults answer.No = faults
+faults_after faults answer.Fault = min (faults + 1) (2 ^ 64 - 1)
+
+-- for each kind, key, message and signature exactly one of the two relations holds
+abbrev pub ExactlyOneHolds : (KeyKind → List ℕ → List ℕ → List ℕ → Bool) → (KeyKind → List ℕ → List ℕ → List ℕ → Bool) → Type 0
+ExactlyOneHolds may_accept may_refuse =
+    (kind : KeyKind) (key message signature : List ℕ) → may_refuse kind key message signature ≡ not (may_accept kind key message signature)

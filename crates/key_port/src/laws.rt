@@ -1,0 +1,12 @@
+// Laws of the relations. There is nothing to run.
+ghost use Rattle.key_port.specs.Answers.{ExactlyOneHolds};
+ghost use Rattle.key_port.specs.TestScheme.{AcceptsTestSignatures};
+
+use crate::test_keys::TestKeys;
+use crate::verifier::Verifier;
+
+/// The test scheme accepts the signature of a message by a key, and refuses each other one.
+pub fn test_signatures_are_accepted_or_refused()
+    ensures one { ExactlyOneHolds ⟦<TestKeys as Verifier>⟧.may_accept ⟦<TestKeys as Verifier>⟧.may_refuse }
+    ensures accepts { AcceptsTestSignatures ⟦<TestKeys as Verifier>⟧.may_accept }
+{}

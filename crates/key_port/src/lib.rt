@@ -1,0 +1,23 @@
+//! Verifiers of signatures: a key service behind a socket, and a named test scheme. No arithmetic of keys stands here.
+#![tactic(auto)]
+
+mod asking;
+mod dial;
+mod laws;
+mod request;
+mod service_keys;
+mod test_keys;
+mod unix_dial;
+mod verifier;
+
+pub use asking::exchange;
+pub use dial::Dial;
+pub use laws::test_signatures_are_accepted_or_refused;
+pub use request::request_fits;
+pub use service_keys::ServiceKeys;
+pub use test_keys::TestKeys;
+pub use unix_dial::UnixDial;
+pub use verifier::{KeyKind, Verifier, VerifyAnswer};
+
+#[cfg(test)]
+mod tests;
