@@ -7,7 +7,7 @@ use Rattle.key_port.specs.declared.verifier.KeyKind.{KeyKind}
 use Rattle.key_port.specs.declared.verifier.KeyKind.TheVariants as kind
 use Rattle.key_port.specs.declared.verifier.VerifyAnswer.{VerifyAnswer}
 use Rattle.key_port.specs.declared.verifier.VerifyAnswer.TheVariants as answer
-use Rattle.key_port.specs.Answers.{faults_after}
+use Rattle.key_port.specs.Answers.{Relation, faults_after}
 use Rattle.key_port.specs.declared.test_keys.TestKeys.{TestKeys}
 
 -- the digest of the eight bytes `test-sig`, the key and the message
@@ -25,7 +25,7 @@ abbrev pub is_test_signature : KeyKind → List ℕ → List ℕ → List ℕ �
 is_test_signature kind key message signature = bytes_eq signature (test_signature kind key message)
 
 -- a signature is accepted exactly where it is that of the message by the key
-abbrev pub AcceptsTestSignatures : (KeyKind → List ℕ → List ℕ → List ℕ → Bool) → Type 0
+abbrev pub AcceptsTestSignatures : Relation → Type 0
 AcceptsTestSignatures may_accept =
     (kind : KeyKind) (key message signature : List ℕ) → (may_accept kind key message signature ≡ true) ↔ (signature ≡ test_signature kind key message)
 

@@ -1,5 +1,5 @@
 // A key service behind a Unix socket. Nothing is told of what it sends.
-ghost use Rattle.std.specs.Prelude.{⊤};
+ghost use Rattle.std.specs.Prelude.{◌≡◌, ⊤};
 
 use crate::dial::Dial;
 use dir_bytes::{StdSink, StdSource};
@@ -15,7 +15,10 @@ pub struct UnixDial<N> {
 
 impl<N: Net> UnixDial<N> {
     /// What dials the socket of this path.
-    pub fn new(net: N, path: String) -> UnixDial<N> {
+    pub fn new(net: N, path: String) -> UnixDial<N>
+        ensures net { result.net ≡ net }
+        ensures path { result.path ≡ path }
+    {
         UnixDial { net, path }
     }
 }
