@@ -1,0 +1,48 @@
+-- When a certificate holds (dir-spec, "Creating key certificates").
+use Rattle.std.specs.Prelude.{◌≡◌, ℕ, ◌<◌, ◌≤◌, Bool, true, false, List}
+use Rattle.sha1.specs.Sha1.{sha1}
+use Rattle.dir_values.specs.Digests.{same_identity}
+use Rattle.dir_values.specs.declared.digest.Fingerprint.{Fingerprint}
+use Rattle.key_port.specs.Answers.{Relation, Rules}
+use Rattle.key_port.specs.declared.verifier.KeyKind.TheVariants as kind
+use Rattle.authority_certs.specs.declared.cert.Cert.{Cert}
+use Rattle.authority_certs.specs.declared.checking.CertAnswer.{CertAnswer}
+use Rattle.authority_certs.specs.declared.checking.CertAnswer.TheVariants as answer
+
+-- the identity that a key makes: the SHA-1 of its bytes
+abbrev pub identity_of : List ℕ → Fingerprint
+identity_of key = record { 0 = sha1 key }
+
+-- whether the certificate's fingerprint is that of its identity key
+abbrev pub names_its_key : Cert → Bool
+names_its_key cert = same_identity cert.fingerprint (identity_of cert.identity_key)
+
+-- whether a relation has the identity key's signature over the certificate
+abbrev pub certifies : Relation → Cert → Bool
+certifies has cert = has kind.Identity cert.identity_key cert.covered.0 cert.certification
+
+-- whether a relation has the signing key's signature over the digest of the identity key
+abbrev pub crosscertifies : Relation → Cert → Bool
+crosscertifies has cert = has kind.Signing cert.signing_key (sha1 cert.identity_key) cert.crosscert
+
+-- the certificate is that of its identity key, and has not expired at a moment
+pub record IsCurrent (at : ℕ) (cert : Cert) : Type 0 where
+  pub fingerprint : names_its_key cert ≡ true
+  pub expires : at < cert.expires
+
+-- The certificate holds at a moment: it is current, and both its signatures may be accepted.
+pub record IsCertified (rules : Rules) (at : ℕ) (cert : Cert) : Type 0 where
+  pub current : IsCurrent at cert
+  pub certification : certifies rules.may_accept cert ≡ true
+  pub crosscert : crosscertifies rules.may_accept cert ≡ true
+
+-- what checking answers: that it holds, or the first clause that fails. Where the verifier failed it was asked.
+abbrev pub Checks : Rules → ℕ → Cert → CertAnswer → Type 0
+Checks rules at cert answer.Checked = IsCertified rules at cert
+Checks rules at cert answer.WrongFingerprint = names_its_key cert ≡ false
+Checks rules at cert (answer.Expired moment expires) =
+    (names_its_key cert ≡ true) × (cert.expires ≤ at) × (moment ≡ at) × (expires ≡ cert.expires)
+Checks rules at cert answer.BadCertification = IsCurrent at cert × (certifies rules.may_refuse cert ≡ true)
+Checks rules at cert answer.BadCrosscert =
+    IsCurrent at cert × (certifies rules.may_accept cert ≡ true) × (crosscertifies rules.may_refuse cert ≡ true)
+Checks rules at cert answer.VerifierFault = IsCurrent at cert
