@@ -1,15 +1,10 @@
 -- What a vote that was read says, as values: numbers in place of their digits, a set in place of its words.
-use Rattle.std.specs.Prelude.{ℕ, min, List, map, option_map, unwrap_or}
-use Rattle.dir_bytes.specs.Causes.{last_moment}
+use Rattle.std.specs.Prelude.{ℕ, List, map, option_map, unwrap_or}
 use Rattle.dir_bytes.specs.Fields.{number}
 use Rattle.dir_values.specs.Arguments.{words_in}
 use Rattle.dir_values.specs.FlagSets.{as_set}
 use Rattle.vote_terms.specs.Votes.{ReadVote}
 use Rattle.vote_terms.specs.declared.facts.VoteFacts.{VoteFacts}
-
--- A moment of a vote is one of the calendar. Each that is read is, so that nothing is cut off.
-abbrev pub moment_of : ℕ → ℕ
-moment_of number = min number last_moment
 
 -- the number that a word spells; each word of a list of numbers that was read spells one
 abbrev pub number_in : List ℕ → ℕ

@@ -2,10 +2,10 @@
 use Rattle.std.specs.Prelude.{ℕ, nat_eq, nat_lt, Bool, ◌&&◌, ◌||◌, List, Option}
 use Rattle.sha1.specs.Sha1.{sha1}
 use Rattle.sha2.specs.Sha256.{sha256}
+use Rattle.authority_certs.specs.declared.cert.Cert.{Cert}
 use Rattle.dir_values.specs.declared.digest.Fingerprint.{Fingerprint}
 use Rattle.dir_values.specs.declared.digest.Digest1.{Digest1}
 use Rattle.dir_values.specs.Digests.{bytes_below}
-use Rattle.vote_terms.specs.declared.facts.CertificateFacts.{CertificateFacts}
 use Rattle.vote_terms.specs.declared.facts.SignatureFacts.{SignatureFacts}
 use Rattle.vote_terms.specs.declared.rank.Rank.{Rank}
 
@@ -35,8 +35,9 @@ pub record ReadVote : Type 0 where
   pub dir_port : ℕ
   pub or_port : ℕ
   pub contact : Option (List ℕ)
-  -- the authority's certificate, and the signature
-  pub certificate : CertificateFacts
+  -- the authority's certificate, its bytes from its first item through its last object, and the vote's signature
+  pub certificate : Cert
+  pub certificate_bytes : List ℕ
   pub signature : SignatureFacts
 
 -- the digest that names a vote, whatever its signature is made with

@@ -1,28 +1,7 @@
 // What a vote says, as values.
+use authority_certs::Cert;
 use dir_bytes::{Seq, Text};
 use dir_values::{Algorithm, Digest1, Fingerprint, FlagSet};
-
-/// What a key certificate says (dir-spec, "Creating key certificates"), but for its version. Moments are seconds since
-/// 1970-01-01 00:00:00 UTC.
-#[derive(Debug, Drop)]
-pub struct CertificateFacts {
-    /// The address of its authority, where it names one.
-    pub address: Option<Text>,
-    /// The identity of its authority.
-    pub fingerprint: Fingerprint,
-    /// The identity key.
-    pub identity_key: Text,
-    /// When the certificate was made.
-    pub published: u64,
-    /// Until when the signing key may be used.
-    pub expires: u64,
-    /// The signing key.
-    pub signing_key: Text,
-    /// The signing key's signature over the digest of the identity key.
-    pub crosscert: Text,
-    /// The identity key's signature over the certificate.
-    pub certification: Text,
-}
 
 /// What a `directory-signature` says.
 #[derive(Debug, Drop)]
@@ -74,7 +53,7 @@ pub struct VoteFacts {
     /// The text of the authority's contact, where the vote gives it.
     pub contact: Option<Text>,
     /// The authority's certificate.
-    pub certificate: CertificateFacts,
+    pub certificate: Cert,
     /// The signature.
     pub signature: SignatureFacts,
 }

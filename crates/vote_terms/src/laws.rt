@@ -1,4 +1,5 @@
 // Laws of the definitions.
+ghost use Rattle.vote_terms.specs.Acceptable.{VerifiedAreNotRefused};
 ghost use Rattle.vote_terms.specs.Flags.{KnowsFlags};
 ghost use Rattle.vote_terms.specs.Held.{HeldIsHeld, RanksAgree, HeldAgree};
 
@@ -23,4 +24,10 @@ pub fn held_agree()
 /// `BadExit`.
 pub fn knows_flags()
     ensures { KnowsFlags }
+{}
+
+/// Under a verifier that either accepts or refuses each signature, never both, none of the signatures of a vote that
+/// holds may be refused.
+pub fn verified_votes_are_not_refused()
+    ensures { VerifiedAreNotRefused }
 {}

@@ -8,7 +8,9 @@ mod rank;
 mod word;
 
 pub use consensus::{Consensus, SourceLine};
-pub use facts::{CertificateFacts, SignatureFacts, VoteFacts};
-pub use laws::{held_agree, held_is_held, knows_flags, ranks_agree};
+pub use facts::{SignatureFacts, VoteFacts};
+pub use laws::{
+    held_agree, held_is_held, knows_flags, ranks_agree, verified_votes_are_not_refused,
+};
 pub use rank::Rank;
 pub use word::VoteWord;
