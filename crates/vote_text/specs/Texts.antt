@@ -1,38 +1,17 @@
 -- The canonical text of a vote: its items in the order of the tables, with single spaces (dir-spec, "Vote and consensus
 -- status document formats"; "Creating key certificates").
-use Rattle.std.specs.Prelude.{ℕ, List, [], ◌∷◌, ◌++◌, map, Option, Some, None, option_map, codes, decimal}
+use Rattle.std.specs.Prelude.{ℕ, List, [], ◌∷◌, ◌++◌, map, option_map, codes, decimal}
 use Rattle.std.specs.List.{join_with_byte}
-use Rattle.dir_bytes.specs.FieldTexts.{moment_text, hex_text, address_text}
+use Rattle.dir_bytes.specs.FieldTexts.{hex_text, address_text}
 use Rattle.dir_values.specs.declared.algorithm.Algorithm.{Algorithm}
 use Rattle.dir_values.specs.declared.algorithm.Algorithm.TheVariants.{Sha1, Sha256}
 use Rattle.dir_values.specs.FlagSets.{set_text}
 use Rattle.dirdoc_grammar.specs.Writing.{NewItem, items_text}
-use Rattle.frame_terms.specs.Keywords.{text_of}
-use Rattle.frame_terms.specs.declared.keyword.Keyword.{Keyword}
 use Rattle.frame_terms.specs.declared.keyword.Keyword.TheVariants as the
-use Rattle.vote_terms.specs.declared.facts.CertificateFacts.{CertificateFacts}
+use Rattle.authority_certs.specs.Texts.{cert_items}
 use Rattle.vote_terms.specs.declared.facts.SignatureFacts.{SignatureFacts}
 use Rattle.vote_terms.specs.declared.facts.VoteFacts.{VoteFacts}
-use Rattle.vote_terms.specs.Facts.{moment_of}
-
--- ---- items
-
--- an item whose line has this rest, without an object
-abbrev pub bare : Keyword → List ℕ → NewItem
-bare keyword rest = record { keyword = text_of keyword; arguments = rest; object = None }
-
--- an item whose line has this rest, with an object of these words and bytes
-abbrev pub with_object : Keyword → List ℕ → List ℕ → List ℕ → NewItem
-with_object keyword rest words bytes = record { keyword = text_of keyword; arguments = rest; object = Some (record { words = words; bytes = bytes }) }
-
--- an item where there is a rest of its line
-abbrev pub item_if : Keyword → Option (List ℕ) → List NewItem
-item_if keyword None = []
-item_if keyword (Some rest) = bare keyword rest ∷ []
-
--- an item that says a moment; one past the calendar is written as its last one
-abbrev pub timed : Keyword → ℕ → NewItem
-timed keyword moment = bare keyword (moment_text (moment_of moment))
+use Rattle.frame_values.specs.Items.{bare, with_object, item_if, timed}
 
 -- ---- the rests of lines
 
@@ -87,25 +66,6 @@ flag_items facts = bare the.KnownFlags (set_text facts.known_flags) ∷ item_if 
 abbrev pub authority_items : VoteFacts → List NewItem
 authority_items facts = bare the.DirSource (source_text facts) ∷ item_if the.Contact facts.contact
 
--- whose certificate it is
-abbrev pub holder_items : CertificateFacts → List NewItem
-holder_items certificate =
-    bare the.DirKeyCertificateVersion (codes "3") ∷ item_if the.DirAddress certificate.address
-    ++ bare the.Fingerprint (hex_text certificate.fingerprint.0) ∷ []
-
--- its keys and its times
-abbrev pub key_items : CertificateFacts → List NewItem
-key_items certificate =
-    with_object the.DirIdentityKey [] (codes "RSA PUBLIC KEY") certificate.identity_key
-    ∷ timed the.DirKeyPublished certificate.published ∷ timed the.DirKeyExpires certificate.expires
-    ∷ with_object the.DirSigningKey [] (codes "RSA PUBLIC KEY") certificate.signing_key ∷ []
-
--- its signatures
-abbrev pub proof_items : CertificateFacts → List NewItem
-proof_items certificate =
-    with_object the.DirKeyCrosscert [] (codes "ID SIGNATURE") certificate.crosscert
-    ∷ with_object the.DirKeyCertification [] (codes "SIGNATURE") certificate.certification ∷ []
-
 -- the footer
 abbrev pub footer_items : SignatureFacts → List NewItem
 footer_items signature =
@@ -114,8 +74,8 @@ footer_items signature =
 -- the items of a vote that says this
 abbrev pub vote_items : VoteFacts → List NewItem
 vote_items facts =
-    kind_items facts ++ time_items facts ++ flag_items facts ++ authority_items facts ++ holder_items facts.certificate
-    ++ key_items facts.certificate ++ proof_items facts.certificate ++ footer_items facts.signature
+    kind_items facts ++ time_items facts ++ flag_items facts ++ authority_items facts ++ cert_items facts.certificate
+    ++ footer_items facts.signature
 
 -- the text of a vote that says this
 abbrev pub vote_text : VoteFacts → List ℕ

@@ -1,58 +1,17 @@
 // Writing a vote.
 ghost use Rattle.std.specs.Prelude.{◌≡◌, ◌++◌, IfOk, OnOk, codes, option_map};
-ghost use Rattle.dir_bytes.specs.FieldTexts.{hex_text, moment_text};
 ghost use Rattle.dirdoc_grammar.specs.Writing.{item_text, items_text};
-ghost use Rattle.vote_terms.specs.Facts.{moment_of};
+ghost use Rattle.frame_values.specs.Items as items;
+ghost use Rattle.authority_certs.specs.Texts.{cert_text};
 ghost use Rattle.vote_text.specs.Texts as texts;
 
-use dir_bytes::{LAST_MOMENT, Memory, Text, push_address, push_decimal, push_hex_upper, push_time};
-use dir_values::{Algorithm, Fingerprint};
-use dirdoc_grammar::{push_line, push_object};
+use authority_certs::Cert;
+use dir_bytes::{Memory, push_address, push_decimal, push_hex_upper};
+use dir_values::Algorithm;
 use frame_terms::Keyword;
+use frame_values::{push_bare, push_if, push_timed, push_with_object};
 use std::alloc::Global;
-use vote_terms::{CertificateFacts, SignatureFacts, VoteFacts};
-
-// An item without an object.
-fn push_bare(out: &mut Vec<u8>, keyword: Keyword, rest: &[u8]) -> Result<(), Memory>
-    ensures { OnOk result (out.new.items ≡ out.old.items ++ item_text (texts.bare keyword rest.now)) }
-{
-    push_line(out, keyword.text(), rest)?;
-    Ok(())
-}
-
-// An item without an object, where there is a rest of its line.
-fn push_if(out: &mut Vec<u8>, keyword: Keyword, rest: &Option<Text>) -> Result<(), Memory>
-    ensures { OnOk result (out.new.items ≡ out.old.items ++ items_text (texts.item_if keyword rest.now)) }
-{
-    match rest {
-        Some(rest) => push_bare(out, keyword, rest.as_bytes()),
-        None => Ok(()),
-    }
-}
-
-// An item with an object.
-fn push_with_object(
-    out: &mut Vec<u8>,
-    keyword: Keyword,
-    rest: &[u8],
-    words: &[u8],
-    bytes: &Text,
-) -> Result<(), Memory>
-    ensures { OnOk result (out.new.items ≡ out.old.items ++ item_text (texts.with_object keyword rest.now words.now bytes.now)) }
-{
-    push_line(out, keyword.text(), rest)?;
-    push_object(out, words, bytes.as_bytes())?;
-    Ok(())
-}
-
-// An item that says a moment.
-fn push_timed(out: &mut Vec<u8>, alloc: Global, keyword: Keyword, number: u64) -> Result<(), Memory>
-    ensures { OnOk result (out.new.items ≡ out.old.items ++ item_text (texts.timed keyword number)) }
-{
-    let mut rest = Vec::new(alloc);
-    push_time(&mut rest, number.min(LAST_MOMENT))?;
-    push_bare(out, keyword, &rest)
-}
+use vote_terms::{SignatureFacts, VoteFacts};
 
 // Numbers with single spaces between them.
 fn push_numbers(out: &mut Vec<u8>, numbers: &[u32]) -> Result<(), Memory>
@@ -71,7 +30,7 @@ fn push_numbers(out: &mut Vec<u8>, numbers: &[u32]) -> Result<(), Memory>
 
 // The item of a vote's methods, where it names them.
 fn push_methods(out: &mut Vec<u8>, alloc: Global, facts: &VoteFacts) -> Result<(), Memory>
-    ensures { OnOk result (out.new.items ≡ out.old.items ++ items_text (texts.item_if Keyword.ConsensusMethods (option_map texts.numbers_text facts.now.methods))) }
+    ensures { OnOk result (out.new.items ≡ out.old.items ++ items_text (items.item_if Keyword.ConsensusMethods (option_map texts.numbers_text facts.now.methods))) }
 {
     let Some(methods) = &facts.methods else {
         return Ok(());
@@ -92,7 +51,7 @@ fn push_kind(out: &mut Vec<u8>, alloc: Global, facts: &VoteFacts) -> Result<(), 
 
 // The item of the two delays.
 fn push_delays(out: &mut Vec<u8>, alloc: Global, facts: &VoteFacts) -> Result<(), Memory>
-    ensures { OnOk result (out.new.items ≡ out.old.items ++ item_text (texts.bare Keyword.VotingDelay (texts.delays_text facts.now))) }
+    ensures { OnOk result (out.new.items ≡ out.old.items ++ item_text (items.bare Keyword.VotingDelay (texts.delays_text facts.now))) }
 {
     let mut rest = Vec::new(alloc);
     push_decimal(&mut rest, facts.vote_seconds as u64)?;
@@ -165,71 +124,12 @@ fn push_authority(out: &mut Vec<u8>, alloc: Global, facts: &VoteFacts) -> Result
     push_if(out, Keyword::Contact, &facts.contact)
 }
 
-// The item that says whose a certificate is.
-fn push_identity(out: &mut Vec<u8>, alloc: Global, identity: Fingerprint) -> Result<(), Memory>
-    ensures { OnOk result (out.new.items ≡ out.old.items ++ item_text (texts.bare Keyword.Fingerprint (hex_text identity.0))) }
+// The authority's certificate.
+fn push_certificate(out: &mut Vec<u8>, alloc: Global, cert: &Cert) -> Result<(), Memory>
+    ensures { OnOk result (out.new.items ≡ out.old.items ++ cert_text cert.now) }
 {
-    let mut rest = Vec::new(alloc);
-    push_hex_upper(&mut rest, &identity.0)?;
-    push_bare(out, Keyword::Fingerprint, &rest)
-}
-
-// Whose certificate it is.
-fn push_holder(
-    out: &mut Vec<u8>,
-    alloc: Global,
-    certificate: &CertificateFacts,
-) -> Result<(), Memory>
-    ensures { OnOk result (out.new.items ≡ out.old.items ++ items_text (texts.holder_items certificate.now)) }
-{
-    push_bare(out, Keyword::DirKeyCertificateVersion, b"3")?;
-    push_if(out, Keyword::DirAddress, &certificate.address)?;
-    push_identity(out, alloc, certificate.fingerprint)?;
-    Ok(())
-}
-
-// The certificate's keys and times.
-fn push_keys(out: &mut Vec<u8>, alloc: Global, certificate: &CertificateFacts) -> Result<(), Memory>
-    ensures { OnOk result (out.new.items ≡ out.old.items ++ items_text (texts.key_items certificate.now)) }
-{
-    let words = b"RSA PUBLIC KEY";
-    push_with_object(
-        out,
-        Keyword::DirIdentityKey,
-        b"",
-        words,
-        &certificate.identity_key,
-    )?;
-    push_timed(out, alloc, Keyword::DirKeyPublished, certificate.published)?;
-    push_timed(out, alloc, Keyword::DirKeyExpires, certificate.expires)?;
-    push_with_object(
-        out,
-        Keyword::DirSigningKey,
-        b"",
-        words,
-        &certificate.signing_key,
-    )?;
-    Ok(())
-}
-
-// The certificate's signatures.
-fn push_proofs(out: &mut Vec<u8>, certificate: &CertificateFacts) -> Result<(), Memory>
-    ensures { OnOk result (out.new.items ≡ out.old.items ++ items_text (texts.proof_items certificate.now)) }
-{
-    push_with_object(
-        out,
-        Keyword::DirKeyCrosscert,
-        b"",
-        b"ID SIGNATURE",
-        &certificate.crosscert,
-    )?;
-    push_with_object(
-        out,
-        Keyword::DirKeyCertification,
-        b"",
-        b"SIGNATURE",
-        &certificate.certification,
-    )?;
+    let text = authority_certs::write(alloc, cert)?;
+    out.extend_from_slice(&text)?;
     Ok(())
 }
 
@@ -276,7 +176,7 @@ fn push_footer(out: &mut Vec<u8>, alloc: Global, signature: &SignatureFacts) -> 
 ///
 /// # Errors
 /// `Memory` is want of memory.
-#[tactic(auto, using(crate::proofs::ItemsTexts::sections))]
+#[tactic(auto, using(frame_values::proofs::ItemsTexts::sections))]
 pub fn write(alloc: Global, facts: &VoteFacts) -> Result<Vec<u8>, Memory>
     ensures { IfOk result (λ text. text.items ≡ texts.vote_text facts.now) }
 {
@@ -285,9 +185,7 @@ pub fn write(alloc: Global, facts: &VoteFacts) -> Result<Vec<u8>, Memory>
     push_times(&mut out, alloc, facts)?;
     push_flags(&mut out, alloc, facts)?;
     push_authority(&mut out, alloc, facts)?;
-    push_holder(&mut out, alloc, &facts.certificate)?;
-    push_keys(&mut out, alloc, &facts.certificate)?;
-    push_proofs(&mut out, &facts.certificate)?;
+    push_certificate(&mut out, alloc, &facts.certificate)?;
     push_footer(&mut out, alloc, &facts.signature)?;
     Ok(out)
 }

@@ -2,8 +2,9 @@ use Rattle.std.proofs.Common.{◌≡◌, ◌∙◌, ◌++◌, [], List, ℕ, ap}
 use Rattle.std.specs.Prelude.{codes}
 use Rattle.dirdoc_grammar.specs.Writing.{item_text}
 use Rattle.frame_terms.specs.declared.keyword.Keyword.TheVariants as the
-use Rattle.vote_text.specs.Texts.{bare, signer_text, with_object}
-use Rattle.vote_text.proofs.ItemsTexts.{link, last}
+use Rattle.frame_values.specs.Items.{bare, with_object}
+use Rattle.vote_text.specs.Texts.{signer_text}
+use Rattle.frame_values.proofs.ItemsTexts.{link, last}
 use Rattle.vote_text.proofs.writing.push_footer.Goals as goal
 
 pub returns : goal.returns

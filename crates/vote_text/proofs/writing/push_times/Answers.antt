@@ -1,8 +1,9 @@
 use Rattle.std.proofs.Common.{◌++◌, [], List, ℕ}
 use Rattle.dirdoc_grammar.specs.Writing.{item_text}
 use Rattle.frame_terms.specs.declared.keyword.Keyword.TheVariants as the
-use Rattle.vote_text.specs.Texts.{bare, timed, delays_text}
-use Rattle.vote_text.proofs.ItemsTexts.{link, last}
+use Rattle.frame_values.specs.Items.{bare, timed}
+use Rattle.vote_text.specs.Texts.{delays_text}
+use Rattle.frame_values.proofs.ItemsTexts.{link, last}
 use Rattle.vote_text.proofs.writing.push_times.Goals as goal
 
 pub returns : goal.returns
