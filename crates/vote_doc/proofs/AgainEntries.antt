@@ -1,46 +1,17 @@
 -- The items of a vote with the values that they are read with.
 use Rattle.std.proofs.Common.{ℕ, List, [], ◌∷◌, ◌++◌, Option, Some, None}
 use Rattle.std.specs.Prelude.{codes, option_map}
-use Rattle.dir_bytes.specs.FieldTexts.{moment_text, hex_text}
 use Rattle.dir_values.specs.FlagSets.{set_text}
-use Rattle.dir_values.specs.declared.digest.Fingerprint.{Fingerprint}
 use Rattle.dirdoc_grammar.specs.Writing.{NewItem}
-use Rattle.frame_terms.specs.declared.keyword.Keyword.{Keyword}
 use Rattle.frame_terms.specs.declared.keyword.Keyword.TheVariants as the
 use Rattle.frame_terms.specs.declared.value.Value.TheVariants as value
-use Rattle.vote_terms.specs.Facts.{moment_of}
-use Rattle.vote_terms.specs.declared.facts.CertificateFacts.{CertificateFacts}
 use Rattle.vote_terms.specs.declared.facts.SignatureFacts.{SignatureFacts}
 use Rattle.vote_terms.specs.declared.facts.VoteFacts.{VoteFacts}
-use Rattle.vote_text.specs.Texts.{bare, delays_text, item_if, numbers_text, signer_text, source_text, timed, with_object}
-use Rattle.vote_doc.proofs.AgainSteps.{Entry}
-use Rattle.vote_doc.proofs.WrittenValues.{lines_at, named, rest_at, source_at, start_of}
-
--- an item that says no more than that it stands
-abbrev pub silent : Keyword → List ℕ → Entry
-silent keyword rest = record { keyword = keyword; rest = rest; object = None; value = λ p. value.Nothing }
-
--- an item that says a text
-abbrev pub saying : Keyword → List ℕ → Entry
-saying keyword rest = record { keyword = keyword; rest = rest; object = None; value = λ p. value.Text (rest_at p keyword rest) }
-
--- the same where there is a text
-abbrev pub saying_if : Keyword → Option (List ℕ) → List Entry
-saying_if keyword None = []
-saying_if keyword (Some rest) = saying keyword rest ∷ []
-
--- an item that says a moment
-abbrev pub dated : Keyword → ℕ → Entry
-dated keyword moment = record { keyword = keyword; rest = moment_text (moment_of moment); object = None; value = λ p. value.Number (moment_of moment) }
-
--- an item with an object of these words and bytes
-abbrev pub holding : Keyword → List ℕ → List ℕ → Entry
-holding keyword words bytes = record {
-  keyword = keyword;
-  rest = [];
-  object = Some (record { words = words; bytes = bytes });
-  value = λ p. value.Object (lines_at p keyword [] words bytes);
-}
+use Rattle.frame_values.specs.Items.{bare, item_if, timed}
+use Rattle.vote_text.specs.Texts.{delays_text, numbers_text, signer_text, source_text}
+use Rattle.frame_values.proofs.Entries.{Entry, dated, saying, saying_if, silent}
+use Rattle.frame_values.proofs.WrittenItems.{lines_at, start_of}
+use Rattle.vote_doc.proofs.WrittenValues.{named, source_at}
 
 -- the two delays
 abbrev pub delaying : VoteFacts → Entry
@@ -59,10 +30,6 @@ sourcing facts = record {
   object = None;
   value = λ p. value.Source (source_at (start_of p the.DirSource (source_text facts)) facts);
 }
-
--- an identity
-abbrev pub identifying : Keyword → Fingerprint → Entry
-identifying keyword identity = record { keyword = keyword; rest = hex_text identity.0; object = None; value = λ p. value.Fingerprint identity }
 
 -- the signature
 abbrev pub signing : SignatureFacts → Entry
@@ -110,38 +77,6 @@ authority_entries contact facts = sourcing facts ∷ saying_if the.Contact conta
 -- the same as they are written
 abbrev pub authority_with : Option (List ℕ) → VoteFacts → List NewItem
 authority_with contact facts = bare the.DirSource (source_text facts) ∷ item_if the.Contact contact
-
--- ---- the certificate
-
--- its first item
-abbrev pub certificate_version : Entry
-certificate_version = silent the.DirKeyCertificateVersion (codes "3")
-
--- its other items but the last
-abbrev pub certificate_entries : Option (List ℕ) → CertificateFacts → List Entry
-certificate_entries address certificate =
-    saying_if the.DirAddress address
-    ++ identifying the.Fingerprint certificate.fingerprint
-    ∷ holding the.DirIdentityKey (codes "RSA PUBLIC KEY") certificate.identity_key
-    ∷ dated the.DirKeyPublished certificate.published ∷ dated the.DirKeyExpires certificate.expires
-    ∷ holding the.DirSigningKey (codes "RSA PUBLIC KEY") certificate.signing_key
-    ∷ holding the.DirKeyCrosscert (codes "ID SIGNATURE") certificate.crosscert ∷ []
-
--- its last item
-abbrev pub certification : CertificateFacts → Entry
-certification certificate = holding the.DirKeyCertification (codes "SIGNATURE") certificate.certification
-
--- its items as they are written
-abbrev pub certificate_with : Option (List ℕ) → CertificateFacts → List NewItem
-certificate_with address certificate =
-    bare the.DirKeyCertificateVersion (codes "3")
-    ∷ item_if the.DirAddress address
-    ++ bare the.Fingerprint (hex_text certificate.fingerprint.0)
-    ∷ with_object the.DirIdentityKey [] (codes "RSA PUBLIC KEY") certificate.identity_key
-    ∷ timed the.DirKeyPublished certificate.published ∷ timed the.DirKeyExpires certificate.expires
-    ∷ with_object the.DirSigningKey [] (codes "RSA PUBLIC KEY") certificate.signing_key
-    ∷ with_object the.DirKeyCrosscert [] (codes "ID SIGNATURE") certificate.crosscert
-    ∷ with_object the.DirKeyCertification [] (codes "SIGNATURE") certificate.certification ∷ []
 
 -- ---- the footer
 

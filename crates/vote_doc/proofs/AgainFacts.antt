@@ -1,61 +1,31 @@
 -- What is kept of a vote that was written says what the vote says.
-use Rattle.std.proofs.Common.{◌≡◌, ℕ, ◌+◌, ◌-◌, ◌≤◌, List, [], ◌∷◌, ◌++◌, length, take, drop, Option, Some, None, refl, ap, ◌∙◌, arith}
-use Rattle.std.specs.Prelude.{IfSome, option_map, unwrap_or}
-use Rattle.base64.specs.GeneralPurpose.{IsBytes}
-use Rattle.item_terms.specs.Items.{Item, Object}
-use Rattle.dir_bytes.specs.Causes.{last_moment}
+use Rattle.std.proofs.Common.{◌≡◌, ℕ, List, [], ◌∷◌, ◌++◌, Option, Some, None, refl, ap, ◌∙◌}
+use Rattle.std.specs.Prelude.{IfSome, option_map}
 use Rattle.dir_values.specs.Arguments.{words_in}
 use Rattle.dir_values.specs.FlagSets.{as_set, set_text}
-use Rattle.dirdoc_grammar.proofs.WrittenBytes.{decoded-body_text}
-use Rattle.dirdoc_grammar.specs.Bodies.{body_text, decoded}
-use Rattle.dirdoc_grammar.specs.InPlace.{EachInPlace, InPlace}
+use Rattle.dirdoc_grammar.specs.InPlace.{EachInPlace}
 use Rattle.dirdoc_grammar.specs.Writing.{AreWritable, all_written}
-use Rattle.frame_terms.specs.Fields.{span}
 use Rattle.frame_terms.specs.Keywords.{same}
 use Rattle.frame_terms.specs.declared.keyword.Keyword.TheVariants as the
 use Rattle.frame_terms.specs.declared.value.Taken.{Taken}
-use Rattle.vote_terms.specs.Facts.{moment_of, numbers_in}
-use Rattle.vote_terms.specs.declared.facts.CertificateFacts.{CertificateFacts}
+use Rattle.frame_values.specs.Parts.{moment_of, part}
+use Rattle.frame_values.specs.Values.{delays_in, item_at, number_in, place_in, signature_in, source_in, text_if, text_in}
+use Rattle.frame_values.proofs.Words.{flags_of_names}
+use Rattle.frame_values.proofs.Entries.{taken_of}
+use Rattle.frame_values.proofs.Places.{after_all}
+use Rattle.frame_values.proofs.StandingParts.{once, rest_part, spelled}
+use Rattle.authority_certs.proofs.CertEntries.{certificate_version}
+use Rattle.vote_terms.specs.Facts.{numbers_in}
 use Rattle.vote_terms.specs.declared.facts.SignatureFacts.{SignatureFacts}
 use Rattle.vote_terms.specs.declared.facts.VoteFacts.{VoteFacts}
 use Rattle.vote_text.specs.Texts.{footer_items, numbers_text}
-use Rattle.vote_doc.specs.Again.{AreMethods, IsCertificateInRange, IsInRange}
-use Rattle.vote_doc.specs.Facts.{bytes_in, certificate_facts, part, signature_facts}
-use Rattle.vote_doc.specs.Heads.{certificate_of}
-use Rattle.vote_doc.specs.Values.{delays_in, ends_in, item_at, number_in, place_in, signature_in, source_in, text_if, text_in}
-use Rattle.vote_doc.proofs.AgainEntries.{authority_with, certificate_version, certificate_with, footer, preamble_with, signing}
-use Rattle.vote_doc.proofs.AgainItems.{name_is_flag}
-use Rattle.vote_doc.proofs.AgainRanges.{after_all}
-use Rattle.vote_doc.proofs.AgainSections.{authority_taken, certificate_taken, footer_taken, preamble_taken}
-use Rattle.vote_doc.proofs.AgainSteps.{taken_of}
-use Rattle.vote_doc.proofs.WrittenRests.{address_part, nickname_part}
+use Rattle.vote_doc.specs.Again.{AreMethods, IsInRange}
+use Rattle.vote_doc.specs.Facts.{signature_facts}
+use Rattle.vote_doc.specs.Heads.{ends_in}
+use Rattle.vote_doc.proofs.AgainEntries.{authority_with, footer, preamble_with, signing}
+use Rattle.vote_doc.proofs.AgainSections.{authority_taken, footer_taken, preamble_taken}
+use Rattle.vote_doc.proofs.WrittenSources.{address_part, nickname_part}
 use Rattle.vote_doc.proofs.WrittenValues.{algorithm_of-named, as_set-text, numbers_in-text}
-
--- ---- texts and objects that stand in place
-
-at_span : (bytes text : List ℕ) (start : ℕ) → take (length text) (drop start bytes) ≡ text → part bytes (span start text) ≡ text
-at_span bytes text start there =
-    let count : start + length text - start ≡ length text = omega arith in
-    ap (λ (k : ℕ). take k (drop start bytes)) count ∙ there
-
--- the rest of a line
-rest_part : {bytes : List ℕ} {item : Item} → InPlace bytes item → part bytes (span item.start item.arguments) ≡ item.arguments
-rest_part {bytes} {item} there = at_span bytes item.arguments item.start there.arguments
-
--- the bytes that the lines of an object spell
-spelled_if : (text bytes : List ℕ) (object : Option Object) → IsBytes bytes → IfSome object (λ o. take (length o.text) (drop o.start text) ≡ o.text)
-    → IfSome object (λ o. o.text ≡ body_text bytes → bytes_in text (span o.start o.text) ≡ bytes)
-spelled_if text bytes None are there = there
-spelled_if text bytes (Some object) are there = λ body.
-    ap (λ (l : List ℕ). unwrap_or (decoded l) []) (at_span text object.text object.start there ∙ body) ∙ ap (λ (o : Option (List ℕ)). unwrap_or o []) (decoded-body_text bytes are)
-
-spelled : {text : List ℕ} {item : Item} (bytes : List ℕ) → IsBytes bytes → InPlace text item
-    → IfSome item.object (λ o. o.text ≡ body_text bytes → bytes_in text (span o.start o.text) ≡ bytes)
-spelled {text} {item} bytes are there = spelled_if text bytes item.object are there.object
-
--- a moment of the calendar, which is cut off twice
-once : (moment : ℕ) → moment ≤ last_moment → moment_of (moment_of moment) ≡ moment
-once moment within = omega (arith, within)
 
 abbrev as_some : List ℕ → Option (List ℕ)
 as_some text = Some text
@@ -78,7 +48,7 @@ pub record PreambleSays (bytes : List ℕ) (place : ℕ) (methods thresholds : O
 -- a text that is a set of flags
 flags_said : (text : List ℕ) (facts : VoteFacts) → IsInRange facts → text ≡ set_text facts.known_flags → as_set (words_in text) ≡ facts.known_flags
 flags_said text facts are there =
-    ap (λ (l : List ℕ). as_set (words_in l)) there ∙ as_set-text facts.known_flags are.known_flags.ascend (name_is_flag facts.known_flags are.known_flags.each)
+    ap (λ (l : List ℕ). as_set (words_in l)) there ∙ as_set-text facts.known_flags are.known_flags.ascend (flags_of_names facts.known_flags are.known_flags.each)
 
 -- a text that is numbers
 numbers_said : (text numbers : List ℕ) → AreMethods numbers → text ≡ numbers_text numbers → Some (numbers_in text) ≡ Some numbers
@@ -171,48 +141,6 @@ authority_says bytes place other (Some text) facts e = record {
   or_port = refl;
   contact_said = ap as_some (rest_part e.1.0);
 }
-
--- ---- the certificate
-
--- what was taken of it says what the certificate says
-pub certificate_says : (limit : ℕ) (bytes : List ℕ) (place : ℕ) (address : Option (List ℕ)) (facts : CertificateFacts) → IsCertificateInRange facts
-    → AreWritable limit place (certificate_with address facts) → EachInPlace bytes (all_written place (certificate_with address facts))
-    → certificate_facts bytes (certificate_of (certificate_taken place address facts)) ≡ record facts { address = address }
-unfolding same
-certificate_says limit bytes place None facts are w e =
-    let identity_key = spelled facts.identity_key w.1.1.0.object.bytes e.1.1.0 refl in
-    let signing_key = spelled facts.signing_key w.1.1.1.1.1.0.object.bytes e.1.1.1.1.1.0 refl in
-    let crosscert = spelled facts.crosscert w.1.1.1.1.1.1.0.object.bytes e.1.1.1.1.1.1.0 refl in
-    let certification = spelled facts.certification w.1.1.1.1.1.1.1.0.object.bytes e.1.1.1.1.1.1.1.0 refl in
-    let published = once facts.published are.published in
-    let expires = once facts.expires are.expires in
-    λ i. record {
-      address = None;
-      fingerprint = facts.fingerprint;
-      identity_key = identity_key i;
-      published = published i;
-      expires = expires i;
-      signing_key = signing_key i;
-      crosscert = crosscert i;
-      certification = certification i;
-    }
-certificate_says limit bytes place (Some text) facts are w e =
-    let identity_key = spelled facts.identity_key w.1.1.1.0.object.bytes e.1.1.1.0 refl in
-    let signing_key = spelled facts.signing_key w.1.1.1.1.1.1.0.object.bytes e.1.1.1.1.1.1.0 refl in
-    let crosscert = spelled facts.crosscert w.1.1.1.1.1.1.1.0.object.bytes e.1.1.1.1.1.1.1.0 refl in
-    let certification = spelled facts.certification w.1.1.1.1.1.1.1.1.0.object.bytes e.1.1.1.1.1.1.1.1.0 refl in
-    let published = once facts.published are.published in
-    let expires = once facts.expires are.expires in
-    λ i. record {
-      address = as_some (rest_part e.1.0 i);
-      fingerprint = facts.fingerprint;
-      identity_key = identity_key i;
-      published = published i;
-      expires = expires i;
-      signing_key = signing_key i;
-      crosscert = crosscert i;
-      certification = certification i;
-    }
 
 -- ---- the signature
 

@@ -1,40 +1,52 @@
 -- A vote that was written is read again.
-use Rattle.std.proofs.Common.{◌≡◌, ℕ, ◌+◌, ◌-◌, List, [], ◌++◌, length, take, drop, sym, ap, subst, ◌∙◌, append-nil, arith}
+use Rattle.std.proofs.Common.{◌≡◌, ℕ, ◌-◌, List, [], ◌++◌, length, take, drop, sym, ap, subst, ◌∙◌, append_assoc, append-nil, arith}
 use Rattle.std.specs.Prelude.{slice_range}
 use Rattle.std.proofs.Math.Seq.{take-length}
-use Rattle.item_terms.specs.Items.{Contents, Item, contents, items_from, nothing}
-use Rattle.dirdoc_grammar.proofs.ItemsAgain.{items_again}
-use Rattle.dirdoc_grammar.proofs.Places.{stand_in_place}
+use Rattle.std.proofs.lemmas.List.{length-append}
 use Rattle.dirdoc_grammar.specs.InPlace.{EachInPlace}
-use Rattle.dirdoc_grammar.specs.Writing.{AreWritable, NewItem, all_written, in_front, items_text}
+use Rattle.dirdoc_grammar.specs.Writing.{AreWritable, NewItem, all_written, items_text}
+use Rattle.frame_values.proofs.ItemsTexts.{sections}
+use Rattle.frame_values.proofs.Places.{both_writable, part_in_place, written_in_place}
+use Rattle.frame_values.proofs.StandingParts.{between_stands}
+use Rattle.authority_certs.specs.Texts.{cert_text}
+use Rattle.authority_certs.proofs.CertEntries.{certificate_same}
+use Rattle.authority_certs.proofs.CertSays.{certificate_says, whole_is}
 use Rattle.vote_terms.specs.Facts.{said}
 use Rattle.vote_terms.specs.declared.facts.VoteFacts.{VoteFacts}
 use Rattle.vote_text.specs.Texts.{vote_items, vote_text}
-use Rattle.vote_doc.specs.Again.{IsInRange, VotesAreReadAgain}
+use Rattle.vote_doc.specs.Again.{IsInRange, IsReadBack, VotesAreReadAgain, as_read}
 use Rattle.vote_doc.specs.Facts.{facts_of}
 use Rattle.vote_doc.specs.Reading.{max_vote}
-use Rattle.vote_doc.proofs.AgainFacts.{authority_says, certificate_says, footer_ends, preamble_says, signature_says}
-use Rattle.vote_doc.proofs.AgainRanges.{BothInPlace, all_written-append, both_in_place, both_writable}
+use Rattle.vote_doc.proofs.AgainFacts.{authority_says, footer_ends, preamble_says, signature_says}
 use Rattle.vote_doc.proofs.AgainVote.{authority_of, authority_place, by_sections, certificate_of, certificate_place, closed, footer_of, footer_place, kept, preamble_of, used_of, vote_read}
 
 -- the items of a vote stand in place in its text
 all_in_place : (facts : VoteFacts) → IsInRange facts → EachInPlace (vote_text facts) (all_written 0 (vote_items facts))
 all_in_place facts are =
-    let text = vote_text facts in
-    let items = vote_items facts in
-    let after = contents max_vote (0 + length (items_text items)) nothing [] in
-    let read : items_from 0 max_vote text ≡ in_front (all_written 0 items) after =
-    ap (λ (l : List ℕ). contents max_vote 0 nothing l) (sym (append-nil text)) ∙ items_again max_vote 0 items [] are.items (closed facts []) in
-    (both_in_place text (all_written 0 items) after.items (subst (λ (c : Contents). EachInPlace text c.items) read (stand_in_place 0 max_vote text))).front
+    subst (λ (l : List ℕ). EachInPlace l (all_written 0 (vote_items facts))) (append-nil (vote_text facts))
+    (written_in_place max_vote (vote_items facts) [] are.items (closed facts []))
 
--- items of two lists that stand in place
-part_in_place : (bytes : List ℕ) (place : ℕ) (items others : List NewItem) → EachInPlace bytes (all_written place (items ++ others))
-    → BothInPlace bytes (all_written place items) (all_written (place + length (items_text items)) others)
-part_in_place bytes place items others each =
-    both_in_place bytes (all_written place items) (all_written (place + length (items_text items)) others) (subst (λ (l : List Item). EachInPlace bytes l) (all_written-append place items others) each)
+-- the certificate's text stands in the vote's where its section begins
+certificate_stands : (facts : VoteFacts)
+    → take (length (items_text (certificate_of facts))) (drop (certificate_place facts) (vote_text facts)) ≡ items_text (certificate_of facts)
+certificate_stands facts =
+    let p = preamble_of facts in
+    let a = authority_of facts in
+    let c = certificate_of facts in
+    let f = footer_of facts in
+    let before = items_text p ++ items_text a in
+    let size = length (items_text c) in
+    let shape : vote_text facts ≡ before ++ (items_text c ++ items_text f) =
+    ap (λ (l : List NewItem). items_text l) (by_sections facts) ∙ sections p (a ++ (c ++ f))
+    ∙ ap (λ (l : List ℕ). items_text p ++ l) (sections a (c ++ f) ∙ ap (λ (l : List ℕ). items_text a ++ l) (sections c f))
+    ∙ sym (append_assoc (items_text p) (items_text a) (items_text c ++ items_text f)) in
+    let place : certificate_place facts ≡ length before = omega (arith, length-append (items_text p) (items_text a)) in
+    ap (λ (n : ℕ). take size (drop n (vote_text facts))) place
+    ∙ ap (λ (l : List ℕ). take size (drop (length before) l)) shape
+    ∙ between_stands before (items_text c) (items_text f)
 
 -- what is kept says what the vote says
-kept_says : (facts : VoteFacts) → IsInRange facts → said (facts_of (vote_text facts) (kept facts)) ≡ facts
+kept_says : (facts : VoteFacts) → IsInRange facts → said (facts_of (vote_text facts) (kept facts)) ≡ as_read facts
 kept_says facts are =
     let text = vote_text facts in
     let p = preamble_of facts in
@@ -49,7 +61,8 @@ kept_says facts are =
     let may_c = both_writable max_vote (certificate_place facts) c f may_a.back in
     let preamble = preamble_says text 0 facts.methods facts.flag_thresholds facts are are.methods in_p.front in
     let authority = authority_says text (authority_place facts) (certificate_place facts) facts.contact facts in_a.front in
-    let certificate = certificate_says max_vote text (certificate_place facts) facts.certificate.address facts.certificate are.certificate may_c.front in_c.front in
+    let certificate = certificate_says max_vote text (certificate_place facts) facts.certificate.address facts.certificate are.certificate.says may_c.front in_c.front
+    (certificate_stands facts) in
     let signature = signature_says max_vote text (footer_place facts) facts.signature may_c.back in_c.back in
     λ i. record {
       methods = preamble.methods_said i;
@@ -87,6 +100,14 @@ kept_whole facts are =
     let preamble = preamble_says text 0 facts.methods facts.flag_thresholds facts are are.methods in_p.front in
     whole_of text (kept facts).begin (kept facts).end preamble.begin (footer_ends (footer_place facts) facts.signature ∙ used_of facts)
 
+-- and those of its certificate are the certificate's text
+kept_certificate : (facts : VoteFacts) → (facts_of (vote_text facts) (kept facts)).certificate_bytes ≡ cert_text facts.certificate
+kept_certificate facts =
+    whole_is (vote_text facts) (certificate_place facts) facts.certificate.address facts.certificate (certificate_stands facts)
+    ∙ ap (λ (l : List NewItem). items_text l) (sym (certificate_same facts.certificate))
+
 pub votes_again : VotesAreReadAgain
 votes_again facts rest are =
-    (facts_of (vote_text facts) (kept facts), vote_read facts rest are, record { says = kept_says facts are; whole = kept_whole facts are })
+    let vote = facts_of (vote_text facts) (kept facts) in
+    let back : IsReadBack facts vote = record { says = kept_says facts are; whole = kept_whole facts are; certificate_bytes = kept_certificate facts } in
+    (vote, vote_read facts rest are, back)

@@ -16,19 +16,22 @@ use Rattle.frame_terms.specs.declared.keyword.Keyword.TheVariants as the
 use Rattle.frame_terms.specs.declared.section.DocKind.TheVariants.{Vote}
 use Rattle.frame_terms.specs.declared.section.SectionName.TheVariants.{Preamble, Authority, Certificate, Footer}
 use Rattle.frame_terms.specs.declared.value.Taken.{Taken}
+use Rattle.frame_values.proofs.Entries.{item_of, taken_of}
+use Rattle.frame_values.proofs.ItemsTexts.{sections}
+use Rattle.frame_values.proofs.Places.{after_all, after_all-same, all_written-append}
+use Rattle.frame_values.proofs.Steps.{opening}
+use Rattle.authority_certs.specs.Texts.{cert_items}
+use Rattle.authority_certs.proofs.CertEntries.{certificate_same, certificate_taken, certificate_version, certificate_with}
 use Rattle.vote_terms.specs.Votes.{ReadVote}
-use Rattle.vote_terms.specs.declared.facts.CertificateFacts.{CertificateFacts}
 use Rattle.vote_terms.specs.declared.facts.VoteFacts.{VoteFacts}
-use Rattle.vote_text.specs.Texts.{authority_items, flag_items, footer_items, holder_items, key_items, kind_items, proof_items, time_items, vote_items, vote_text}
-use Rattle.vote_doc.specs.Again.{IsInRange, certificate_items}
+use Rattle.vote_text.specs.Texts.{authority_items, flag_items, footer_items, kind_items, time_items, vote_items, vote_text}
+use Rattle.vote_doc.specs.Again.{IsInRange}
 use Rattle.vote_doc.specs.Facts.{facts_of}
 use Rattle.vote_doc.specs.Heads.{head_with, no_head, with_authority, with_certificate, with_footer, with_preamble}
 use Rattle.vote_doc.specs.Reading.{max_vote, vote_of, with_facts}
 use Rattle.vote_doc.specs.declared.head.Head.{Head}
-use Rattle.vote_doc.proofs.AgainEntries.{authority_with, certificate_version, certificate_with, footer, preamble_with, signing}
-use Rattle.vote_doc.proofs.AgainRanges.{after_all, after_all-same, all_written-append, items_text-append}
-use Rattle.vote_doc.proofs.AgainSections.{authority_read, authority_taken, authority_whole, certificate_read, certificate_taken, footer_read, footer_taken, preamble_read, preamble_taken, preamble_whole}
-use Rattle.vote_doc.proofs.AgainSteps.{item_of, opening, taken_of}
+use Rattle.vote_doc.proofs.AgainEntries.{authority_with, footer, preamble_with, signing}
+use Rattle.vote_doc.proofs.AgainSections.{authority_read, authority_taken, authority_whole, certificate_read, footer_read, footer_taken, preamble_read, preamble_taken, preamble_whole}
 
 -- ---- the sections of a vote
 
@@ -68,20 +71,17 @@ abbrev pub in_footer : VoteFacts → List Taken
 in_footer facts = footer_taken (footer_place facts) facts.signature
 
 -- lists that are joined one way and another
-joined : (k t f a h y r e : List NewItem) → k ++ t ++ f ++ a ++ h ++ y ++ r ++ e ≡ (k ++ t ++ f) ++ (a ++ ((h ++ y ++ r) ++ e))
-joined k t f a h y r e = simp append_assoc refl
+joined : (k t f a c e : List NewItem) → k ++ t ++ f ++ a ++ c ++ e ≡ (k ++ t ++ f) ++ (a ++ (c ++ e))
+joined k t f a c e = simp append_assoc refl
 
 preamble_same : (facts : VoteFacts) → kind_items facts ++ time_items facts ++ flag_items facts ≡ preamble_of facts
 preamble_same facts = simp append_assoc refl
 
-certificate_same : (facts : CertificateFacts) → certificate_items facts ≡ certificate_with facts.address facts
-certificate_same facts = simp append_assoc refl
-
 -- the items of a vote are those of its sections
 pub by_sections : (facts : VoteFacts) → vote_items facts ≡ preamble_of facts ++ (authority_of facts ++ (certificate_of facts ++ footer_of facts))
 by_sections facts =
-    joined (kind_items facts) (time_items facts) (flag_items facts) (authority_items facts) (holder_items facts.certificate) (key_items facts.certificate) (proof_items facts.certificate) (footer_items facts.signature)
-    ∙ ap (λ (l : List NewItem). l ++ (authority_of facts ++ (certificate_items facts.certificate ++ footer_of facts))) (preamble_same facts)
+    joined (kind_items facts) (time_items facts) (flag_items facts) (authority_items facts) (cert_items facts.certificate) (footer_items facts.signature)
+    ∙ ap (λ (l : List NewItem). l ++ (authority_of facts ++ (cert_items facts.certificate ++ footer_of facts))) (preamble_same facts)
     ∙ ap (λ (l : List NewItem). preamble_of facts ++ (authority_of facts ++ (l ++ footer_of facts))) (certificate_same facts.certificate)
 
 -- ---- what is read
@@ -125,7 +125,7 @@ document_read length_ facts fault more are =
     ∙ authority_read length_ (authority_place facts) facts.contact facts fault (written_c ++ more) in_p are refl whole
     ∙ ap (λ (r : Result Document ReadRefusal). onto (group Preamble in_p) r)
     (ap (λ (l : List Item). read_items Vote length_ (opening Authority in_a None) fault l) (front_and_more (certificate_place facts) c f more)
-    ∙ certificate_read length_ (certificate_place facts) facts.certificate.address facts.certificate fault (written_f ++ more) in_a are.certificate are.certificate.address fits refl (version_new (authority_place facts) facts.contact facts)
+    ∙ certificate_read length_ (certificate_place facts) facts.certificate.address facts.certificate fault (written_f ++ more) in_a are.certificate.says are.certificate.says.address fits refl (version_new (authority_place facts) facts.contact facts)
     ∙ ap (λ (r : Result Document ReadRefusal). onto (group Certificate (in_certificate facts)) r)
     (footer_read length_ (footer_place facts) facts.signature fault more (in_authority facts) are.signature refl (authority_whole (authority_place facts) facts.contact facts (certificate_place facts))))
 
@@ -144,7 +144,7 @@ used_of facts =
     sums _ _ _ (length (items_text p)) (length (items_text a)) (length (items_text c)) (length (items_text f)) end whole sizes
   where
     size_of : (items others : List NewItem) → length (items_text (items ++ others)) ≡ length (items_text items) + length (items_text others)
-    size_of items others = ap length (items_text-append items others) ∙ length-append (items_text items) (items_text others)
+    size_of items others = ap length (sections items others) ∙ length-append (items_text items) (items_text others)
 
     sums : (e t s p a c f : ℕ) → e ≡ 0 + p + a + c + f → t ≡ s → s ≡ p + (a + (c + f)) → e ≡ t
     sums e t s p a c f end whole sizes = omega (arith, end, whole, sizes)
@@ -158,7 +158,7 @@ is_open-append (item ∷ next ∷ items) other others = is_open-append (next ∷
 pub closed : (facts : VoteFacts) (rest : List ℕ) → (is_open (vote_items facts) && begins_dash rest) ≡ false
 closed facts rest =
     ap (λ (t : Bool). t && begins_dash rest)
-    (is_open-append (kind_items facts ++ time_items facts ++ flag_items facts ++ authority_items facts ++ holder_items facts.certificate ++ key_items facts.certificate ++ proof_items facts.certificate)
+    (is_open-append (kind_items facts ++ time_items facts ++ flag_items facts ++ authority_items facts ++ cert_items facts.certificate)
     (item_of footer) (item_of (signing facts.signature) ∷ []))
 
 -- what is kept of it

@@ -15,7 +15,7 @@ use Rattle.dir_values.specs.FlagSets.{Ascend, with_flag, as_set}
 use Rattle.dir_values.proofs.Orders.{AllPairs-head, AllPairs-tail}
 use Rattle.frame_terms.specs.Fields.{is_flag, is_among, no_flag}
 use Rattle.frame_terms.specs.Rows.{is_text}
-use Rattle.vote_doc.proofs.Words.{placed}
+use Rattle.frame_values.proofs.Words.{placed}
 
 abbrev Below : List ℕ → List ℕ → Type 0
 Below earlier later = bytes_below earlier later ≡ true

@@ -1,8 +1,7 @@
 -- The words of an authority in a vote that was written, and where they stand.
-use Rattle.std.proofs.Common.{◌≡◌, ℕ, ◌+◌, ◌-◌, true, List, [], ◌∷◌, ◌++◌, length, take, drop, refl, sym, ap, subst, ◌∙◌, arith, append_assoc, length-append}
+use Rattle.std.proofs.Common.{◌≡◌, ℕ, ◌+◌, true, List, [], ◌∷◌, ◌++◌, length, sym, ap, subst, ◌∙◌, arith, append_assoc, length-append}
 use Rattle.std.specs.Fmt.{decimal}
 use Rattle.std.specs.List.{join_with_byte}
-use Rattle.std.proofs.lemmas.List.{drop-drop, drop_at, take_at, take-append-drop}
 use Rattle.std.proofs.lemmas.List.Elements.{All-cons}
 use Rattle.base64.specs.GeneralPurpose.{IsBytes}
 use Rattle.dir_bytes.specs.FieldTexts.{address_text, hex_text}
@@ -10,9 +9,10 @@ use Rattle.dirdoc_grammar.specs.Writers.{is_argument}
 use Rattle.frame_terms.specs.Fields.{span, is_nickname}
 use Rattle.frame_terms.specs.declared.value.DirSource.{DirSource}
 use Rattle.vote_terms.specs.declared.facts.VoteFacts.{VoteFacts}
-use Rattle.vote_doc.specs.Facts.{part}
+use Rattle.frame_values.specs.Parts.{part}
+use Rattle.frame_values.proofs.StandingParts.{part_of_part}
 use Rattle.vote_text.specs.Texts.{source_text}
-use Rattle.vote_doc.proofs.Words.{AreWords, IsWord, two_words, word_of_address, word_of_identity, word_of_nickname, word_of_number}
+use Rattle.frame_values.proofs.Words.{AreWords, IsWord, two_words, word_of_address, word_of_identity, word_of_nickname, word_of_number}
 
 -- the words of an authority whose first one stands at a place
 abbrev pub source_at : ℕ → VoteFacts → DirSource
@@ -53,22 +53,6 @@ source_words facts name twenty bytes host =
     (All-cons IsWord d (e ∷ f ∷ []) (word_of_address facts.ip) (two_words e f (word_of_number facts.dir_port) (word_of_number facts.or_port)))))
 
 -- ---- parts of a text that stands in bytes
-
--- a part of a text that stands in a span
-pub part_of_part : (bytes : List ℕ) (start : ℕ) (front text back : List ℕ) → part bytes (span start (front ++ text ++ back)) ≡ front ++ text ++ back
-    → part bytes (span (start + length front) text) ≡ text
-part_of_part bytes start front text back there =
-    let all = front ++ text ++ back in
-    let rest = drop start bytes in
-    let count : start + length all - start ≡ length all = omega arith in
-    let cut : take (length all) rest ≡ all = sym (ap (λ (n : ℕ). take n rest) count) ∙ there in
-    let behind = drop (length all) rest in
-    let shape : all ++ behind ≡ front ++ (text ++ (back ++ behind)) = simp append_assoc in
-    let whole : rest ≡ front ++ (text ++ (back ++ behind)) = sym (take-append-drop (length all) rest) ∙ ap (λ (l : List ℕ). l ++ behind) cut ∙ shape in
-    let inner : drop (start + length front) bytes ≡ text ++ (back ++ behind) =
-    sym (drop-drop (length front) start bytes) ∙ ap (λ (l : List ℕ). drop (length front) l) whole ∙ drop_at front (text ++ (back ++ behind)) (length front) refl in
-    let size : start + length front + length text - (start + length front) ≡ length text = omega arith in
-    ap (λ (n : ℕ). take n (drop (start + length front) bytes)) size ∙ ap (λ (l : List ℕ). take (length text) l) inner ∙ take_at text (back ++ behind) (length text) refl
 
 -- the nickname of the authority
 pub nickname_part : (bytes : List ℕ) (start : ℕ) (facts : VoteFacts) → part bytes (span start (source_text facts)) ≡ source_text facts

@@ -1,105 +1,42 @@
 -- What an item of a vote says that was written and is read again: the value that it was written for.
-use Rattle.std.proofs.Common.{◌≡◌, ℕ, ◌+◌, ◌*◌, ◌/◌, ◌%◌, ◌^◌, ◌<◌, ◌≤◌, true, List, [], ◌∷◌, ◌++◌, cond, length, Option, Some, None, Ok, refl, ap, ◌∙◌, arith, length-append}
+use Rattle.std.proofs.Common.{◌≡◌, ℕ, ◌+◌, ◌^◌, ◌<◌, ◌≤◌, true, List, [], ◌∷◌, ◌++◌, cond, length, Option, Some, None, Ok, refl, ap, ◌∙◌, arith, length-append}
 use Rattle.std.specs.Prelude.{All, map, codes, is_none, unwrap_or, option_map}
 use Rattle.std.specs.List.{find}
 use Rattle.std.specs.Fmt.{decimal}
 use Rattle.std.proofs.lemmas.List.{length-map}
 use Rattle.std.proofs.lemmas.List.Elements.{All-cons, All-head, All-tail}
 use Rattle.base64.specs.GeneralPurpose.{IsBytes}
-use Rattle.item_terms.specs.Items.{Item}
-use Rattle.item_terms.specs.Words.{argument_start}
-use Rattle.dir_bytes.specs.Causes.{last_moment}
-use Rattle.dir_bytes.specs.FieldTexts.{address_text, clock_text, date_text, hex_text, moment_text}
-use Rattle.dir_bytes.proofs.ReadAgain.{address-address_text, date-date_text, number-decimal, time_of_day-clock_text}
+use Rattle.dir_bytes.specs.FieldTexts.{address_text, hex_text}
+use Rattle.dir_bytes.proofs.ReadAgain.{address-address_text, number-decimal}
 use Rattle.dir_values.specs.Arguments.{Argument, arguments_at, words_in}
 use Rattle.dir_values.specs.FlagSets.{Ascend, as_set, set_text}
 use Rattle.dir_values.specs.declared.algorithm.Algorithm.{Algorithm}
 use Rattle.dir_values.specs.declared.algorithm.Algorithm.TheVariants.{Sha1, Sha256}
 use Rattle.dir_values.specs.declared.digest.Fingerprint.{Fingerprint as Identity}
 use Rattle.dir_values.specs.declared.digest.Digest1.{Digest1}
-use Rattle.dirdoc_grammar.specs.Bodies.{begin_line, body_text}
 use Rattle.dirdoc_grammar.specs.Writers.{is_argument}
-use Rattle.dirdoc_grammar.specs.Writing.{tail, written}
+use Rattle.dirdoc_grammar.specs.Writing.{written}
 use Rattle.frame_terms.specs.Arguments.{arguments_of}
-use Rattle.frame_terms.specs.Fields.{is_flag, is_nickname, no_flag, no_number, seconds, span}
-use Rattle.frame_terms.specs.Keywords.{text_of}
+use Rattle.frame_terms.specs.Fields.{is_flag, is_nickname, no_flag, no_number, seconds}
 use Rattle.frame_terms.specs.Signatures.{signature_of}
 use Rattle.frame_terms.specs.Values.{unless_at, value_of}
 use Rattle.frame_terms.specs.declared.keyword.Keyword.{Keyword}
-use Rattle.frame_terms.specs.declared.row.Kind.TheVariants.{Rest, Nothing, Literal, Numbers, Time, Delays, Flags, Source, OneArgument, Fingerprint, Object, Signature}
-use Rattle.frame_terms.specs.declared.row.Literal.TheVariants as word
-use Rattle.frame_terms.specs.declared.row.ObjectWords.TheVariants as object
-use Rattle.frame_terms.specs.declared.value.Span.{Span}
+use Rattle.frame_terms.specs.declared.row.Kind.TheVariants.{Numbers, Delays, Flags, Source, Signature}
 use Rattle.frame_terms.specs.declared.value.Value.TheVariants as value
 use Rattle.frame_terms.specs.declared.value.VoteSignature.{VoteSignature}
-use Rattle.vote_terms.specs.Facts.{moment_of, number_in, numbers_in}
+use Rattle.vote_terms.specs.Facts.{number_in, numbers_in}
 use Rattle.vote_terms.specs.declared.facts.SignatureFacts.{SignatureFacts}
 use Rattle.vote_terms.specs.declared.facts.VoteFacts.{VoteFacts}
 use Rattle.vote_doc.specs.Facts.{algorithm_of}
-use Rattle.vote_text.specs.Texts.{algorithm_text, bare, with_object, timed, numbers_text, delays_text, source_text, signer_text}
+use Rattle.vote_text.specs.Texts.{algorithm_text, numbers_text, delays_text, source_text, signer_text}
+use Rattle.frame_values.specs.Items.{bare, with_object}
 use Rattle.vote_doc.proofs.WrittenFlags.{as_set-same, passes}
-use Rattle.vote_doc.proofs.Words.{IsWord, arguments_of_word, arguments_of_words, length-arguments_at, placed, two_words, word_of_clock, word_of_date, word_of_identity, word_of_number, words_in-join, words_of_flags, words_of_numbers}
-use Rattle.vote_doc.proofs.WrittenSteps.{argument_is, delays_is, fingerprint_is, identity_again, key_again, literal_is, named_is, no_identity, plain_is, port_again, source_is, space_first, word_is_there, time_is}
+use Rattle.frame_values.proofs.Words.{IsWord, arguments_of_words, length-arguments_at, placed, two_words, word_of_identity, word_of_number, words_in-join, words_of_flags, words_of_numbers}
+use Rattle.frame_values.proofs.ItemValues.{delays_is, identity_again, key_again, named_is, no_identity, plain_is, port_again, source_is, space_first, word_is_there}
+use Rattle.frame_values.proofs.WrittenItems.{lines_at, rest_at, start_of}
 pub use Rattle.vote_doc.proofs.WrittenSources.{source_at, source_shape, source_words, words_of_source}
 
--- ---- places
-
--- where the rest of a line begins that was written at a place
-abbrev pub start_of : ℕ → Keyword → List ℕ → ℕ
-start_of place keyword rest = argument_start place (text_of keyword ++ tail rest)
-
--- where that rest stands
-abbrev pub rest_at : ℕ → Keyword → List ℕ → Span
-rest_at place keyword rest = span (start_of place keyword rest) rest
-
--- where the lines of an object stand that was written with its item at a place: the item's rest, the object's words and its bytes
-abbrev pub lines_at : ℕ → Keyword → List ℕ → List ℕ → List ℕ → Span
-lines_at place keyword rest words bytes =
-    span (place + (length (text_of keyword ++ tail rest) + 1) + (length (begin_line words) + 1)) (body_text bytes)
-
--- ---- words and nothing
-
--- the version
-pub value_of-three : (p : ℕ) (k : Keyword) → value_of (Literal word.Three) (written p (bare k (codes "3"))) ≡ Ok value.Nothing
-value_of-three p k =
-    let text = codes "3" in
-    let start = start_of p k text in
-    literal_is word.Three (written p (bare k text)) start text (arguments_of_word start text refl) refl
-
--- the kind of document
-pub value_of-vote : (p : ℕ) (k : Keyword) → value_of (Literal word.Vote) (written p (bare k (codes "vote"))) ≡ Ok value.Nothing
-value_of-vote p k =
-    let text = codes "vote" in
-    let start = start_of p k text in
-    literal_is word.Vote (written p (bare k text)) start text (arguments_of_word start text refl) refl
-
--- an item that says nothing
-pub value_of-nothing : (item : Item) → value_of Nothing item ≡ Ok value.Nothing
-value_of-nothing item = refl
-
--- the rest of a line
-pub value_of-rest : (item : Item) → value_of Rest item ≡ Ok (value.Text (span item.start item.arguments))
-value_of-rest item = refl
-
 -- ---- times
-
--- a moment that the calendar has
-pub moment_of-same : (m : ℕ) → m ≤ last_moment → moment_of m ≡ m
-moment_of-same m within = omega (arith, within)
-
--- a moment, which is never past the calendar
-pub value_of-time : (p : ℕ) (k : Keyword) (m : ℕ) → value_of Time (written p (timed k m)) ≡ Ok (value.Number (moment_of m))
-value_of-time p k m =
-    let n = moment_of m in
-    let within : n ≤ last_moment = omega arith in
-    let day = date_text (n / 86400) in
-    let clock = clock_text (n % 86400) in
-    let start = start_of p k (moment_text n) in
-    let args = arguments_of_words start (day ∷ clock ∷ []) (two_words day clock (word_of_date (n / 86400)) (word_of_clock (n % 86400))) in
-    let sum : 86400 * (n / 86400) + n % 86400 ≡ n = omega arith in
-    time_is (written p (timed k m)) (record { place = start; text = day }) (record { place = start + length day + 1; text = clock }) (n / 86400) (n % 86400) args
-    (date-date_text (n / 86400) (omega (arith, within))) (time_of_day-clock_text (n % 86400) (omega arith))
-    ∙ ap (λ (x : ℕ). Ok (value.Number x)) sum
 
 -- two numbers of seconds
 pub value_of-delays : (p : ℕ) (k : Keyword) (facts : VoteFacts) → facts.vote_seconds ≤ 4294967295 → facts.dist_seconds ≤ 4294967295
@@ -198,40 +135,6 @@ value_of-source p k facts name twenty bytes host ip dir_port or_port =
     (record { place = fourth; text = d }) (record { place = fifth; text = e }) (record { place = sixth; text = f }) facts.identity facts.ip facts.dir_port facts.or_port
     (ap (arguments_at start) (source_shape facts) ∙ arguments_of_words start (a ∷ b ∷ c ∷ d ∷ e ∷ f ∷ []) words) name (identity_again facts.identity twenty bytes) (word_is_there c host) (address-address_text facts.ip ip)
     (port_again facts.dir_port dir_port) (port_again facts.or_port or_port)
-
--- ---- one word
-
--- a word
-pub value_of-word : (p : ℕ) (k : Keyword) (word : List ℕ) → is_argument word ≡ true → value_of OneArgument (written p (bare k word)) ≡ Ok (value.Text (rest_at p k word))
-value_of-word p k word is =
-    let start = start_of p k word in
-    argument_is (written p (bare k word)) (record { place = start; text = word }) (arguments_of_word start word is) (word_is_there word is)
-
--- a fingerprint
-pub value_of-fingerprint : (p : ℕ) (k : Keyword) (identity : Identity) → length identity.0 ≡ 20 → IsBytes identity.0
-    → value_of Fingerprint (written p (bare k (hex_text identity.0))) ≡ Ok (value.Fingerprint identity)
-value_of-fingerprint p k identity twenty bytes =
-    let text = hex_text identity.0 in
-    let start = start_of p k text in
-    fingerprint_is (written p (bare k text)) (record { place = start; text = text }) identity (arguments_of_word start text (word_of_identity identity.0 twenty bytes))
-    (identity_again identity twenty bytes)
-
--- ---- objects
-
--- a key
-pub value_of-key : (p : ℕ) (k : Keyword) (bytes : List ℕ)
-    → value_of (Object object.RsaPublicKey) (written p (with_object k [] (codes "RSA PUBLIC KEY") bytes)) ≡ Ok (value.Object (lines_at p k [] (codes "RSA PUBLIC KEY") bytes))
-value_of-key p k bytes = refl
-
--- a signature of an identity key
-pub value_of-crosscert : (p : ℕ) (k : Keyword) (bytes : List ℕ)
-    → value_of (Object object.IdSignature) (written p (with_object k [] (codes "ID SIGNATURE") bytes)) ≡ Ok (value.Object (lines_at p k [] (codes "ID SIGNATURE") bytes))
-value_of-crosscert p k bytes = refl
-
--- a signature
-pub value_of-certification : (p : ℕ) (k : Keyword) (bytes : List ℕ)
-    → value_of (Object object.Signature) (written p (with_object k [] (codes "SIGNATURE") bytes)) ≡ Ok (value.Object (lines_at p k [] (codes "SIGNATURE") bytes))
-value_of-certification p k bytes = refl
 
 -- ---- the signature of a vote
 

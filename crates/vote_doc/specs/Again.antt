@@ -1,23 +1,20 @@
 -- A vote that was written is read again (dir-spec, "Vote and consensus status document formats").
 use Rattle.std.specs.Prelude.{◌≡◌, ℕ, ◌≤◌, ◌<◌, ◌^◌, true, List, ◌++◌, length, All, IfSome, Ok}
-use Rattle.base64.specs.GeneralPurpose.{IsBytes}
 use Rattle.dir_bytes.specs.Causes.{last_moment}
 use Rattle.dir_values.specs.FlagSets.{Ascend, is_name}
 use Rattle.dirdoc_grammar.specs.Writers.{is_argument}
-use Rattle.dirdoc_grammar.specs.Writing.{NewItem, AreWritable, items_text}
+use Rattle.dirdoc_grammar.specs.Writing.{AreWritable}
 use Rattle.frame_terms.specs.Fields.{is_nickname}
+use Rattle.frame_values.specs.Ranges.{AreTwenty}
+use Rattle.authority_certs.specs.Again.{SaysInRange, as_written}
+use Rattle.authority_certs.specs.Texts.{cert_text}
+use Rattle.authority_certs.specs.declared.cert.Cert.{Cert}
 use Rattle.vote_terms.specs.Facts.{said}
 use Rattle.vote_terms.specs.Votes.{ReadVote}
-use Rattle.vote_terms.specs.declared.facts.CertificateFacts.{CertificateFacts}
 use Rattle.vote_terms.specs.declared.facts.SignatureFacts.{SignatureFacts}
 use Rattle.vote_terms.specs.declared.facts.VoteFacts.{VoteFacts}
-use Rattle.vote_text.specs.Texts.{holder_items, key_items, proof_items, vote_items, vote_text}
+use Rattle.vote_text.specs.Texts.{vote_items, vote_text}
 use Rattle.vote_doc.specs.Reading.{max_vote, vote_of}
-
--- the bytes are twenty, as those of an identity or of a key's digest
-pub record AreTwenty (bytes : List ℕ) : Type 0 where
-  pub count : length bytes ≡ 20
-  pub each : IsBytes bytes
 
 -- the consensus methods are at most 64 numbers of 32 bits
 pub record AreMethods (methods : List ℕ) : Type 0 where
@@ -30,18 +27,10 @@ pub record AreFlags (flags : List (List ℕ)) : Type 0 where
   pub ascend : Ascend flags
   pub each : All (λ flag. is_name flag ≡ true) flags
 
--- the items of a certificate that says this
-abbrev pub certificate_items : CertificateFacts → List NewItem
-certificate_items certificate = holder_items certificate ++ key_items certificate ++ proof_items certificate
-
--- The certificate says what can be read: its address is an argument, its moments are of the calendar, and its text passes no
--- limit.
-pub record IsCertificateInRange (certificate : CertificateFacts) : Type 0 where
-  pub address : IfSome certificate.address (λ address. is_argument address ≡ true)
-  pub fingerprint : AreTwenty certificate.fingerprint.0
-  pub published : certificate.published ≤ last_moment
-  pub expires : certificate.expires ≤ last_moment
-  pub fits : length (items_text (certificate_items certificate)) ≤ 65536
+-- the certificate says what can be read, and its text does not pass its limit
+pub record IsCertificateInRange (cert : Cert) : Type 0 where
+  pub says : SaysInRange cert
+  pub fits : length (cert_text cert) ≤ 65536
 
 -- the signature says what can be read
 pub record IsSignatureInRange (signature : SignatureFacts) : Type 0 where
@@ -69,10 +58,15 @@ pub record IsInRange (facts : VoteFacts) : Type 0 where
   pub signature : IsSignatureInRange facts.signature
   pub items : AreWritable max_vote 0 (vote_items facts)
 
--- the vote that is read of a vote's text says the same and has the text's bytes
+-- what a vote says that was written: its certificate's covered digest is that of the text written
+abbrev pub as_read : VoteFacts → VoteFacts
+as_read facts = record facts { certificate = as_written facts.certificate }
+
+-- the vote that is read of a vote's text says the same, has the text's bytes, and has the bytes of its certificate's text
 pub record IsReadBack (facts : VoteFacts) (vote : ReadVote) : Type 0 where
-  pub says : said vote ≡ facts
+  pub says : said vote ≡ as_read facts
   pub whole : vote.whole ≡ vote_text facts
+  pub certificate_bytes : vote.certificate_bytes ≡ cert_text facts.certificate
 
 -- A vote that was written is read again, whatever follows: what is read says the same, has the text's bytes, and ends with it.
 abbrev pub VotesAreReadAgain : Type 0

@@ -1,13 +1,59 @@
 -- What checking a vote answers.
-use Rattle.std.specs.Prelude.{◌≡◌, ℕ, List}
+use Rattle.std.specs.Prelude.{◌≡◌, ◌⊎◌, ℕ, ◌≤◌, true, false, List}
+use Rattle.dir_values.specs.Digests.{same_identity}
 use Rattle.dir_values.specs.declared.digest.Fingerprint.{Fingerprint}
+use Rattle.key_port.specs.Answers.{Rules}
+use Rattle.key_port.specs.declared.verifier.VerifyAnswer.{VerifyAnswer}
+use Rattle.key_port.specs.declared.verifier.VerifyAnswer.TheVariants as verified
+use Rattle.authority_certs.specs.Checks.{IsCertified, IsCurrent, certifies, crosscertifies}
+use Rattle.authority_certs.specs.declared.checking.CertAnswer.{CertAnswer}
+use Rattle.authority_certs.specs.declared.checking.CertAnswer.TheVariants as answer
 use Rattle.vote_terms.specs.Votes.{ReadVote}
-use Rattle.vote_terms.specs.Acceptable.{Refuses}
-use Rattle.vote_terms.specs.declared.word.VoteWord.TheVariants.{ValidAfter, Authority}
+use Rattle.vote_terms.specs.Acceptable.{IsAsked, Refuses, has_fingerprint, names_signer, signs}
+use Rattle.vote_terms.specs.declared.word.VoteWord.TheVariants as word
 use Rattle.vote_doc.specs.declared.check.VoteRefusal.{VoteRefusal}
-use Rattle.vote_doc.specs.declared.check.VoteRefusal.TheVariants.{WrongPeriod, UnknownAuthority}
+use Rattle.vote_doc.specs.declared.check.VoteRefusal.TheVariants.{WrongPeriod, UnknownAuthority, Cert, BadSignature, VerifierFault}
 
--- the first clause that the vote fails is the one that the refusal names
-abbrev pub RefusedBy : List Fingerprint → ℕ → ReadVote → VoteRefusal → Type 0
-RefusedBy roster period vote (WrongPeriod valid_after) = Refuses roster period vote ValidAfter × (valid_after ≡ vote.valid_after)
-RefusedBy roster period vote UnknownAuthority = Refuses roster period vote Authority
+-- the first clause that the vote fails is the one that the certificate's answer names
+abbrev pub RefusedByCert : Rules → List Fingerprint → ℕ → ReadVote → CertAnswer → Type 0
+RefusedByCert rules roster period vote answer.Checked = ⊥
+RefusedByCert rules roster period vote answer.WrongFingerprint = Refuses rules roster period vote word.Fingerprint
+RefusedByCert rules roster period vote (answer.Expired at expires) =
+    Refuses rules roster period vote word.Expired × (at ≡ period) × (expires ≡ vote.certificate.expires)
+RefusedByCert rules roster period vote answer.BadCertification = Refuses rules roster period vote word.Certification
+RefusedByCert rules roster period vote answer.BadCrosscert = Refuses rules roster period vote word.Crosscert
+RefusedByCert rules roster period vote answer.VerifierFault = ⊥
+
+-- the first clause that the vote fails is the one that the refusal names; where the verifier failed it was asked
+abbrev pub RefusedBy : Rules → List Fingerprint → ℕ → ReadVote → VoteRefusal → Type 0
+RefusedBy rules roster period vote (WrongPeriod valid_after) =
+    Refuses rules roster period vote word.ValidAfter × (valid_after ≡ vote.valid_after)
+RefusedBy rules roster period vote UnknownAuthority = Refuses rules roster period vote word.Authority
+RefusedBy rules roster period vote (Cert answer) = RefusedByCert rules roster period vote answer
+RefusedBy rules roster period vote BadSignature = Refuses rules roster period vote word.Signature
+RefusedBy rules roster period vote VerifierFault = IsAsked roster period vote
+
+-- ---- what the private functions say
+
+-- the certificate is the vote's authority's
+abbrev pub IsItsOwn : ReadVote → Type 0
+IsItsOwn vote = same_identity vote.certificate.fingerprint vote.identity ≡ true
+
+-- whether the vote's certificate is its authority's and holds at a moment, or the first clause that fails
+abbrev pub ChecksCert : Rules → ℕ → ReadVote → CertAnswer → Type 0
+ChecksCert rules at vote answer.Checked = IsItsOwn vote × IsCertified rules at vote.certificate
+ChecksCert rules at vote answer.WrongFingerprint = has_fingerprint vote ≡ false
+ChecksCert rules at vote (answer.Expired moment expires) =
+    (has_fingerprint vote ≡ true) × (vote.certificate.expires ≤ at) × (moment ≡ at) × (expires ≡ vote.certificate.expires)
+ChecksCert rules at vote answer.BadCertification =
+    IsItsOwn vote × IsCurrent at vote.certificate × (certifies rules.may_refuse vote.certificate ≡ true)
+ChecksCert rules at vote answer.BadCrosscert =
+    IsItsOwn vote × IsCurrent at vote.certificate × (certifies rules.may_accept vote.certificate ≡ true)
+    × (crosscertifies rules.may_refuse vote.certificate ≡ true)
+ChecksCert rules at vote answer.VerifierFault = IsItsOwn vote × IsCurrent at vote.certificate
+
+-- whether the vote's signature names its signer and may be accepted
+abbrev pub ChecksSignature : Rules → ReadVote → VerifyAnswer → Type 0
+ChecksSignature rules vote verified.Yes = (names_signer vote ≡ true) × (signs rules.may_accept vote ≡ true)
+ChecksSignature rules vote verified.No = (names_signer vote ≡ false) ⊎ (signs rules.may_refuse vote ≡ true)
+ChecksSignature rules vote verified.Fault = Unit {0}

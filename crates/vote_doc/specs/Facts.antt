@@ -1,37 +1,14 @@
 -- What a vote says, from its bytes and what was kept of its sections.
-use Rattle.std.specs.Prelude.{ℕ, List, [], slice_range, option_map, Option, unwrap_or}
+use Rattle.std.specs.Prelude.{◌≡◌, ℕ, ◌<◌, ◌^◌, List, length, slice_range, option_map, Option, unwrap_or}
 use Rattle.dir_values.specs.declared.algorithm.Algorithm.{Algorithm}
 use Rattle.dir_values.specs.declared.algorithm.Algorithm.TheVariants.{Sha1}
-use Rattle.dirdoc_grammar.specs.Bodies.{decoded}
-use Rattle.frame_terms.specs.declared.value.Span.{Span}
 use Rattle.frame_terms.specs.declared.value.VoteSignature.{VoteSignature}
-use Rattle.vote_terms.specs.Facts.{moment_of}
+use Rattle.frame_values.specs.Parts.{bytes_in, moment_of, part}
+use Rattle.authority_certs.specs.declared.cert.Cert.{Cert}
+use Rattle.authority_certs.specs.Certs.{cert_in, whole_part}
 use Rattle.vote_terms.specs.Votes.{ReadVote}
-use Rattle.vote_terms.specs.declared.facts.CertificateFacts.{CertificateFacts}
 use Rattle.vote_terms.specs.declared.facts.SignatureFacts.{SignatureFacts}
-use Rattle.vote_doc.specs.declared.head.CertificateHead.{CertificateHead}
 use Rattle.vote_doc.specs.declared.head.Head.{Head}
-
--- the text that stands in a span
-abbrev pub part : List ℕ → Span → List ℕ
-part bytes span = slice_range bytes span.start span.end
-
--- the bytes that an object's lines spell, which stand in a span. Each object that is read is base64, so that none is lost.
-abbrev pub bytes_in : List ℕ → Span → List ℕ
-bytes_in bytes lines = unwrap_or (decoded (part bytes lines)) []
-
--- what the certificate says of whose section this was kept, in these bytes
-abbrev pub certificate_facts : List ℕ → CertificateHead → CertificateFacts
-certificate_facts bytes head = record {
-  address = option_map (part bytes) head.address;
-  fingerprint = head.fingerprint;
-  identity_key = bytes_in bytes head.identity_key;
-  published = moment_of head.published;
-  expires = moment_of head.expires;
-  signing_key = bytes_in bytes head.signing_key;
-  crosscert = bytes_in bytes head.crosscert;
-  certification = bytes_in bytes head.certification;
-}
 
 -- the hash of a signature that names this one, or none
 abbrev pub algorithm_of : Option Algorithm → Algorithm
@@ -67,6 +44,13 @@ facts_of bytes head = record {
   dir_port = head.source.dir_port;
   or_port = head.source.or_port;
   contact = option_map (part bytes) head.contact;
-  certificate = certificate_facts bytes head.certificate;
+  certificate = cert_in bytes head.certificate;
+  certificate_bytes = whole_part bytes head.certificate;
   signature = signature_facts bytes head.signature;
 }
+
+-- What a vote keeps beside its bytes and what was kept of its sections: its certificate and its signature as values.
+pub record IsKept (bytes : List ℕ) (head : Head) (certificate : Cert) (signature : SignatureFacts) : Type 0 where
+  pub short : length bytes < 2 ^ 62
+  pub certificate_is : certificate ≡ cert_in bytes head.certificate
+  pub signature_is : signature ≡ signature_facts bytes head.signature

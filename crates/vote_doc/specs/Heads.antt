@@ -1,26 +1,13 @@
 -- What is kept of a vote's sections. The tables of the document see to it that each item is there which has to stand;
 -- where one is not, its value is nothing.
-use Rattle.std.specs.Prelude.{List, None}
-use Rattle.frame_terms.specs.declared.keyword.Keyword.TheVariants.{NetworkStatusVersion, ConsensusMethods, Published, ValidAfter, FreshUntil, ValidUntil, VotingDelay, KnownFlags, FlagThresholds, DirSource as DirSourceLine, Contact, DirAddress, Fingerprint, DirIdentityKey, DirKeyPublished, DirKeyExpires, DirSigningKey, DirKeyCrosscert, DirKeyCertification, DirectorySignature}
+use Rattle.std.specs.Prelude.{ℕ, ◌+◌, ◌-◌, ◌^◌, min, List, Option, Some, None}
+use Rattle.frame_terms.specs.declared.keyword.Keyword.TheVariants.{NetworkStatusVersion, ConsensusMethods, Published, ValidAfter, FreshUntil, ValidUntil, VotingDelay, KnownFlags, FlagThresholds, DirSource as DirSourceLine, Contact, DirectorySignature}
 use Rattle.frame_terms.specs.declared.section.SectionName.{SectionName}
 use Rattle.frame_terms.specs.declared.section.SectionName.TheVariants.{Preamble, Authority, Certificate, Entry, Footer}
 use Rattle.frame_terms.specs.declared.value.Taken.{Taken}
+use Rattle.authority_certs.specs.Heads as cert
 use Rattle.vote_doc.specs.declared.head.Head.{Head}
-use Rattle.vote_doc.specs.declared.head.CertificateHead.{CertificateHead}
-use Rattle.vote_doc.specs.Values.{item_at, place_in, nowhere, number_in, text_if, text_in, delays_in, no_source, source_in, no_signature, signature_in, no_identity, fingerprint_in, object_in, ends_in}
-
--- a certificate of which nothing was read
-abbrev pub no_certificate : CertificateHead
-no_certificate = record {
-  address = None;
-  fingerprint = no_identity;
-  identity_key = nowhere;
-  published = 0;
-  expires = 0;
-  signing_key = nowhere;
-  crosscert = nowhere;
-  certification = nowhere;
-}
+use Rattle.frame_values.specs.Values.{item_at, place_in, nowhere, number_in, text_if, text_in, delays_in, no_source, source_in, no_signature, signature_in}
 
 -- what is kept where nothing was read
 abbrev pub no_head : Head
@@ -37,7 +24,7 @@ no_head = record {
   flag_thresholds = None;
   source = no_source;
   contact = None;
-  certificate = no_certificate;
+  certificate = cert.no_head;
   signature = no_signature;
   signed_end = 0;
   end = 0;
@@ -62,22 +49,15 @@ with_preamble head taken = record head {
 abbrev pub with_authority : Head → List Taken → Head
 with_authority head taken = record head { source = source_in (item_at taken DirSourceLine); contact = text_if (item_at taken Contact) }
 
--- what is kept of a certificate
-abbrev pub certificate_of : List Taken → CertificateHead
-certificate_of taken = record {
-  address = text_if (item_at taken DirAddress);
-  fingerprint = fingerprint_in (item_at taken Fingerprint);
-  identity_key = object_in (item_at taken DirIdentityKey);
-  published = number_in (item_at taken DirKeyPublished);
-  expires = number_in (item_at taken DirKeyExpires);
-  signing_key = object_in (item_at taken DirSigningKey);
-  crosscert = object_in (item_at taken DirKeyCrosscert);
-  certification = object_in (item_at taken DirKeyCertification);
-}
-
 -- what is kept after a certificate
 abbrev pub with_certificate : Head → List Taken → Head
-with_certificate head taken = record head { certificate = certificate_of taken }
+with_certificate head taken = record head { certificate = cert.head_of taken }
+
+-- The places after the signed part and after the vote. The signed part ends with `directory-signature ` and thus twenty
+-- bytes into the item, the vote with the object (dir-spec, "Vote and consensus status document formats").
+abbrev pub ends_in : Option Taken → ℕ × ℕ
+ends_in None = (0, 0)
+ends_in (Some one) = (min (one.place + 20) (2 ^ 64 - 1), one.after)
 
 -- what is kept after a footer
 abbrev pub with_footer : Head → List Taken → Head

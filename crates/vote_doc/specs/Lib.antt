@@ -1,4 +1,3 @@
-pub mod Values
 pub mod Heads
 pub mod Facts
 pub mod Checks

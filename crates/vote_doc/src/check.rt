@@ -1,11 +1,19 @@
 // When a vote is acceptable.
-ghost use Rattle.std.specs.Prelude.{◌≡◌, IfOk, IfErr};
+ghost use Rattle.std.specs.Prelude.{◌≡◌, ◌≤◌, IfOk, IfErr};
+ghost use Rattle.dir_bytes.specs.Causes.{Rose};
+ghost use Rattle.key_port.specs.Answers.{rules};
+ghost use Rattle.vote_terms.specs.Acceptable as acceptable;
 ghost use Rattle.vote_terms.specs.Acceptable.{IsAcceptable};
-ghost use Rattle.vote_doc.specs.Checks.{RefusedBy};
+ghost use Rattle.vote_terms.specs.Votes.{vote_digest};
+ghost use Rattle.vote_doc.specs.Checks.{ChecksCert, ChecksSignature, RefusedBy};
 
-use crate::held::HeldVote;
+use crate::checked::CheckedVote;
 use crate::vote::Vote;
-use dir_values::Roster;
+use authority_certs::{CertAnswer, check};
+use dir_values::{Algorithm, Digest1, Roster};
+use key_port::{KeyKind, Verifier, VerifyAnswer};
+use sha1::Sha1;
+use sha2::{Digest, Sha256};
 
 /// Why a vote is not acceptable; of several the first.
 #[derive(Clone, Copy, Debug, PartialEq, Eq)]
@@ -14,16 +22,78 @@ pub enum VoteRefusal {
     WrongPeriod { valid_after: u64 },
     /// Its authority is not in the roster.
     UnknownAuthority,
+    /// Its certificate does not hold when the period begins: neither `Checked` nor `VerifierFault`. `WrongFingerprint`
+    /// also where the certificate is another authority's.
+    Cert(CertAnswer),
+    /// Its signature names another authority or another key than its certificate, or was refused.
+    BadSignature,
+    /// The verifier failed, and nothing is known.
+    VerifierFault,
 }
 
-/// The vote as one that may be held, if it is for the period that begins at `valid_after` (seconds since 1970-01-01
-/// 00:00:00 UTC) and of an authority of the roster.
+// Whether the certificate is the vote's authority's, and holds at a moment.
+fn check_certificate<V: Verifier>(vote: &Vote, at: u64, verifier: &mut V) -> CertAnswer
+    ensures answer { ChecksCert (rules V.may_accept V.may_refuse) at vote.now result }
+    ensures fault { result ≡ CertAnswer.VerifierFault → Rose (V.faults verifier.old) (V.faults verifier.new) }
+    ensures faults { V.faults verifier.old ≤ V.faults verifier.new }
+{
+    if !vote.certificate().fingerprint.is_same(&vote.identity()) {
+        return CertAnswer::WrongFingerprint;
+    }
+    check(vote.certificate(), at, verifier)
+}
+
+// Whether the vote's signature names the authority and the signing key of its certificate.
+fn names_signer(vote: &Vote) -> bool
+    ensures { result ≡ acceptable.names_signer vote.now }
+{
+    let signature = vote.signature();
+    let certificate = vote.certificate();
+    let key = Sha1::digest(certificate.signing_key.as_bytes());
+    signature.identity.is_same(&certificate.fingerprint) && signature.key_digest.0 == key
+}
+
+// Whether the vote's signature is right, where the digest of its signed part that names the vote is known.
+fn check_signature<V: Verifier>(vote: &Vote, digest: &Digest1, verifier: &mut V) -> VerifyAnswer
+    requires { digest.now ≡ vote_digest vote.now }
+    ensures answer { ChecksSignature (rules V.may_accept V.may_refuse) vote.now result }
+    ensures fault { result ≡ VerifyAnswer.Fault → Rose (V.faults verifier.old) (V.faults verifier.new) }
+    ensures faults { V.faults verifier.old ≤ V.faults verifier.new }
+{
+    if !names_signer(vote) {
+        return VerifyAnswer::No;
+    }
+    let signature = vote.signature();
+    let key = vote.certificate().signing_key.as_bytes();
+    let bytes = signature.signature.as_bytes();
+    match signature.algorithm {
+        Algorithm::Sha1 => verifier.verify(KeyKind::Signing, key, &digest.0, bytes),
+        Algorithm::Sha256 => {
+            let digest = Sha256::digest(vote.signed_part());
+            verifier.verify(KeyKind::Signing, key, &digest, bytes)
+        }
+    }
+}
+
+/// The vote as one that was checked, if it is for the period that begins at `valid_after` (seconds since 1970-01-01
+/// 00:00:00 UTC), of an authority of the roster, and its certificate and its signature hold then (dir-spec, "Creating key
+/// certificates", "Vote and consensus status document formats"). The verifier is asked for the certification, the
+/// crosscert and the vote's signature, in this order, each only where all before it holds. Takes no memory.
 ///
 /// # Errors
-/// `WrongPeriod` where it is for another period, and else `UnknownAuthority` where the roster lacks its authority.
-pub fn check_vote(vote: Vote, roster: &Roster, valid_after: u64) -> Result<HeldVote, VoteRefusal>
-    ensures accepted { IfOk result (λ held. (held ≡ vote) × IsAcceptable roster.now valid_after vote) }
-    ensures refused { IfErr result (λ refusal. RefusedBy roster.now valid_after vote refusal) }
+/// The first that applies: `WrongPeriod` where it is for another period, `UnknownAuthority` where the roster lacks its
+/// authority, `Cert` where its certificate does not hold, `BadSignature` where its signature does not; `VerifierFault`
+/// where the verifier failed, whose count of faults rose then.
+pub fn check_vote<V: Verifier>(
+    vote: Vote,
+    roster: &Roster,
+    valid_after: u64,
+    verifier: &mut V,
+) -> Result<CheckedVote<V>, VoteRefusal>
+    ensures accepted { IfOk result (λ checked. (checked ≡ vote) × IsAcceptable (rules V.may_accept V.may_refuse) roster.now valid_after vote) }
+    ensures refused { IfErr result (λ refusal. RefusedBy (rules V.may_accept V.may_refuse) roster.now valid_after vote refusal) }
+    ensures fault { IfErr result (λ refusal. refusal ≡ VoteRefusal.VerifierFault → Rose (V.faults verifier.old) (V.faults verifier.new)) }
+    ensures faults { V.faults verifier.old ≤ V.faults verifier.new }
 {
     if vote.valid_after() != valid_after {
         let valid_after = vote.valid_after();
@@ -32,5 +102,15 @@ pub fn check_vote(vote: Vote, roster: &Roster, valid_after: u64) -> Result<HeldV
     if !roster.contains(&vote.identity()) {
         return Err(VoteRefusal::UnknownAuthority);
     }
-    Ok(HeldVote::new(vote))
+    match check_certificate(&vote, valid_after, verifier) {
+        CertAnswer::Checked => (),
+        CertAnswer::VerifierFault => return Err(VoteRefusal::VerifierFault),
+        answer => return Err(VoteRefusal::Cert(answer)),
+    }
+    let digest = vote.vote_digest();
+    match check_signature(&vote, &digest, verifier) {
+        VerifyAnswer::Yes => Ok(CheckedVote::new(vote, digest)),
+        VerifyAnswer::No => Err(VoteRefusal::BadSignature),
+        VerifyAnswer::Fault => Err(VoteRefusal::VerifierFault),
+    }
 }

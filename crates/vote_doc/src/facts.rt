@@ -3,43 +3,18 @@ ghost use Rattle.std.specs.Prelude.{◌≡◌, ◌<◌, ◌^◌, IfOk, length, o
 ghost use Rattle.dir_values.specs.Arguments.{words_in};
 ghost use Rattle.dir_values.specs.FlagSets.{as_set};
 ghost use Rattle.vote_terms.specs.Facts.{number_in, numbers_in, said};
+ghost use Rattle.frame_values.specs.Parts as parts;
 ghost use Rattle.vote_doc.specs.Facts as facts;
 
-use crate::head::{CertificateHead, Head};
-use crate::vote::{Vote, moment, part};
-use dir_bytes::{Memory, Seq, Text, read_u32};
+use crate::head::Head;
+use crate::vote::Vote;
+use authority_certs::cert_at;
+use dir_bytes::{Memory, Seq, read_u32};
 use dir_values::{Algorithm, Arguments, FlagSet};
-use dirdoc_grammar::decode_lines;
 use frame_terms::{Span, VoteSignature};
+use frame_values::{copy_part, copy_part_if, decode_part, moment, part};
 use std::alloc::Global;
-use vote_terms::{CertificateFacts, SignatureFacts, VoteFacts};
-
-// A copy of the text that stands in a span.
-fn text(alloc: Global, bytes: &[u8], span: Span) -> Result<Text, Memory>
-    ensures { IfOk result (λ text. text ≡ facts.part bytes.now span) }
-{
-    Text::copy_of(alloc, part(bytes, span))
-}
-
-// The same, where there is one.
-fn text_if(alloc: Global, bytes: &[u8], span: Option<Span>) -> Result<Option<Text>, Memory>
-    ensures { IfOk result (λ text. text ≡ option_map (facts.part bytes.now) span) }
-{
-    match span {
-        Some(span) => Ok(Some(text(alloc, bytes, span)?)),
-        None => Ok(None),
-    }
-}
-
-// The bytes that an object's lines spell.
-fn object(alloc: Global, bytes: &[u8], lines: Span) -> Result<Text, Memory>
-    ensures { IfOk result (λ text. text ≡ facts.bytes_in bytes.now lines) }
-{
-    match decode_lines(alloc, part(bytes, lines))? {
-        Some(decoded) => Ok(Text::new(decoded)),
-        None => Ok(Text::new(Vec::new(alloc))),
-    }
-}
+use vote_terms::{SignatureFacts, VoteFacts};
 
 // The number that a word spells.
 fn number(word: &[u8]) -> u32
@@ -67,7 +42,7 @@ fn numbers(alloc: Global, text: &[u8]) -> Result<Seq<u32>, Memory>
 // The same, where there is a text.
 fn numbers_if(alloc: Global, bytes: &[u8], span: Option<Span>) -> Result<Option<Seq<u32>>, Memory>
     requires { length bytes.now < 2 ^ 62 }
-    ensures { IfOk result (λ numbers. numbers ≡ option_map numbers_in (option_map (facts.part bytes.now) span)) }
+    ensures { IfOk result (λ numbers. numbers ≡ option_map numbers_in (option_map (parts.part bytes.now) span)) }
 {
     match span {
         Some(span) => Ok(Some(numbers(alloc, part(bytes, span))?)),
@@ -85,26 +60,6 @@ fn set(alloc: Global, text: &[u8]) -> Result<FlagSet, Memory>
     Ok(set)
 }
 
-// What the certificate says of whose section this was kept.
-fn certificate(
-    alloc: Global,
-    bytes: &[u8],
-    head: &CertificateHead,
-) -> Result<CertificateFacts, Memory>
-    ensures { IfOk result (λ found. found ≡ facts.certificate_facts bytes.now head.now) }
-{
-    Ok(CertificateFacts {
-        address: text_if(alloc, bytes, head.address)?,
-        fingerprint: head.fingerprint,
-        identity_key: object(alloc, bytes, head.identity_key)?,
-        published: moment(head.published),
-        expires: moment(head.expires),
-        signing_key: object(alloc, bytes, head.signing_key)?,
-        crosscert: object(alloc, bytes, head.crosscert)?,
-        certification: object(alloc, bytes, head.certification)?,
-    })
-}
-
 // The hash of a signature that names this one, or none.
 fn algorithm(named: Option<Algorithm>) -> Algorithm
     ensures { result ≡ facts.algorithm_of named }
@@ -115,15 +70,22 @@ fn algorithm(named: Option<Algorithm>) -> Algorithm
     }
 }
 
-// What the signature says that was kept.
-fn signature(alloc: Global, bytes: &[u8], kept: &VoteSignature) -> Result<SignatureFacts, Memory>
+/// What the signature says that was kept.
+///
+/// # Errors
+/// `Memory` is want of memory.
+pub(crate) fn signature(
+    alloc: Global,
+    bytes: &[u8],
+    kept: &VoteSignature,
+) -> Result<SignatureFacts, Memory>
     ensures { IfOk result (λ found. found ≡ facts.signature_facts bytes.now kept.now) }
 {
     Ok(SignatureFacts {
         algorithm: algorithm(kept.algorithm),
         identity: kept.identity,
         key_digest: kept.key_digest,
-        signature: object(alloc, bytes, kept.signature)?,
+        signature: decode_part(alloc, bytes, kept.signature)?,
     })
 }
 
@@ -141,15 +103,15 @@ fn facts_of(alloc: Global, bytes: &[u8], head: &Head) -> Result<VoteFacts, Memor
         vote_seconds: head.vote_seconds,
         dist_seconds: head.dist_seconds,
         known_flags: set(alloc, part(bytes, head.known_flags))?,
-        flag_thresholds: text_if(alloc, bytes, head.flag_thresholds)?,
-        nickname: text(alloc, bytes, head.source.nickname)?,
+        flag_thresholds: copy_part_if(alloc, bytes, head.flag_thresholds)?,
+        nickname: copy_part(alloc, bytes, head.source.nickname)?,
         identity: head.source.identity,
-        address: text(alloc, bytes, head.source.address)?,
+        address: copy_part(alloc, bytes, head.source.address)?,
         ip: head.source.ip,
         dir_port: head.source.dir_port,
         or_port: head.source.or_port,
-        contact: text_if(alloc, bytes, head.contact)?,
-        certificate: certificate(alloc, bytes, &head.certificate)?,
+        contact: copy_part_if(alloc, bytes, head.contact)?,
+        certificate: cert_at(alloc, bytes, &head.certificate)?,
         signature: signature(alloc, bytes, &head.signature)?,
     })
 }

@@ -1,35 +1,14 @@
 // What is kept of a vote's sections: numbers, and where its texts stand.
 ghost use Rattle.std.specs.Prelude.{◌≡◌};
+ghost use Rattle.frame_values.specs.Values as values;
 ghost use Rattle.vote_doc.specs.Heads as heads;
 
-use crate::values::{
-    delays_at, fingerprint_at, no_identity, no_signature, no_source, nowhere, number_at, object_at,
-    place_at, signature_at, signed_to, source_at, text_at, text_if,
-};
-use dir_values::Fingerprint;
+use authority_certs::{CertHead, head_of, no_head};
 use frame_terms::{DirSource, Keyword, SectionName, Span, Taken, VoteSignature};
-
-/// What the items of a certificate say, and where its texts stand in the vote's bytes. Moments are seconds since
-/// 1970-01-01 00:00:00 UTC.
-#[derive(Clone, Copy, Debug)]
-pub(crate) struct CertificateHead {
-    /// The address of its authority.
-    pub address: Option<Span>,
-    /// The identity of its authority.
-    pub fingerprint: Fingerprint,
-    /// The lines of the identity key.
-    pub identity_key: Span,
-    /// When the certificate was made.
-    pub published: u64,
-    /// Until when the signing key may be used.
-    pub expires: u64,
-    /// The lines of the signing key.
-    pub signing_key: Span,
-    /// The lines of the signing key's signature.
-    pub crosscert: Span,
-    /// The lines of the identity key's signature.
-    pub certification: Span,
-}
+use frame_values::{
+    delays_at, item_at, no_signature, no_source, nowhere, number_at, place_at, signature_at,
+    source_at, text_at, text_if,
+};
 
 /// What a vote's items say, and where its texts stand in its bytes. Moments are seconds since 1970-01-01 00:00:00 UTC.
 #[derive(Clone, Copy, Debug)]
@@ -59,29 +38,13 @@ pub(crate) struct Head {
     /// The authority's contact.
     pub contact: Option<Span>,
     /// The authority's certificate.
-    pub certificate: CertificateHead,
+    pub certificate: CertHead,
     /// The signature.
     pub signature: VoteSignature,
     /// The place after the one space that follows `directory-signature`.
     pub signed_end: u64,
     /// The place after the last object.
     pub end: u64,
-}
-
-// A certificate of which nothing was read.
-fn no_certificate() -> CertificateHead
-    ensures { result ≡ heads.no_certificate }
-{
-    CertificateHead {
-        address: None,
-        fingerprint: no_identity(),
-        identity_key: nowhere(),
-        published: 0,
-        expires: 0,
-        signing_key: nowhere(),
-        crosscert: nowhere(),
-        certification: nowhere(),
-    }
 }
 
 /// What is kept where nothing was read.
@@ -101,7 +64,7 @@ pub(crate) fn empty_head() -> Head
         flag_thresholds: None,
         source: no_source(),
         contact: None,
-        certificate: no_certificate(),
+        certificate: no_head(),
         signature: no_signature(),
         signed_end: 0,
         end: 0,
@@ -139,29 +102,23 @@ fn with_authority(head: Head, taken: &[Taken]) -> Head
     }
 }
 
-// What is kept of a certificate.
-fn certificate_of(taken: &[Taken]) -> CertificateHead
-    ensures { result ≡ heads.certificate_of taken.now }
-{
-    CertificateHead {
-        address: text_if(taken, Keyword::DirAddress),
-        fingerprint: fingerprint_at(taken, Keyword::Fingerprint),
-        identity_key: object_at(taken, Keyword::DirIdentityKey),
-        published: number_at(taken, Keyword::DirKeyPublished),
-        expires: number_at(taken, Keyword::DirKeyExpires),
-        signing_key: object_at(taken, Keyword::DirSigningKey),
-        crosscert: object_at(taken, Keyword::DirKeyCrosscert),
-        certification: object_at(taken, Keyword::DirKeyCertification),
-    }
-}
-
 // What is kept after a certificate.
 fn with_certificate(head: Head, taken: &[Taken]) -> Head
     ensures { result ≡ heads.with_certificate head taken.now }
 {
     Head {
-        certificate: certificate_of(taken),
+        certificate: head_of(taken),
         ..head
+    }
+}
+
+// The places after the part that is signed, and after the vote.
+fn signed_to(taken: &[Taken]) -> (u64, u64)
+    ensures { result ≡ heads.ends_in (values.item_at taken.now Keyword.DirectorySignature) }
+{
+    match item_at(taken, Keyword::DirectorySignature) {
+        Some(one) => (one.place.saturating_add(20), one.after),
+        None => (0, 0),
     }
 }
 

@@ -3,21 +3,23 @@
 
 mod accepted;
 mod check;
+mod checked;
 mod facts;
 mod head;
 mod held;
 mod laws;
 mod reading;
-mod values;
 mod vote;
 
 pub use accepted::{Accepted, Placed};
+pub use authority_certs::{Cert, CertAnswer};
 pub use check::{VoteRefusal, check_vote};
+pub use checked::CheckedVote;
 pub use held::HeldVote;
 pub use laws::votes_are_read_again;
 pub use reading::read;
 pub use vote::Vote;
-pub use vote_terms::{CertificateFacts, Rank, SignatureFacts, VoteFacts, VoteWord};
+pub use vote_terms::{Rank, SignatureFacts, VoteFacts, VoteWord};
 pub use vote_text::write;
 
 #[cfg(test)]

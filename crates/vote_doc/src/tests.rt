@@ -3,6 +3,7 @@ use super::*;
 use dir_bytes::{BadField, Memory, read_hex};
 use dir_values::{Digest1, Digest2, Fingerprint, Roster};
 use frame_terms::ReadRefusal;
+use key_port::TestKeys;
 use std::alloc::Global;
 use std::test::Fail;
 
@@ -41,19 +42,29 @@ Zw20WLCU5zapzeLufxICg2CtoDETZ1JgmEU5tdnIBmA=\n\
 directory-footer\n\
 directory-signature 2FD4E1C67A2D28FCED849EE1BB76E7391B93EB12 6F72C48DADD6EFEB0DCB997E00F90619CA181EEC\n\
 -----BEGIN SIGNATURE-----\n\
-MqbYcq3B0vw+uX6qJMMwdeX1QHgvqQkqHisTccO6uRg=\n\
------END SIGNATURE-----\n\
 ";
+
+// The last line of a vote.
+const END: &[u8] = b"\n-----END SIGNATURE-----\n";
+
+// The signatures of the votes with the contacts `operator 1` and `another` under the test scheme.
+const SIGNATURE: &[u8] = b"MqbYcq3B0vw+uX6qJMMwdeX1QHgvqQkqHisTccO6uRg=";
+
+const SIGNATURE_OF_ANOTHER: &[u8] = b"w5FrEJPZUZgf3P9ngVLY1Cqvw1iWVhfBWF65ivzxq9s=";
 
 const AUTHORITY: &[u8] = b"2FD4E1C67A2D28FCED849EE1BB76E7391B93EB12";
 
 // 2026-01-01 00:00:00
 const PERIOD: u64 = 1767225600;
 
-// The vote with this `contact` line, and how many bytes were read.
-fn vote_with(alloc: Global, contact: &[u8]) -> Result<(Vote, usize), ReadRefusal> {
+// The vote with this `contact` line and this signature, and how many bytes were read.
+fn vote_with(
+    alloc: Global,
+    contact: &[u8],
+    signature: &[u8],
+) -> Result<(Vote, usize), ReadRefusal> {
     let mut bytes = Vec::new(alloc);
-    for piece in [BEFORE_CONTACT, contact, AFTER_CONTACT] {
+    for piece in [BEFORE_CONTACT, contact, AFTER_CONTACT, signature, END] {
         bytes.extend_from_slice(piece)?;
     }
     if bytes.len() > 100_000 {
@@ -72,49 +83,160 @@ fn rank(digest: &[u8]) -> Result<Rank, BadField> {
     })
 }
 
+// What the first authority's vote says, in plain values, and how many bytes it has.
+#[derive(Clone, Copy, Debug, PartialEq, Eq)]
+struct Found {
+    used: usize,
+    identity: Fingerprint,
+    valid_after: u64,
+    digest: Digest1,
+    covered: Digest1,
+    signer: Fingerprint,
+    certificate_bytes: usize,
+}
+
+fn said(alloc: Global) -> Result<Found, ReadRefusal> {
+    let (vote, used) = vote_with(alloc, b"contact operator 1\n", SIGNATURE)?;
+    Ok(Found {
+        used,
+        identity: vote.identity(),
+        valid_after: vote.valid_after(),
+        digest: vote.vote_digest(),
+        covered: vote.certificate().covered,
+        signer: vote.signature().identity,
+        certificate_bytes: vote.certificate_bytes().len(),
+    })
+}
+
+// The digest with this hex.
+fn digest(hex: &[u8]) -> Result<Digest1, BadField> {
+    let mut digest = [0; 20];
+    read_hex(hex, &mut digest)?;
+    Ok(Digest1(digest))
+}
+
 #[test]
 fn reads_a_vote(rt: HostRuntime) -> Result<(), Fail> {
-    let (vote, used) = vote_with(rt.alloc(), b"contact operator 1\n")?;
-    assert_eq!(rt; used, 1174);
-    assert_eq!(rt; vote.nickname(), b"auth1".as_slice());
-    assert_eq!(rt; vote.identity(), Fingerprint::read(AUTHORITY)?);
-    assert_eq!(rt; vote.valid_after(), PERIOD);
-    assert_eq!(rt; vote.contact().ok_or("contact")?, b"operator 1".as_slice());
-    let mut digest = [0; 20];
-    read_hex(b"B498D4421FF80B0AA162BC6C075B256137AEEA07", &mut digest)?;
-    assert_eq!(rt; vote.vote_digest(), Digest1(digest));
+    let authority = Fingerprint::read(AUTHORITY)?;
+    let wanted = Found {
+        used: 1174,
+        identity: authority,
+        valid_after: PERIOD,
+        digest: digest(b"B498D4421FF80B0AA162BC6C075B256137AEEA07")?,
+        covered: digest(b"E993C3F7903F872645BBF8B9FAAFB347A55A1E93")?,
+        signer: authority,
+        certificate_bytes: 616,
+    };
+    assert_eq!(rt; said(rt.alloc())?, wanted);
     Ok(())
 }
 
-// What placing two votes with these `contact` lines answers, and what is held then.
-fn place_two(
-    alloc: Global,
-    first: &[u8],
-    second: &[u8],
-) -> Result<(Placed, Placed, Accepted), Fail> {
+// Whether the certificate's bytes stand in the vote behind the contact.
+fn has_its_certificate(vote: &Vote) -> bool {
+    AFTER_CONTACT.starts_with(vote.certificate_bytes())
+}
+
+#[test]
+fn keeps_the_bytes_of_its_certificate(rt: HostRuntime) -> Result<(), Fail> {
+    let (vote, _) = vote_with(rt.alloc(), b"contact operator 1\n", SIGNATURE)?;
+    assert!(rt; has_its_certificate(&vote));
+    Ok(())
+}
+
+// The vote of the first authority that has this `contact` line, checked.
+fn checked(alloc: Global, contact: &[u8], signature: &[u8]) -> Result<CheckedVote<TestKeys>, Fail> {
     let roster = Roster::new(vec![in alloc; Fingerprint::read(AUTHORITY)?]?)?;
-    let first = check_vote(vote_with(alloc, first)?.0, &roster, PERIOD)?;
-    let second = check_vote(vote_with(alloc, second)?.0, &roster, PERIOD)?;
+    let mut keys = TestKeys::new(Vec::new(alloc));
+    let (vote, _) = vote_with(alloc, contact, signature)?;
+    Ok(check_vote(vote, &roster, PERIOD, &mut keys)?)
+}
+
+// The digest that names the vote, once it is checked and may be held.
+fn held_digest(alloc: Global) -> Result<Digest1, Fail> {
+    let checked = checked(alloc, b"contact operator 1\n", SIGNATURE)?;
+    Ok(checked.into_held().vote_digest())
+}
+
+#[test]
+fn a_right_vote_may_be_held(rt: HostRuntime) -> Result<(), Fail> {
+    let wanted = digest(b"B498D4421FF80B0AA162BC6C075B256137AEEA07")?;
+    assert_eq!(rt; held_digest(rt.alloc())?, wanted);
+    Ok(())
+}
+
+// Why the vote with this signature is refused in this period by a roster of this authority, where these answers of the
+// verifier fail.
+fn refusal(
+    alloc: Global,
+    authority: &[u8],
+    period: u64,
+    signature: &[u8],
+    failing: &[u64],
+) -> Result<Option<VoteRefusal>, Fail> {
+    let roster = Roster::new(vec![in alloc; Fingerprint::read(authority)?]?)?;
+    let mut keys = TestKeys::new(failing.to_vec(alloc)?);
+    let (vote, _) = vote_with(alloc, b"contact operator 1\n", signature)?;
+    Ok(check_vote(vote, &roster, period, &mut keys).err())
+}
+
+#[test]
+fn other_votes_are_refused(rt: HostRuntime) -> Result<(), Fail> {
+    let alloc = rt.alloc();
+    let wrong_period = VoteRefusal::WrongPeriod {
+        valid_after: PERIOD,
+    };
+    let found = refusal(alloc, AUTHORITY, PERIOD + 1, SIGNATURE, &[])?;
+    assert_eq!(rt; found, Some(wrong_period));
+    let other = b"84983E441C3BD26EBAAE4AA1F95129E5E54670F1";
+    let found = refusal(alloc, other, PERIOD, SIGNATURE, &[])?;
+    assert_eq!(rt; found, Some(VoteRefusal::UnknownAuthority));
+    let found = refusal(alloc, AUTHORITY, PERIOD, SIGNATURE_OF_ANOTHER, &[])?;
+    assert_eq!(rt; found, Some(VoteRefusal::BadSignature));
+    Ok(())
+}
+
+#[test]
+fn a_verifier_fails_at_each_question(rt: HostRuntime) -> Result<(), Fail> {
+    for question in 1..4 {
+        let found = refusal(rt.alloc(), AUTHORITY, PERIOD, SIGNATURE, &[question])?;
+        assert_eq!(rt; found, Some(VoteRefusal::VerifierFault));
+    }
+    let found = refusal(rt.alloc(), AUTHORITY, PERIOD, SIGNATURE, &[4])?;
+    assert_eq!(rt; found, None);
+    Ok(())
+}
+
+// What placing the votes with the contacts `operator 1` and `another` answers, in this order or the other, how many are
+// held then, and the rank of the first.
+fn place_two(alloc: Global, reverse: bool) -> Result<(Placed, Placed, usize, Rank), Fail> {
+    let plain = checked(alloc, b"contact operator 1\n", SIGNATURE)?.into_held();
+    let another = checked(alloc, b"contact another\n", SIGNATURE_OF_ANOTHER)?.into_held();
     let mut held = Accepted::new(alloc, 2)?;
+    let (first, second) = if reverse {
+        (another, plain)
+    } else {
+        (plain, another)
+    };
     let one = held.place(first);
     let other = held.place(second);
-    Ok((one, other, held))
+    let count = held.len();
+    if count == 0 {
+        return Err("no vote is held".into());
+    }
+    Ok((one, other, count, held.vote(0).rank()))
 }
 
 #[test]
 fn holds_the_vote_of_the_greater_digest(rt: HostRuntime) -> Result<(), Fail> {
-    let greater = rank(b"49A6F6D207AA994C842CDCF199652F7D584598D57D0F402456B6AF04408F126D")?;
-    let smaller = rank(b"2FC9516365F301281292AD2ACBF8123E53FA37D0E948613FB4077BF123DED047")?;
-    let lines: [&[u8]; 2] = [b"contact another\n", b"contact operator 1\n"];
-    for (first, second, answer) in [
-        (lines[0], lines[1], Placed::Replaced { old: smaller }),
-        (lines[1], lines[0], Placed::Older { held: greater }),
-    ] {
-        let (one, other, held) = place_two(rt.alloc(), first, second)?;
-        assert_eq!(rt; one, Placed::Kept);
-        assert_eq!(rt; other, answer);
-        assert_eq!(rt; held.len(), 1);
-        assert_eq!(rt; held.vote(0).rank(), greater);
+    let greater = rank(b"E6026310678B22A43711FCF6981DAEC0C689D16757DCD2F55E1BC453BBE50C0E")?;
+    let smaller = rank(b"49A6F6D207AA994C842CDCF199652F7D584598D57D0F402456B6AF04408F126D")?;
+    let cases = [
+        (false, Placed::Replaced { old: smaller }),
+        (true, Placed::Older { held: greater }),
+    ];
+    for (reverse, answer) in cases {
+        let found = place_two(rt.alloc(), reverse)?;
+        assert_eq!(rt; found, (Placed::Kept, answer, 1, greater));
     }
     Ok(())
 }
@@ -170,15 +292,31 @@ fn written(alloc: Global, vote: &Vote) -> Result<Vec<u8>, Memory> {
     write(alloc, &vote.facts(alloc)?)
 }
 
+// Whether a vote is written as these bytes.
+fn is_written_as(alloc: Global, vote: &Vote, bytes: &[u8]) -> Result<bool, Memory> {
+    let text = written(alloc, vote)?;
+    Ok(text.as_slice() == bytes)
+}
+
 #[test]
-fn writes_a_vote(rt: HostRuntime) -> Result<(), Fail> {
+fn writes_a_vote_as_it_was(rt: HostRuntime) -> Result<(), Fail> {
     let alloc = rt.alloc();
-    let (vote, _) = vote_with(alloc, b"contact operator 1\n")?;
-    let text = written(alloc, &vote)?;
-    assert_eq!(rt; text.as_slice(), vote.bytes());
-    let (plain, _) = vote_with(alloc, b"")?;
+    let (vote, _) = vote_with(alloc, b"contact operator 1\n", SIGNATURE)?;
+    assert!(rt; is_written_as(alloc, &vote, vote.bytes())?);
+    Ok(())
+}
+
+// The bytes of the vote without a contact.
+fn plain_bytes(alloc: Global) -> Result<Vec<u8>, ReadRefusal> {
+    let (plain, _) = vote_with(alloc, b"", SIGNATURE)?;
+    Ok(Vec::from_slice(alloc, plain.bytes())?)
+}
+
+#[test]
+fn spellings_of_a_vote_have_one_text(rt: HostRuntime) -> Result<(), Fail> {
+    let alloc = rt.alloc();
+    let plain = plain_bytes(alloc)?;
     let (vote, _) = read(alloc, OTHERWISE)?;
-    let text = written(alloc, &vote)?;
-    assert_eq!(rt; text.as_slice(), plain.bytes());
+    assert!(rt; is_written_as(alloc, &vote, &plain)?);
     Ok(())
 }

@@ -1,92 +1,55 @@
 // A vote: its bytes, and where its texts stand.
-ghost use Rattle.std.specs.Prelude.{◌≡◌, ◌≤◌, ◌<◌, ◌^◌, length, slice_range, option_map};
+ghost use Rattle.std.specs.Prelude.{◌≡◌, ◌≤◌, ◌<◌, ◌^◌, length, option_map};
 ghost use Rattle.dir_bytes.specs.Causes.{last_moment};
-ghost use Rattle.vote_terms.specs.Facts.{moment_of};
 ghost use Rattle.vote_terms.specs.Votes.{rank_of, vote_digest};
 ghost use Rattle.vote_doc.specs.Facts as facts;
 
 use crate::head::Head;
-use dir_bytes::LAST_MOMENT;
+use authority_certs::Cert;
 use dir_values::{Digest1, Digest2, Fingerprint};
-use frame_terms::Span;
+use frame_values::{between, moment, part, part_if};
 use sha1::Sha1;
 use sha2::{Digest, Sha256};
 use std::marker::Model;
-use vote_terms::Rank;
+use vote_terms::{Rank, SignatureFacts};
 
 /// A vote (dir-spec, "Vote and consensus status document formats"). Its texts are slices of its bytes.
 #[derive(Drop)]
 pub struct Vote {
     pub(crate) bytes: Vec<u8>,
     pub(crate) head: Head,
+    certificate: Cert,
+    signature: SignatureFacts,
 }
 
 impl Model for Vote {
-    ghost use Rattle.std.specs.Prelude.{◌<◌, ◌^◌, length};
     ghost use Rattle.vote_terms.specs.Votes.{ReadVote};
-    ghost use Rattle.vote_doc.specs.Facts.{facts_of};
+    ghost use Rattle.vote_doc.specs.Facts.{IsKept, facts_of};
 
     ghost Value = { ReadVote };
 
     ghost view = { λ v. facts_of v.bytes.items v.head };
 
-    ghost invariant = { λ v. length v.bytes.items < 2 ^ 62 };
-}
-
-/// The part of a text from one place to another; places past its end name what there is.
-pub(crate) fn between(bytes: &[u8], start: u64, end: u64) -> &[u8]
-    ensures part { result.now ≡ slice_range bytes.now start end }
-    ensures within { length result.now ≤ length bytes.now }
-{
-    let len = bytes.len();
-    let from = if start < len as u64 {
-        start as usize
-    } else {
-        len
-    };
-    let rest = &bytes[from..];
-    let wanted = end.saturating_sub(start);
-    let count = if wanted < rest.len() as u64 {
-        wanted as usize
-    } else {
-        rest.len()
-    };
-    &rest[..count]
-}
-
-/// The text that stands in a span.
-pub(crate) fn part(bytes: &[u8], span: Span) -> &[u8]
-    ensures part { result.now ≡ facts.part bytes.now span }
-    ensures within { length result.now ≤ length bytes.now }
-{
-    between(bytes, span.start, span.end)
-}
-
-// The text that stands in a span, where there is one.
-fn part_if(bytes: &[u8], span: Option<Span>) -> Option<&[u8]>
-    ensures { option_map (λ text. text.now) result ≡ option_map (facts.part bytes.now) span }
-{
-    match span {
-        Some(span) => Some(part(bytes, span)),
-        None => None,
-    }
-}
-
-/// A moment that was read, which is one of the calendar.
-pub(crate) fn moment(number: u64) -> u64
-    ensures value { result ≡ moment_of number }
-    ensures within { result ≤ last_moment }
-{
-    number.min(LAST_MOMENT)
+    ghost invariant = { λ v. IsKept v.bytes.items v.head v.certificate v.signature };
 }
 
 impl Vote {
     /// The vote of these bytes, of whose sections this was kept.
-    pub(crate) fn new(bytes: Vec<u8>, head: Head) -> Vote
-        requires { length bytes.items < 2 ^ 62 }
+    pub(crate) fn new(
+        bytes: Vec<u8>,
+        head: Head,
+        certificate: Cert,
+        signature: SignatureFacts,
+    ) -> Vote
+        requires { facts.IsKept bytes.items head certificate signature }
         ensures { result ≡ facts.facts_of bytes.items head }
     {
-        Vote { bytes, head }
+        Vote {
+            bytes,
+            head,
+            certificate,
+            signature,
+        }
     }
 
     /// The bytes from the first item through the last object.
@@ -235,5 +198,27 @@ impl Vote {
         ensures { option_map (λ text. text.now) result ≡ self.now.contact }
     {
         part_if(&self.bytes, self.head.contact)
+    }
+
+    /// The authority's certificate.
+    pub fn certificate(&self) -> &Cert
+        ensures { result.now ≡ self.now.certificate }
+    {
+        &self.certificate
+    }
+
+    /// The certificate's bytes, from its first item through its last object.
+    pub fn certificate_bytes(&self) -> &[u8]
+        ensures { result.now ≡ self.now.certificate_bytes }
+    {
+        let certificate = &self.head.certificate;
+        between(&self.bytes, certificate.begin, certificate.end)
+    }
+
+    /// The signature.
+    pub fn signature(&self) -> &SignatureFacts
+        ensures { result.now ≡ self.now.signature }
+    {
+        &self.signature
     }
 }

@@ -1,10 +1,10 @@
-use Rattle.std.proofs.Common.{refl, ◌∙◌}
+use Rattle.std.proofs.Common.{refl}
 use Rattle.vote_doc.proofs.KeptVotes.{reads}
 use Rattle.vote_doc.proofs.reading.read.Goals as goal
 
-pub returns : goal.returns
-returns c = (
-  reads c.args.bytes.now c.in_ok-owned.owned.items c.empty_head-head.result c.read_document.new.facts c.new-items.result c.in_ok-used.used c.new.result
-      c.new-items.ensures c.empty_head-head.ensures c.in_ok-used.ensures.folds (c.in_ok-owned.ensures.items ∙ c.between.ensures.part) c.new.ensures,
+pub returns-in-Ok : goal.returns-in-Ok
+returns-in-Ok c = (
+  reads c.args.bytes.now c.between.result.now c.empty_head-head.result c.read_document.new.facts c.new-items.result c.in_ok-used.used c.in-Ok.vote
+      c.new-items.ensures c.empty_head-head.ensures c.in_ok-used.ensures.folds c.between.ensures.part c.in-Ok.ensures,
   c.in_ok-used.ensures.within 0 16777216 c.args.bytes.now c.new-items.ensures refl,
 )
