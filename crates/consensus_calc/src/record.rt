@@ -8,7 +8,7 @@ use crate::flags::known_flags;
 use crate::timing::{Timing, median};
 use dir_bytes::{Memory, Seq, Text};
 use std::alloc::Global;
-use vote_doc::{Accepted, Vote};
+use vote_doc::{Accepted, HeldVote, Vote};
 use vote_terms::{Consensus, SourceLine};
 
 /// Why there is no consensus.
@@ -67,14 +67,15 @@ fn sources(alloc: Global, votes: &Accepted) -> Result<Seq<SourceLine>, Memory>
     let count = votes.len();
     let mut lines = Vec::with_capacity(alloc, count)?;
     'votes: for i in 0..count {
-        lines.push(source_of(alloc, votes.vote(i).vote())?)?;
+        lines.push(source_of(alloc, votes.vote(i))?)?;
     }
     Ok(Seq::new(lines))
 }
 
-fn source_of(alloc: Global, vote: &Vote) -> Result<SourceLine, Memory>
-    ensures { IfOk result (λ line. line ≡ terms.source_of vote.now) }
+fn source_of(alloc: Global, held: &HeldVote) -> Result<SourceLine, Memory>
+    ensures { IfOk result (λ line. line ≡ terms.source_of held.now) }
 {
+    let vote = held.vote();
     Ok(SourceLine {
         nickname: Text::copy_of(alloc, vote.nickname())?,
         identity: vote.identity(),
@@ -83,7 +84,7 @@ fn source_of(alloc: Global, vote: &Vote) -> Result<SourceLine, Memory>
         dir_port: vote.dir_port(),
         or_port: vote.or_port(),
         contact: contact_of(alloc, vote)?,
-        vote_digest: vote.vote_digest(),
+        vote_digest: held.vote_digest(),
     })
 }
 
