@@ -31,7 +31,10 @@ compute_in options = compute_with (first_of (codes "authorities") options) (firs
 
 -- the kind of document that a word names
 abbrev pub kind_named : List ℕ → Option Kind
-kind_named word = if bytes_eq word (codes "vote") then Some kind.Vote else None
+kind_named word =
+    if bytes_eq word (codes "vote") then Some kind.Vote
+    else (if bytes_eq word (codes "cert") then Some kind.Cert
+    else None)
 
 -- the kind of document that stands among the values
 abbrev pub kind_in : List Row → Option Kind

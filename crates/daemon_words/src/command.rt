@@ -24,6 +24,8 @@ pub struct Compute {
 pub enum Kind {
     /// A vote.
     Vote,
+    /// A key certificate.
+    Cert,
 }
 
 /// A command with its options.
@@ -80,6 +82,7 @@ fn kind_named(word: &str) -> Option<Kind>
 {
     match word {
         "vote" => Some(Kind::Vote),
+        "cert" => Some(Kind::Cert),
         _ => None,
     }
 }

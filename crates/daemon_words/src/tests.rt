@@ -51,18 +51,20 @@ fn other_words_give_nothing(rt: HostRuntime) -> Result<(), Fail> {
 }
 
 #[test]
-fn one_kind_is_checked_and_shown(rt: HostRuntime) -> Result<(), Fail> {
+fn documents_are_checked_and_shown(rt: HostRuntime) -> Result<(), Fail> {
     let alloc = rt.alloc();
-    for words in [
-        &["check", "vote"][..],
-        &["check", "--", "vote"],
-        &["check", "vote", "--"],
-    ] {
-        let given = read(alloc, words)?;
-        assert!(rt; matches!(&given, Some(Command::Check(Kind::Vote))));
+    for (word, kind) in [("vote", Kind::Vote), ("cert", Kind::Cert)] {
+        for words in [
+            &["check", word][..],
+            &["check", "--", word],
+            &["check", word, "--"],
+        ] {
+            let given = read(alloc, words)?;
+            assert!(rt; matches!(&given, Some(Command::Check(found)) if *found == kind));
+        }
+        let given = read(alloc, &["show", word])?;
+        assert!(rt; matches!(&given, Some(Command::Show(found)) if *found == kind));
     }
-    let given = read(alloc, &["show", "vote"])?;
-    assert!(rt; matches!(&given, Some(Command::Show(Kind::Vote))));
     Ok(())
 }
 
@@ -73,11 +75,18 @@ fn other_kinds_give_nothing(rt: HostRuntime) -> Result<(), Fail> {
         &[][..],
         &["votes"],
         &["Vote"],
+        &["certs"],
+        &["Cert"],
+        &["certificate"],
+        &["cer"],
         &[""],
         &["vote", "vote"],
+        &["vote", "cert"],
+        &["cert", "cert"],
         &["vote", ""],
         &["--kind", "vote"],
         &["--kind=vote"],
+        &["--kind=cert"],
         &["-vote"],
         &["--", "-vote"],
         &["--help"],
@@ -90,7 +99,13 @@ fn other_kinds_give_nothing(rt: HostRuntime) -> Result<(), Fail> {
             assert!(rt; read(alloc, &words)?.is_none());
         }
     }
-    for words in [&[][..], &["help"], &["vote"], &["--", "check", "vote"]] {
+    for words in [
+        &[][..],
+        &["help"],
+        &["vote"],
+        &["cert"],
+        &["--", "check", "vote"],
+    ] {
         assert!(rt; read(alloc, words)?.is_none());
     }
     Ok(())
