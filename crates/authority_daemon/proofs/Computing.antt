@@ -1,6 +1,7 @@
 -- The text that was written is that of the consensus of the held votes.
 use Rattle.std.proofs.Common.{◌≡◌, ℕ, true, List, length, Ok, sym, ap, ◌∙◌}
 use Rattle.std.specs.Prelude.{All}
+use Rattle.key_port.specs.Answers.{Rules}
 use Rattle.vote_terms.specs.Votes.{ReadVote}
 use Rattle.vote_terms.specs.Counts.{over}
 use Rattle.vote_terms.specs.Held.{held}
@@ -12,10 +13,10 @@ use Rattle.daemon_words.specs.declared.command.Compute.{Compute}
 use Rattle.authority_daemon.specs.Votes.{votes_of}
 use Rattle.authority_daemon.specs.Compute.{Computes}
 
-pub computes : (wanted : Compute) (bytes text : List ℕ) (votes now : List ReadVote) (roster : ℕ) (c : Consensus)
-    → votes_of bytes ≡ Ok votes → All (λ vote. IsAcceptable wanted.roster wanted.valid_after vote) votes → now ≡ held votes → roster ≡ length wanted.roster
-    → over (length now) roster ≡ true → c ≡ consensus roster now → text ≡ unsigned c → Computes wanted bytes text
-computes wanted bytes text votes now roster c read acceptable held_is roster_is enough c_is text_is = record {
+pub computes : (rules : Rules) (wanted : Compute) (bytes text : List ℕ) (votes now : List ReadVote) (roster : ℕ) (c : Consensus)
+    → votes_of bytes ≡ Ok votes → All (λ vote. IsAcceptable rules wanted.roster wanted.valid_after vote) votes → now ≡ held votes → roster ≡ length wanted.roster
+    → over (length now) roster ≡ true → c ≡ consensus roster now → text ≡ unsigned c → Computes rules wanted bytes text
+computes rules wanted bytes text votes now roster c read acceptable held_is roster_is enough c_is text_is = record {
   votes = votes;
   read = read;
   acceptable = acceptable;

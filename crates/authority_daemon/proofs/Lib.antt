@@ -5,4 +5,5 @@ pub mod Chains
 pub mod Completeness
 pub mod Computing
 pub mod LinesBehind
+pub mod WentOn
 pub mod Telling

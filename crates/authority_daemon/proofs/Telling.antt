@@ -1,13 +1,23 @@
 -- What a command tells of a document that was read.
-use Rattle.std.proofs.Common.{◌≡◌, List, ℕ, Ok, ap}
+use Rattle.std.proofs.Common.{◌≡◌, ◌∙◌, List, ℕ, Ok, ap}
+use Rattle.authority_certs.specs.declared.cert.Cert.{Cert}
 use Rattle.vote_terms.specs.Votes.{ReadVote}
 use Rattle.daemon_words.specs.declared.command.Kind.{Kind}
 use Rattle.daemon_words.specs.declared.command.Kind.TheVariants as kind
-use Rattle.authority_daemon.specs.Documents.{Document, Tells, as_document, one_vote, vote}
+use Rattle.authority_daemon.specs.Documents.{Document, Tells, as_document, cert, document_of, one_cert, one_vote, vote}
 
-pub of_vote : (text_of : Document → List ℕ) (k : Kind) (bytes text : List ℕ) (read : ReadVote) → one_vote bytes ≡ Ok read → text ≡ text_of (vote read) → Tells text_of k bytes text
-of_vote text_of kind.Vote bytes text read is written = record {
+pub of_vote : (text_of : Document → List ℕ) (k : Kind) (bytes text : List ℕ) (read : ReadVote) → k ≡ kind.Vote → one_vote bytes ≡ Ok read → text ≡ text_of (vote read)
+    → Tells text_of k bytes text
+of_vote text_of k bytes text read same is written = record {
   document = vote read;
-  read = ap (as_document vote) is;
+  read = ap (λ (k : Kind). document_of k bytes) same ∙ ap (as_document vote) is;
+  written = written;
+}
+
+pub of_cert : (text_of : Document → List ℕ) (k : Kind) (bytes text : List ℕ) (read : Cert) → k ≡ kind.Cert → one_cert bytes ≡ Ok read → text ≡ text_of (cert read)
+    → Tells text_of k bytes text
+of_cert text_of k bytes text read same is written = record {
+  document = cert read;
+  read = ap (λ (k : Kind). document_of k bytes) same ∙ ap (as_document cert) is;
   written = written;
 }

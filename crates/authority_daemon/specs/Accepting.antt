@@ -1,28 +1,58 @@
 -- What the functions that check votes return.
-use Rattle.std.specs.Prelude.{◌≡◌, List, All, Result, Ok, Err}
+use Rattle.std.specs.Prelude.{◌≡◌, ℕ, List, All, Option, Some, None, Result, Ok, Err}
+use Rattle.key_port.specs.Answers.{Rules}
+use Rattle.authority_certs.specs.declared.checking.CertAnswer.{CertAnswer}
+use Rattle.authority_certs.specs.declared.checking.CertAnswer.TheVariants as answer
 use Rattle.vote_terms.specs.Votes.{ReadVote}
 use Rattle.vote_terms.specs.Held.{held}
-use Rattle.vote_terms.specs.Acceptable.{IsAcceptable, IsFirstRefused}
+use Rattle.vote_terms.specs.Acceptable.{AsksOf, IsAcceptable, IsFirstRefused}
 use Rattle.vote_terms.specs.declared.word.VoteWord.{VoteWord}
-use Rattle.vote_terms.specs.declared.word.VoteWord.TheVariants.{ValidAfter, Authority}
+use Rattle.vote_terms.specs.declared.word.VoteWord.TheVariants as word
 use Rattle.vote_doc.specs.Holdings.{Holding}
 use Rattle.vote_doc.specs.declared.check.VoteRefusal.{VoteRefusal}
-use Rattle.vote_doc.specs.declared.check.VoteRefusal.TheVariants.{WrongPeriod, UnknownAuthority}
+use Rattle.vote_doc.specs.declared.check.VoteRefusal.TheVariants.{WrongPeriod, UnknownAuthority, Cert, BadSignature, VerifierFault}
 use Rattle.daemon_words.specs.declared.command.Compute.{Compute}
+use Rattle.authority_daemon.specs.declared.status.Refusal.{Refusal}
 use Rattle.authority_daemon.specs.declared.status.Refusal.TheVariants as refusal
 use Rattle.authority_daemon.specs.declared.status.Stop.{Stop}
 use Rattle.authority_daemon.specs.declared.status.Stop.TheVariants as stop
 
-abbrev pub word_of : VoteRefusal → VoteWord
-word_of (WrongPeriod valid_after) = ValidAfter
-word_of UnknownAuthority = Authority
+-- the word for what a certificate lacks
+abbrev pub certificate_word : CertAnswer → Option VoteWord
+certificate_word answer.WrongFingerprint = Some word.Fingerprint
+certificate_word (answer.Expired at expires) = Some word.Expired
+certificate_word answer.BadCertification = Some word.Certification
+certificate_word answer.BadCrosscert = Some word.Crosscert
+certificate_word answer.Checked = None
+certificate_word answer.VerifierFault = None
 
-abbrev pub StopsAt : Compute → List ReadVote → Stop → Type 0
-StopsAt wanted votes stop.Memory = Unit {0}
-StopsAt wanted votes (stop.Refused (refusal.Document fault)) = ⊥
-StopsAt wanted votes (stop.Refused (refusal.Vote number word)) = IsFirstRefused wanted.roster wanted.valid_after votes number word
-StopsAt wanted votes (stop.Refused (refusal.TooFew count roster)) = ⊥
+-- the word for why a vote is refused, none where the verifier failed
+abbrev pub word_of : VoteRefusal → Option VoteWord
+word_of (WrongPeriod valid_after) = Some word.ValidAfter
+word_of UnknownAuthority = Some word.Authority
+word_of (Cert given) = certificate_word given
+word_of BadSignature = Some word.Signature
+word_of VerifierFault = None
 
-abbrev pub Accepts : Compute → List ReadVote → Result Holding Stop → Type 0
-Accepts wanted votes (Ok accepted) = (accepted.votes ≡ held votes) × All (λ vote. IsAcceptable wanted.roster wanted.valid_after vote) votes
-Accepts wanted votes (Err e) = StopsAt wanted votes e
+-- what refusing the vote with this number says by a word
+abbrev pub refused_by : ℕ → Option VoteWord → Refusal
+refused_by number (Some why) = refusal.Vote number why
+refused_by number None = refusal.Verifier
+
+-- what refusing the vote with this number says
+abbrev pub refused : ℕ → VoteRefusal → Refusal
+refused number given = refused_by number (word_of given)
+
+-- why checking votes stops
+abbrev pub StopsAt : Rules → Compute → List ReadVote → Stop → Type 0
+StopsAt rules wanted votes stop.Memory = Unit {0}
+StopsAt rules wanted votes (stop.Refused (refusal.Document kind fault)) = ⊥
+StopsAt rules wanted votes (stop.Refused (refusal.Vote number why)) = IsFirstRefused rules wanted.roster wanted.valid_after votes number why
+StopsAt rules wanted votes (stop.Refused (refusal.TooFew count roster)) = ⊥
+StopsAt rules wanted votes (stop.Refused refusal.Verifier) = AsksOf rules wanted.roster wanted.valid_after votes
+
+-- what checking votes answers: those that are held, and that each is acceptable; or why it stops
+abbrev pub Accepts : Rules → Compute → List ReadVote → Result Holding Stop → Type 0
+Accepts rules wanted votes (Ok accepted) =
+    (accepted.votes ≡ held votes) × All (λ vote. IsAcceptable rules wanted.roster wanted.valid_after vote) votes
+Accepts rules wanted votes (Err e) = StopsAt rules wanted votes e

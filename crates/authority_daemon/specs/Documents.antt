@@ -3,7 +3,12 @@ use Rattle.std.specs.Prelude.{◌≡◌, ℕ, List, codes, ◌++◌, Option, Som
 use Rattle.frame_terms.specs.declared.fault.FrameReason.TheVariants.{Order}
 use Rattle.frame_terms.specs.declared.fault.ReadRefusal.{ReadRefusal}
 use Rattle.frame_terms.specs.declared.fault.ReadRefusal.TheVariants.{Frame}
+use Rattle.frame_terms.specs.declared.section.DocKind.{DocKind}
+use Rattle.frame_terms.specs.declared.section.DocKind.TheVariants as frame
 use Rattle.frame_terms.specs.Refusals.{refused}
+use Rattle.authority_certs.specs.declared.cert.Cert.{Cert}
+use Rattle.authority_certs.specs.Reading.{cert_of}
+use Rattle.authority_certs.specs.Texts.{cert_text}
 use Rattle.vote_terms.specs.Votes.{ReadVote}
 use Rattle.vote_terms.specs.Facts.{said as facts_in}
 use Rattle.vote_text.specs.Texts.{vote_text}
@@ -18,6 +23,7 @@ use Rattle.authority_daemon.specs.declared.status.Refusal.TheVariants as refusal
 -- what was read, a line for each kind
 pub data Document : Type 0 where
   vote : ReadVote → Document
+  cert : Cert → Document
 
 -- what was read, unless another line stands at a place behind it: that line is out of order
 abbrev pub unless_more : {X : Type 0} → X → Option ℕ → Result X ReadRefusal
@@ -33,6 +39,10 @@ alone bytes (Err refusal) = Err refusal
 abbrev pub one_vote : List ℕ → Result ReadVote ReadRefusal
 one_vote bytes = alone bytes (vote_of bytes)
 
+-- the certificate that the input is, or its first fault
+abbrev pub one_cert : List ℕ → Result Cert ReadRefusal
+one_cert bytes = alone bytes (cert_of bytes)
+
 -- what was read, as a document
 abbrev pub as_document : {X : Type 0} → (X → Document) → Result X ReadRefusal → Result Document ReadRefusal
 as_document wrap (Ok read) = Ok (wrap read)
@@ -41,6 +51,12 @@ as_document wrap (Err refusal) = Err refusal
 -- the document of a kind that the input is, or its first fault: a line for each kind
 abbrev pub document_of : Kind → List ℕ → Result Document ReadRefusal
 document_of kind.Vote bytes = as_document vote (one_vote bytes)
+document_of kind.Cert bytes = as_document cert (one_cert bytes)
+
+-- what a kind is called among the frames
+abbrev pub frame_of : Kind → DocKind
+frame_of kind.Vote = frame.Vote
+frame_of kind.Cert = frame.Certificate
 
 -- what `check` says of a document that is one
 abbrev pub said : Document → List ℕ
@@ -49,6 +65,7 @@ said document = codes "ok" ++ end
 -- the canonical text of a document, a line for each kind
 abbrev pub shown : Document → List ℕ
 shown (vote read) = vote_text (facts_in read)
+shown (cert read) = cert_text read
 
 -- The input is one document of this kind, and the text is that of it.
 pub record Tells (text_of : Document → List ℕ) (kind : Kind) (bytes text : List ℕ) : Type 0 where
@@ -59,9 +76,10 @@ pub record Tells (text_of : Document → List ℕ) (kind : Kind) (bytes text : L
 -- what a command answers that tells something of a document: a text, or the first fault
 abbrev pub ReadAnswers : (Document → List ℕ) → Kind → List ℕ → Result (List ℕ) Refusal → Type 0
 ReadAnswers text_of kind bytes (Ok text) = Tells text_of kind bytes text
-ReadAnswers text_of kind bytes (Err (refusal.Document fault)) = document_of kind bytes ≡ Err (Frame fault)
+ReadAnswers text_of kind bytes (Err (refusal.Document frame fault)) = (frame ≡ frame_of kind) × (document_of kind bytes ≡ Err (Frame fault))
 ReadAnswers text_of kind bytes (Err (refusal.Vote number word)) = ⊥
 ReadAnswers text_of kind bytes (Err (refusal.TooFew count roster)) = ⊥
+ReadAnswers text_of kind bytes (Err refusal.Verifier) = ⊥
 
 -- The input is one document of this kind.
 pub record IsDocument (kind : Kind) (bytes : List ℕ) : Type 0 where

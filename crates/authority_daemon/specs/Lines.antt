@@ -3,6 +3,8 @@ use Rattle.std.specs.Prelude.{ℕ, List, [], ◌∷◌, codes, decimal}
 use Rattle.std.specs.List.{flat_map}
 use Rattle.item_terms.specs.declared.fault.DocReason.{DocReason}
 use Rattle.item_terms.specs.declared.fault.DocReason.TheVariants as doc
+use Rattle.frame_terms.specs.declared.section.DocKind.{DocKind}
+use Rattle.frame_terms.specs.declared.section.DocKind.TheVariants as kind
 use Rattle.frame_terms.specs.declared.fault.FrameReason.{FrameReason}
 use Rattle.frame_terms.specs.declared.fault.FrameReason.TheVariants as reason
 use Rattle.frame_terms.specs.Keywords.{text_of}
@@ -17,48 +19,59 @@ use Rattle.authority_daemon.specs.declared.status.Status.TheVariants as status
 abbrev pub end : List ℕ
 end = 10 ∷ []
 
--- what is wrong with a line or an object; a limit with its number
-abbrev pub doc_text : DocReason → List ℕ
-doc_text doc.Keyword = codes "keyword"
-doc_text doc.Nul = codes "nul"
-doc_text doc.Unterminated = codes "unterminated"
-doc_text doc.ObjectWords = codes "object words"
-doc_text doc.ObjectBase64 = codes "object base64"
-doc_text doc.ObjectEnd = codes "object end"
-doc_text doc.LineTooLong = codes "line 1048576"
-doc_text doc.DocumentTooLong = codes "vote 16777216"
-doc_text doc.ObjectTooLong = codes "object 65536"
+-- the limit of a document of a kind, with its number
+abbrev pub document_limit : DocKind → List ℕ
+document_limit kind.Vote = codes "vote 16777216"
+document_limit kind.Certificate = codes "certificate 65536"
+
+-- what is wrong with a line or an object of a document of a kind; a limit with its number
+abbrev pub doc_text : DocKind → DocReason → List ℕ
+doc_text kind doc.Keyword = codes "keyword"
+doc_text kind doc.Nul = codes "nul"
+doc_text kind doc.Unterminated = codes "unterminated"
+doc_text kind doc.ObjectWords = codes "object words"
+doc_text kind doc.ObjectBase64 = codes "object base64"
+doc_text kind doc.ObjectEnd = codes "object end"
+doc_text kind doc.LineTooLong = codes "line 1048576"
+doc_text kind doc.DocumentTooLong = document_limit kind
+doc_text kind doc.ObjectTooLong = codes "object 65536"
 
 -- what is wrong at a place, with a keyword where one belongs to it
 abbrev pub at_place : ℕ → List ℕ → List ℕ → List (List ℕ)
 at_place place what keyword = codes "document fault at " ∷ decimal place ∷ codes ": " ∷ what ∷ keyword ∷ end ∷ []
 
-abbrev pub doc_parts : ℕ → DocReason → List (List ℕ)
-doc_parts place doc.LineTooLong = codes "limit " ∷ doc_text doc.LineTooLong ∷ end ∷ []
-doc_parts place doc.DocumentTooLong = codes "limit " ∷ doc_text doc.DocumentTooLong ∷ end ∷ []
-doc_parts place doc.ObjectTooLong = codes "limit " ∷ doc_text doc.ObjectTooLong ∷ end ∷ []
-doc_parts place other = at_place place (doc_text other) []
+abbrev pub doc_parts : DocKind → ℕ → DocReason → List (List ℕ)
+doc_parts kind place doc.LineTooLong = codes "limit " ∷ doc_text kind doc.LineTooLong ∷ end ∷ []
+doc_parts kind place doc.DocumentTooLong = codes "limit " ∷ doc_text kind doc.DocumentTooLong ∷ end ∷ []
+doc_parts kind place doc.ObjectTooLong = codes "limit " ∷ doc_text kind doc.ObjectTooLong ∷ end ∷ []
+doc_parts kind place other = at_place place (doc_text kind other) []
 
--- what is wrong with an item
-abbrev pub fault_parts : ℕ → FrameReason → List (List ℕ)
-fault_parts place (reason.Doc other) = doc_parts place other
-fault_parts place (reason.NotBuilt keyword) = codes "not built at " ∷ decimal place ∷ codes ": " ∷ text_of keyword ∷ end ∷ []
-fault_parts place (reason.Missing keyword) = at_place place (codes "missing ") (text_of keyword)
-fault_parts place (reason.Twice keyword) = at_place place (codes "twice ") (text_of keyword)
-fault_parts place reason.Order = at_place place (codes "order") []
-fault_parts place (reason.TooMany limit) = codes "limit " ∷ limit_name limit ∷ codes " " ∷ decimal (limit_number limit) ∷ end ∷ []
-fault_parts place reason.Value = at_place place (codes "value") []
-fault_parts place reason.Unsorted = at_place place (codes "unsorted") []
-fault_parts place reason.DuplicateEd = at_place place (codes "duplicate ed25519") []
+-- what is wrong with an item of a document of a kind
+abbrev pub fault_parts : DocKind → ℕ → FrameReason → List (List ℕ)
+fault_parts kind place (reason.Doc other) = doc_parts kind place other
+fault_parts kind place (reason.NotBuilt keyword) = codes "not built at " ∷ decimal place ∷ codes ": " ∷ text_of keyword ∷ end ∷ []
+fault_parts kind place (reason.Missing keyword) = at_place place (codes "missing ") (text_of keyword)
+fault_parts kind place (reason.Twice keyword) = at_place place (codes "twice ") (text_of keyword)
+fault_parts kind place reason.Order = at_place place (codes "order") []
+fault_parts kind place (reason.TooMany limit) = codes "limit " ∷ limit_name limit ∷ codes " " ∷ decimal (limit_number limit) ∷ end ∷ []
+fault_parts kind place reason.Value = at_place place (codes "value") []
+fault_parts kind place reason.Unsorted = at_place place (codes "unsorted") []
+fault_parts kind place reason.DuplicateEd = at_place place (codes "duplicate ed25519") []
 
 abbrev pub word_text : VoteWord → List ℕ
 word_text word.ValidAfter = codes "valid-after"
 word_text word.Authority = codes "authority"
+word_text word.Fingerprint = codes "fingerprint"
+word_text word.Expired = codes "expired"
+word_text word.Certification = codes "certification"
+word_text word.Crosscert = codes "crosscert"
+word_text word.Signature = codes "signature"
 
 abbrev pub refusal_parts : Refusal → List (List ℕ)
-refusal_parts (refusal.Document fault) = fault_parts fault.place fault.reason
+refusal_parts (refusal.Document kind fault) = fault_parts kind fault.place fault.reason
 refusal_parts (refusal.Vote number word) = codes "vote " ∷ decimal number ∷ codes " refused: " ∷ word_text word ∷ end ∷ []
 refusal_parts (refusal.TooFew held roster) = codes "too few votes: " ∷ decimal held ∷ codes " of " ∷ decimal roster ∷ end ∷ []
+refusal_parts refusal.Verifier = codes "verifier fault" ∷ end ∷ []
 
 abbrev pub parts : Status → List (List ℕ)
 parts status.Done = []
@@ -102,9 +115,10 @@ fault_number reason.Unsorted = 5
 fault_number reason.DuplicateEd = 5
 
 abbrev pub refusal_number : Refusal → ℕ
-refusal_number (refusal.Document fault) = fault_number fault.reason
+refusal_number (refusal.Document kind fault) = fault_number fault.reason
 refusal_number (refusal.Vote number word) = 6
 refusal_number (refusal.TooFew held roster) = 7
+refusal_number refusal.Verifier = 8
 
 abbrev pub number_of : Status → ℕ
 number_of status.Done = 0

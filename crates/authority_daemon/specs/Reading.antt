@@ -14,6 +14,6 @@ abbrev pub ReadsVotes : Result (List ReadVote) ReadRefusal → Result (Vec ReadV
 ReadsVotes read (Ok votes) = read ≡ Ok votes.items
 ReadsVotes read (Err refusal) = Fails refusal read
 
-abbrev pub ReadsOneVote : Result ReadVote ReadRefusal → Result ReadVote ReadRefusal → Type 0
-ReadsOneVote read (Ok vote) = read ≡ Ok vote
-ReadsOneVote read (Err refusal) = Fails refusal read
+abbrev pub ReadsOne : {D : Type 0} → Result D ReadRefusal → Result D ReadRefusal → Type 0
+ReadsOne read (Ok document) = read ≡ Ok document
+ReadsOne read (Err refusal) = Fails refusal read

@@ -1,8 +1,9 @@
 -- What a whole run says: of the words, the input, what was written, and the counts of faults.
-use Rattle.std.specs.Prelude.{◌≡◌, ℕ, ◌<◌, ◌≤◌, List, [], length, take, Option, Some, None, Result, Ok, Err, Bool, true}
+use Rattle.std.specs.Prelude.{◌≡◌, ℕ, ◌<◌, ◌≤◌, List, [], ◌∷◌, length, take, Option, Some, None, Result, Ok, Err, Bool, true}
 use Rattle.std.specs.Bool.{OnTrue}
 use Rattle.std.specs.Io.KnownBytes.{Appends, Keeps}
 use Rattle.dir_bytes.specs.Causes.{Rose}
+use Rattle.key_port.specs.Answers.{Rules}
 use Rattle.authority_daemon.specs.Commands.{Answerable}
 use Rattle.daemon_words.specs.declared.command.Command.{Command}
 use Rattle.daemon_words.specs.declared.command.Command.TheVariants as command
@@ -76,16 +77,21 @@ pub record Reports (old new : Option (List ℕ)) (before now : ℕ) (text : List
   pub written : Appends old new (take sent text)
   pub cause : sent < length text → Rose before now
 
+-- the first count of some objects
+abbrev pub first_count : {X : Type 0} → (X → ℕ) → List X → ℕ
+first_count count [] = 0
+first_count count (x ∷ xs) = count x
+
 abbrev pub IsDoneOrMemory : Status → Type 0
 IsDoneOrMemory status.Done = Unit {0}
 IsDoneOrMemory status.Memory = Unit {0}
 IsDoneOrMemory _ = ⊥
 
 -- The words give a command that has to answer this input, which passes no limit.
-pub record MustAnswer (given : Option Command) (left : Option (List ℕ)) : Type 0 where
+pub record MustAnswer (rules : Rules) (given : Option Command) (left : Option (List ℕ)) : Type 0 where
   pub command : Command
   pub words : given ≡ Some command
   pub bytes : List ℕ
   pub input : left ≡ Some bytes
   pub within : length bytes ≤ input_limit
-  pub answerable : Answerable command bytes
+  pub answerable : Answerable rules command bytes

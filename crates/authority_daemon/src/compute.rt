@@ -1,59 +1,98 @@
 // The command that computes a consensus.
-ghost use Rattle.std.specs.Prelude.{◌≡◌, ◌<◌, ◌^◌, length, vec_len};
+ghost use Rattle.std.specs.Prelude.{◌≡◌, ◌≤◌, ◌<◌, ◌^◌, Err, length, vec_len};
+ghost use Rattle.dir_bytes.specs.Causes.{Rose};
+ghost use Rattle.key_port.specs.Answers.{rules};
 ghost use Rattle.authority_daemon.specs.Accepting as words;
 ghost use Rattle.authority_daemon.specs.Accepting.{Accepts};
 ghost use Rattle.authority_daemon.specs.Commands.{Answered};
 ghost use Rattle.authority_daemon.specs.Compute.{ComputeAnswers};
 
 use crate::reading::votes_of;
-use crate::status::{Refusal, Stop};
+use crate::status::{Refusal, Stop, of_kind};
 use consensus_calc::unsigned;
 use daemon_words::Compute;
+use frame_terms::DocKind;
+use key_port::Verifier;
 use std::alloc::Global;
-use vote_doc::{Accepted, Vote, VoteRefusal, VoteWord, check_vote};
+use vote_doc::{Accepted, CertAnswer, Vote, VoteRefusal, VoteWord, check_vote};
 
-/// The unsigned text of the consensus of the votes that the input is, or why there is none.
-pub fn compute(alloc: Global, wanted: &Compute, bytes: &[u8]) -> Result<Vec<u8>, Stop>
+/// The unsigned text of the consensus of the votes that the input is, or why there is none. All votes are read before
+/// the first is checked; they are checked in their order.
+pub fn compute<V: Verifier>(
+    alloc: Global,
+    wanted: &Compute,
+    bytes: &[u8],
+    verifier: &mut V,
+) -> Result<Vec<u8>, Stop>
     requires { length bytes.now < 2 ^ 61 }
-    ensures { Answered (ComputeAnswers wanted.now bytes.now) result }
+    ensures answer { Answered (ComputeAnswers (rules V.may_accept V.may_refuse) wanted.now bytes.now) result }
+    ensures fault { result ≡ Err (Stop.Refused Refusal.Verifier) → Rose (V.faults verifier.old) (V.faults verifier.new) }
 {
-    let votes = votes_of(alloc, bytes)?;
-    let accepted = accept(alloc, wanted, votes)?;
+    let votes = of_kind(DocKind::Vote, votes_of(alloc, bytes))?;
+    let accepted = accept(alloc, wanted, votes, verifier)?;
     let roster = wanted.roster.len() as u32;
     let consensus = consensus_calc::compute(alloc, roster, &accepted)?;
     let text = unsigned(alloc, &consensus)?;
     Ok(text)
 }
 
-/// The word for why a vote is refused.
-fn word_of(refusal: VoteRefusal) -> VoteWord
+/// The word for what a certificate lacks.
+fn certificate_word(answer: CertAnswer) -> Option<VoteWord>
+    ensures { result ≡ words.certificate_word answer }
+{
+    match answer {
+        CertAnswer::WrongFingerprint => Some(VoteWord::Fingerprint),
+        CertAnswer::Expired { .. } => Some(VoteWord::Expired),
+        CertAnswer::BadCertification => Some(VoteWord::Certification),
+        CertAnswer::BadCrosscert => Some(VoteWord::Crosscert),
+        CertAnswer::Checked | CertAnswer::VerifierFault => None,
+    }
+}
+
+/// The word for why a vote is refused, none where the verifier failed.
+fn word_of(refusal: VoteRefusal) -> Option<VoteWord>
     ensures { result ≡ words.word_of refusal }
 {
     match refusal {
-        VoteRefusal::WrongPeriod { .. } => VoteWord::ValidAfter,
-        VoteRefusal::UnknownAuthority => VoteWord::Authority,
+        VoteRefusal::WrongPeriod { .. } => Some(VoteWord::ValidAfter),
+        VoteRefusal::UnknownAuthority => Some(VoteWord::Authority),
+        VoteRefusal::Cert(answer) => certificate_word(answer),
+        VoteRefusal::BadSignature => Some(VoteWord::Signature),
+        VoteRefusal::VerifierFault => None,
+    }
+}
+
+/// What refusing the vote with this number says.
+fn refused(number: u64, refusal: VoteRefusal) -> Refusal
+    ensures { result ≡ words.refused number refusal }
+{
+    match word_of(refusal) {
+        Some(word) => Refusal::Vote { number, word },
+        None => Refusal::Verifier,
     }
 }
 
 /// Checks the votes in their order, and holds them.
-fn accept(alloc: Global, wanted: &Compute, votes: Vec<Vote>) -> Result<Accepted, Stop>
+fn accept<V: Verifier>(
+    alloc: Global,
+    wanted: &Compute,
+    votes: Vec<Vote>,
+    verifier: &mut V,
+) -> Result<Accepted, Stop>
     requires { vec_len votes < 2 ^ 32 }
-    ensures { Accepts wanted.now votes.items result }
+    ensures accepts { Accepts (rules V.may_accept V.may_refuse) wanted.now votes.items result }
+    ensures fault { result ≡ Err (Stop.Refused Refusal.Verifier) → Rose (V.faults verifier.old) (V.faults verifier.new) }
 {
     let mut votes = votes;
     let mut accepted = Accepted::new(alloc, votes.len() as u32)?;
     let mut before: u64 = 0;
     'votes: while !votes.is_empty() {
         let vote = votes.remove(0);
-        match check_vote(vote, &wanted.roster, wanted.valid_after) {
-            Ok(held) => {
-                let _ = accepted.place(held);
+        match check_vote(vote, &wanted.roster, wanted.valid_after, verifier) {
+            Ok(checked) => {
+                let _ = accepted.place(checked.into_held());
             }
-            Err(refusal) => {
-                let number = before + 1;
-                let word = word_of(refusal);
-                return Err(Stop::Refused(Refusal::Vote { number, word }));
-            }
+            Err(refusal) => return Err(Stop::Refused(refused(before + 1, refusal))),
         }
         before += 1;
     }

@@ -1,43 +1,60 @@
 // The commands over one document.
-ghost use Rattle.std.specs.Prelude.{◌≡◌, ◌<◌, ◌^◌, IfOk, length};
+ghost use Rattle.std.specs.Prelude.{◌≡◌, ◌≤◌, ◌<◌, ◌^◌, IfOk, length};
 ghost use Rattle.vote_terms.specs.Facts.{said as facts_in};
 ghost use Rattle.vote_text.specs.Texts.{vote_text};
+ghost use Rattle.authority_daemon.specs.Blanks as blanks;
 ghost use Rattle.authority_daemon.specs.Commands.{Answered};
 ghost use Rattle.authority_daemon.specs.Documents as documents;
 ghost use Rattle.authority_daemon.specs.Documents.{ReadAnswers, said, shown};
-ghost use Rattle.authority_daemon.specs.Reading.{ReadsOneVote};
+ghost use Rattle.authority_daemon.specs.Reading.{ReadsOne};
 
 use crate::blanks::after_blanks;
-use crate::status::Stop;
+use crate::status::{Stop, of_kind};
+use authority_certs::Cert;
 use daemon_words::Kind;
 use dir_bytes::Memory;
-use frame_terms::{FrameFault, FrameReason, ReadRefusal};
+use frame_terms::{DocKind, FrameFault, FrameReason, ReadRefusal};
 use std::alloc::Global;
-use vote_doc::{Vote, read, write};
+use vote_doc::Vote;
+
+/// What `check` says of a document that is one.
+const OK: &[u8] = b"ok\n";
 
 /// `ok`, where the input is one document of this kind, with nothing but blank lines before and after it.
-#[tactic(auto, using(crate::proofs::Telling::of_vote))]
+#[tactic(auto, using(crate::proofs::Telling::of_vote, crate::proofs::Telling::of_cert))]
 pub fn check(alloc: Global, kind: Kind, bytes: &[u8]) -> Result<Vec<u8>, Stop>
     requires { length bytes.now < 2 ^ 61 }
     ensures { Answered (ReadAnswers said kind bytes.now) result }
 {
     match kind {
         Kind::Vote => {
-            let _ = one_vote(alloc, bytes)?;
+            let _vote = of_kind(DocKind::Vote, one_vote(alloc, bytes))?;
+            let text = Vec::from_slice(alloc, OK)?;
+            Ok(text)
+        }
+        Kind::Cert => {
+            let _cert = of_kind(DocKind::Certificate, one_cert(alloc, bytes))?;
+            let text = Vec::from_slice(alloc, OK)?;
+            Ok(text)
         }
     }
-    Ok(Vec::from_slice(alloc, b"ok\n")?)
 }
 
 /// The canonical text of the document of this kind that the input is, with nothing but blank lines before and after it.
+#[tactic(auto, using(crate::proofs::Telling::of_vote, crate::proofs::Telling::of_cert))]
 pub fn show(alloc: Global, kind: Kind, bytes: &[u8]) -> Result<Vec<u8>, Stop>
     requires { length bytes.now < 2 ^ 61 }
     ensures { Answered (ReadAnswers shown kind bytes.now) result }
 {
     match kind {
         Kind::Vote => {
-            let vote = one_vote(alloc, bytes)?;
+            let vote = of_kind(DocKind::Vote, one_vote(alloc, bytes))?;
             let text = canonical(alloc, &vote)?;
+            Ok(text)
+        }
+        Kind::Cert => {
+            let cert = of_kind(DocKind::Certificate, one_cert(alloc, bytes))?;
+            let text = authority_certs::write(alloc, &cert)?;
             Ok(text)
         }
     }
@@ -48,20 +65,38 @@ fn canonical(alloc: Global, vote: &Vote) -> Result<Vec<u8>, Memory>
     ensures { IfOk result (λ text. text.items ≡ vote_text (facts_in vote.now)) }
 {
     let facts = vote.facts(alloc)?;
-    write(alloc, &facts)
+    vote_doc::write(alloc, &facts)
 }
 
-/// The vote that the input is.
-fn one_vote(alloc: Global, bytes: &[u8]) -> Result<Vote, ReadRefusal>
-    requires { length bytes.now < 2 ^ 61 }
-    ensures { ReadsOneVote (documents.one_vote bytes.now) result }
+/// What was read of the first bytes of the input, unless another line stands behind it.
+fn alone<D: Drop>(bytes: &[u8], document: D, used: usize) -> Result<D, ReadRefusal>
+    requires within { used ≤ length bytes.now }
+    requires short { length bytes.now < 2 ^ 61 }
+    ensures { result ≡ documents.unless_more document (blanks.after_blanks used bytes.now) }
 {
-    let (vote, used) = read(alloc, bytes)?;
     match after_blanks(bytes, used) {
-        None => Ok(vote),
+        None => Ok(document),
         Some(place) => Err(ReadRefusal::Frame(FrameFault {
             place: place as u64,
             reason: FrameReason::Order,
         })),
     }
+}
+
+/// The vote that the input is.
+fn one_vote(alloc: Global, bytes: &[u8]) -> Result<Vote, ReadRefusal>
+    requires { length bytes.now < 2 ^ 61 }
+    ensures { ReadsOne (documents.one_vote bytes.now) result }
+{
+    let (vote, used) = vote_doc::read(alloc, bytes)?;
+    alone(bytes, vote, used)
+}
+
+/// The certificate that the input is.
+fn one_cert(alloc: Global, bytes: &[u8]) -> Result<Cert, ReadRefusal>
+    requires { length bytes.now < 2 ^ 61 }
+    ensures { ReadsOne (documents.one_cert bytes.now) result }
+{
+    let (cert, used) = authority_certs::read(alloc, bytes)?;
+    alone(bytes, cert, used)
 }

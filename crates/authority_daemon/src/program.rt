@@ -1,18 +1,20 @@
 // The program over what stands outside.
-ghost use Rattle.std.specs.Prelude.{◌≡◌, ◌≤◌, ◌<◌, ◌^◌, List, ℕ, Some, length};
+ghost use Rattle.std.specs.Prelude.{◌≡◌, ◌≤◌, ◌<◌, ◌^◌, List, ℕ, Some, Err, length, vec_len};
 ghost use Rattle.dir_bytes.specs.Causes.{Rose};
+ghost use Rattle.key_port.specs.Answers.{rules};
 ghost use Rattle.daemon_words.specs.declared.command.Command.{Command};
 ghost use Rattle.daemon_words.specs.Words as grammar;
 ghost use Rattle.authority_daemon.specs.Lines.{line_of};
 ghost use Rattle.authority_daemon.specs.Commands.{Answers, Answered};
-ghost use Rattle.authority_daemon.specs.Runs.{Told, KnowsWords, KeepsLimit, Ends, WritesOnlyAnswers, ReadsThrough, Reports, MustAnswer, IsDoneOrMemory};
+ghost use Rattle.authority_daemon.specs.Runs.{Told, KnowsWords, KeepsLimit, Ends, WritesOnlyAnswers, ReadsThrough, Reports, first_count, MustAnswer, IsDoneOrMemory};
 
 use crate::compute::compute;
 use crate::documents::{check, show};
 use crate::report::report;
-use crate::status::{Status, Stop};
+use crate::status::{Refusal, Status, Stop};
 use daemon_words::{Command, command_of};
 use dir_bytes::{ReadAllFault, Sink, Source, WriteAll, read_all, write_all};
+use key_port::Verifier;
 use std::alloc::Global;
 
 /// How many bytes an input may have.
@@ -20,31 +22,35 @@ const INPUT_LIMIT: u64 = 268_435_456;
 
 /// What stands outside the program.
 #[derive(Drop)]
-pub struct Outside<S: Drop, K: Drop, E: Drop> {
+pub struct Outside<S: Drop, K: Drop, E: Drop, V: Drop> {
     /// The input.
     pub source: S,
     /// Where the text goes.
     pub sink: K,
     /// Where the line goes that says why there is no text.
     pub errors: E,
+    /// What answers whether signatures are right, one for each worker. A command without workers asks the first.
+    pub verifiers: Vec<V>,
 }
 
 /// Runs the command that the words give, which come without the program's name: reads the input, writes the command's
 /// text, or a line to `errors` that says why there is none.
 ///
 /// Of several statuses that apply the first is given: `BadWords`, `ReadFault`, `TooLong`, the refusals in the order of
-/// the input, and then `WriteFault`. `Memory` may come at any time. The input is read to its end, or past its limit,
+/// the input (its first fault, then the first vote that is refused or of which the verifier fails, then too few votes),
+/// and then `WriteFault`. `Memory` may come at any time. The input is read to its end, or past its limit,
 /// also where it is refused.
-pub fn run<S: Source + Drop, K: Sink + Drop, E: Sink + Drop>(
+pub fn run<S: Source + Drop, K: Sink + Drop, E: Sink + Drop, V: Verifier + Drop>(
     alloc: Global,
     words: &[String],
-    outside: &mut Outside<S, K, E>,
+    outside: &mut Outside<S, K, E, V>,
 ) -> Status
+    requires verifiers { 0 < vec_len outside.old.verifiers }
     // Bad words are exactly those that give no command.
     ensures words { KnowsWords (grammar.command_of words.now) result }
     // The status and the text written are the command's for the input.
     ensures ends { (c : Command) → grammar.command_of words.now ≡ Some c → Told (S.left outside.old.source) (λ bytes.
-        Ends (Answers c bytes) (K.written outside.old.sink) (K.written outside.new.sink) result) }
+        Ends (Answers (rules V.may_accept V.may_refuse) c bytes) (K.written outside.old.sink) (K.written outside.new.sink) result) }
     // Nothing was written, but with the statuses of writing.
     ensures written { WritesOnlyAnswers (K.written outside.old.sink) (K.written outside.new.sink) result }
     // An input past its limit is said to be so, and no other is.
@@ -53,34 +59,45 @@ pub fn run<S: Source + Drop, K: Sink + Drop, E: Sink + Drop>(
     ensures read { (c : Command) → grammar.command_of words.now ≡ Some c → ReadsThrough c (S.left outside.old.source) (S.left outside.new.source) result }
     ensures read_fault { result ≡ Status.ReadFault → Rose (S.faults outside.old.source) (S.faults outside.new.source) }
     ensures write_fault { result ≡ Status.WriteFault → Rose (K.faults outside.old.sink) (K.faults outside.new.sink) }
+    ensures verifier_fault { result ≡ Status.Refused Refusal.Verifier →
+        Rose (first_count V.faults outside.old.verifiers.items) (first_count V.faults outside.new.verifiers.items) }
     // The errors sink gets the line of the status.
     ensures errors { Reports (E.written outside.old.errors) (E.written outside.new.errors)
         (E.faults outside.old.errors) (E.faults outside.new.errors) (line_of result) }
     // An input that has to be answered is, unless there is no memory or something outside failed.
-    ensures complete { MustAnswer (grammar.command_of words.now) (S.left outside.old.source)
+    ensures complete { MustAnswer (rules V.may_accept V.may_refuse) (grammar.command_of words.now) (S.left outside.old.source)
         → ¬ Rose (S.faults outside.old.source) (S.faults outside.new.source)
         → ¬ Rose (K.faults outside.old.sink) (K.faults outside.new.sink)
+        → ¬ Rose (first_count V.faults outside.old.verifiers.items) (first_count V.faults outside.new.verifiers.items)
         → IsDoneOrMemory result }
 {
-    let status = run_command(alloc, words, &mut outside.source, &mut outside.sink);
+    let status = run_command(
+        alloc,
+        words,
+        &mut outside.source,
+        &mut outside.sink,
+        &mut outside.verifiers[0],
+    );
     report(&mut outside.errors, status);
     status
 }
 
-fn run_command<S: Source, K: Sink>(
+fn run_command<S: Source, K: Sink, V: Verifier>(
     alloc: Global,
     words: &[String],
     source: &mut S,
     sink: &mut K,
+    verifier: &mut V,
 ) -> Status
     ensures words { KnowsWords (grammar.command_of words.now) result }
     ensures ends { (c : Command) → grammar.command_of words.now ≡ Some c → Told (S.left source.old) (λ bytes.
-        Ends (Answers c bytes) (K.written sink.old) (K.written sink.new) result) }
+        Ends (Answers (rules V.may_accept V.may_refuse) c bytes) (K.written sink.old) (K.written sink.new) result) }
     ensures written { WritesOnlyAnswers (K.written sink.old) (K.written sink.new) result }
     ensures limit { (c : Command) → grammar.command_of words.now ≡ Some c → Told (S.left source.old) (λ bytes. KeepsLimit c bytes result) }
     ensures read { (c : Command) → grammar.command_of words.now ≡ Some c → ReadsThrough c (S.left source.old) (S.left source.new) result }
     ensures read_fault { result ≡ Status.ReadFault → Rose (S.faults source.old) (S.faults source.new) }
     ensures write_fault { result ≡ Status.WriteFault → Rose (K.faults sink.old) (K.faults sink.new) }
+    ensures verifier_fault { result ≡ Status.Refused Refusal.Verifier → Rose (V.faults verifier.old) (V.faults verifier.new) }
 {
     let command = match command_of(alloc, words) {
         Ok(Some(command)) => command,
@@ -93,7 +110,7 @@ fn run_command<S: Source, K: Sink>(
         Err(ReadAllFault::ReadFault) => return Status::ReadFault,
         Err(ReadAllFault::Memory) => return Status::Memory,
     };
-    match answer(alloc, &command, &bytes) {
+    match answer(alloc, &command, &bytes, verifier) {
         Ok(text) => match write_all(sink, &text) {
             WriteAll::Done => Status::Done,
             WriteAll::Failed { .. } => Status::WriteFault,
@@ -104,12 +121,18 @@ fn run_command<S: Source, K: Sink>(
 }
 
 /// What a command answers to an input.
-fn answer(alloc: Global, command: &Command, bytes: &[u8]) -> Result<Vec<u8>, Stop>
+fn answer<V: Verifier>(
+    alloc: Global,
+    command: &Command,
+    bytes: &[u8],
+    verifier: &mut V,
+) -> Result<Vec<u8>, Stop>
     requires { length bytes.now < 2 ^ 61 }
-    ensures { Answered (Answers command.now bytes.now) result }
+    ensures answer { Answered (Answers (rules V.may_accept V.may_refuse) command.now bytes.now) result }
+    ensures fault { result ≡ Err (Stop.Refused Refusal.Verifier) → Rose (V.faults verifier.old) (V.faults verifier.new) }
 {
     match command {
-        Command::Compute(wanted) => compute(alloc, wanted, bytes),
+        Command::Compute(wanted) => compute(alloc, wanted, bytes, verifier),
         Command::Check(kind) => check(alloc, *kind, bytes),
         Command::Show(kind) => show(alloc, *kind, bytes),
     }

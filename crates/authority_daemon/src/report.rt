@@ -6,7 +6,7 @@ ghost use Rattle.authority_daemon.specs.Lines as lines;
 
 use crate::status::{Refusal, Status};
 use dir_bytes::{Sink, WriteAll, write_all};
-use frame_terms::FrameReason;
+use frame_terms::{DocKind, FrameReason};
 use item_terms::DocReason;
 use vote_terms::VoteWord;
 
@@ -29,7 +29,7 @@ fn report_refusal<E: Sink>(errors: &mut E, refusal: Refusal)
     ensures { Reports (E.written errors.old) (E.written errors.new) (E.faults errors.old) (E.faults errors.new) (lines.joined (lines.refusal_parts refusal)) }
 {
     match refusal {
-        Refusal::Document(fault) => report_fault(errors, fault.place, fault.reason),
+        Refusal::Document { kind, fault } => report_fault(errors, kind, fault.place, fault.reason),
         Refusal::Vote { number, word } => {
             let mut k = itoa::Buffer::new();
             let k = k.format(number);
@@ -60,6 +60,7 @@ fn report_refusal<E: Sink>(errors: &mut E, refusal: Refusal)
                 ],
             )
         }
+        Refusal::Verifier => write_parts(errors, &[b"verifier fault", b"\n"]),
     }
 }
 
@@ -69,12 +70,27 @@ fn word_text(word: VoteWord) -> &'static [u8]
     match word {
         VoteWord::ValidAfter => b"valid-after",
         VoteWord::Authority => b"authority",
+        VoteWord::Fingerprint => b"fingerprint",
+        VoteWord::Expired => b"expired",
+        VoteWord::Certification => b"certification",
+        VoteWord::Crosscert => b"crosscert",
+        VoteWord::Signature => b"signature",
     }
 }
 
-/// What a line says of a fault behind its place, where that is no limit.
-fn doc_text(reason: DocReason) -> &'static [u8]
-    ensures { result.now ≡ lines.doc_text reason }
+/// The limit of a document of a kind, with its number.
+fn document_limit(kind: DocKind) -> &'static [u8]
+    ensures { result.now ≡ lines.document_limit kind }
+{
+    match kind {
+        DocKind::Vote => b"vote 16777216",
+        DocKind::Certificate => b"certificate 65536",
+    }
+}
+
+/// What a line says of a fault of a document of a kind.
+fn doc_text(kind: DocKind, reason: DocReason) -> &'static [u8]
+    ensures { result.now ≡ lines.doc_text kind reason }
 {
     match reason {
         DocReason::Keyword => b"keyword",
@@ -84,27 +100,27 @@ fn doc_text(reason: DocReason) -> &'static [u8]
         DocReason::ObjectBase64 => b"object base64",
         DocReason::ObjectEnd => b"object end",
         DocReason::LineTooLong => b"line 1048576",
-        DocReason::DocumentTooLong => b"vote 16777216",
+        DocReason::DocumentTooLong => document_limit(kind),
         DocReason::ObjectTooLong => b"object 65536",
     }
 }
 
-fn report_doc<E: Sink>(errors: &mut E, place: u64, reason: DocReason)
-    ensures { Reports (E.written errors.old) (E.written errors.new) (E.faults errors.old) (E.faults errors.new) (lines.joined (lines.doc_parts place reason)) }
+fn report_doc<E: Sink>(errors: &mut E, kind: DocKind, place: u64, reason: DocReason)
+    ensures { Reports (E.written errors.old) (E.written errors.new) (E.faults errors.old) (E.faults errors.new) (lines.joined (lines.doc_parts kind place reason)) }
 {
     match reason {
         DocReason::LineTooLong | DocReason::DocumentTooLong | DocReason::ObjectTooLong => {
-            write_parts(errors, &[b"limit ", doc_text(reason), b"\n"])
+            write_parts(errors, &[b"limit ", doc_text(kind, reason), b"\n"])
         }
-        _ => report_at(errors, place, doc_text(reason), b""),
+        _ => report_at(errors, place, doc_text(kind, reason), b""),
     }
 }
 
-fn report_fault<E: Sink>(errors: &mut E, place: u64, reason: FrameReason)
-    ensures { Reports (E.written errors.old) (E.written errors.new) (E.faults errors.old) (E.faults errors.new) (lines.joined (lines.fault_parts place reason)) }
+fn report_fault<E: Sink>(errors: &mut E, kind: DocKind, place: u64, reason: FrameReason)
+    ensures { Reports (E.written errors.old) (E.written errors.new) (E.faults errors.old) (E.faults errors.new) (lines.joined (lines.fault_parts kind place reason)) }
 {
     match reason {
-        FrameReason::Doc(reason) => report_doc(errors, place, reason),
+        FrameReason::Doc(reason) => report_doc(errors, kind, place, reason),
         FrameReason::NotBuilt(keyword) => {
             let mut at = itoa::Buffer::new();
             let at = at.format(place);

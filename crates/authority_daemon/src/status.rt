@@ -2,11 +2,12 @@
 ghost use Rattle.std.specs.Prelude.{◌≡◌};
 ghost use Rattle.authority_daemon.specs.Lines.{number_of, refusal_number, fault_number};
 ghost use Rattle.authority_daemon.specs.declared.status.Stop.TheVariants.{Memory, Refused};
-ghost use Rattle.authority_daemon.specs.Stops.{of_read, of_calculation};
+ghost use Rattle.authority_daemon.specs.Stops as stops;
+ghost use Rattle.authority_daemon.specs.Stops.{of_calculation};
 
 use consensus_calc::CalcFault;
 use dir_bytes::Memory;
-use frame_terms::{FrameFault, FrameReason, ReadRefusal};
+use frame_terms::{DocKind, FrameFault, FrameReason, ReadRefusal};
 use item_terms::DocReason;
 use std::alloc::{AllocError, AllocFailed};
 use vote_terms::VoteWord;
@@ -15,11 +16,13 @@ use vote_terms::VoteWord;
 #[derive(Clone, Copy, Debug, PartialEq, Eq)]
 pub enum Refusal {
     /// The input is no list of documents of the kind that the command reads. This is its first fault.
-    Document(FrameFault),
+    Document { kind: DocKind, fault: FrameFault },
     /// The vote with this number, from 1, is the first that is not acceptable, for this reason.
     Vote { number: u64, word: VoteWord },
     /// The authorities whose votes are held are not more than half of the roster.
     TooFew { held: u64, roster: u32 },
+    /// The first verifier failed, and it is not known whether the votes are acceptable.
+    Verifier,
 }
 
 /// Why a call gives nothing.
@@ -72,9 +75,10 @@ impl Refusal {
         ensures { result ≡ refusal_number self }
     {
         match self {
-            Refusal::Document(fault) => fault_number(fault.reason),
+            Refusal::Document { fault, .. } => fault_number(fault.reason),
             Refusal::Vote { .. } => 6,
             Refusal::TooFew { .. } => 7,
+            Refusal::Verifier => 8,
         }
     }
 }
@@ -123,14 +127,14 @@ impl From<Memory> for Stop {
     }
 }
 
-impl From<ReadRefusal> for Stop {
-    ghost from_gives = { λ refusal e. e ≡ of_read refusal };
-
-    fn from(refusal: ReadRefusal) -> Stop {
-        match refusal {
-            ReadRefusal::Frame(fault) => Stop::Refused(Refusal::Document(fault)),
-            ReadRefusal::Memory => Stop::Memory,
-        }
+/// What was read of documents of a kind, or why the command stops.
+pub fn of_kind<D: Drop>(kind: DocKind, read: Result<D, ReadRefusal>) -> Result<D, Stop>
+    ensures { result ≡ stops.of_kind kind read }
+{
+    match read {
+        Ok(documents) => Ok(documents),
+        Err(ReadRefusal::Frame(fault)) => Err(Stop::Refused(Refusal::Document { kind, fault })),
+        Err(ReadRefusal::Memory) => Err(Stop::Memory),
     }
 }
 

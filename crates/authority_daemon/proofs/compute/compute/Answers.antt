@@ -1,7 +1,12 @@
+use Rattle.frame_terms.specs.declared.section.DocKind.TheVariants.{Vote}
+use Rattle.key_port.specs.Answers.{rules}
+use Rattle.authority_daemon.specs.Votes.{votes_of}
 use Rattle.authority_daemon.proofs.Computing.{computes}
+use Rattle.authority_daemon.proofs.WentOn.{votes_read}
 use Rattle.authority_daemon.proofs.compute.compute.Goals as goal
 
-pub returns : goal.returns
-returns c =
-    computes c.args.wanted.now c.args.bytes.now c.in_ok-text.text.items c.in_ok-votes.votes.items c.in_ok-accepted.accepted.votes c.len-roster.result c.in_ok-consensus.consensus
-    c.in_ok-votes.ensures.votes c.in_ok-accepted.ensures.1 c.in_ok-accepted.ensures.0 c.len-roster.ensures.value c.in_ok-consensus.ensures.calculates.0 c.in_ok-consensus.ensures.calculates.1 c.in_ok-text.ensures
+pub returns-clause-answer : goal.returns-clause-answer
+returns-clause-answer g c =
+    computes (rules g.V.Verifier.may_accept g.V.Verifier.may_refuse) c.args.wanted.now c.args.bytes.now c.in_ok-text.text.items c.in_ok-votes.votes.items c.in_ok-accepted.accepted.votes c.len-roster.result c.in_ok-consensus.consensus
+    (votes_read Vote (votes_of c.args.bytes.now) c.votes_of.result c.in_ok-votes.votes c.votes_of.ensures.votes c.in_ok-votes.ensures)
+    c.in_ok-accepted.ensures.accepts.1 c.in_ok-accepted.ensures.accepts.0 c.len-roster.ensures.value c.in_ok-consensus.ensures.calculates.0 c.in_ok-consensus.ensures.calculates.1 c.in_ok-text.ensures
