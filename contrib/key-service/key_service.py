@@ -19,7 +19,7 @@ import pathlib
 import socketserver
 import sys
 
-from cryptography.exceptions import InvalidSignature
+from cryptography.exceptions import InvalidSignature, UnsupportedAlgorithm
 from cryptography.hazmat.primitives import serialization
 from cryptography.hazmat.primitives.asymmetric import ed25519, padding, rsa
 
@@ -46,7 +46,7 @@ def rsa_key(key):
     """The RSA public key of a PKCS#1 DER text."""
     try:
         found = serialization.load_der_public_key(key)
-    except (ValueError, TypeError):
+    except (ValueError, TypeError, UnsupportedAlgorithm):
         return None
     if not isinstance(found, rsa.RSAPublicKey) or public_text(found) != key:
         return None
@@ -65,6 +65,9 @@ def why_not_rsa(key, message, signature):
     public = rsa_key(key)
     if public is None:
         return "the key is no PKCS#1 RSA public key"
+    # The library takes one whose leading zero bytes are cut off for the same signature.
+    if len(signature) != (public.key_size + 7) // 8:
+        return "the signature is not as long as the key"
     try:
         found = public.recover_data_from_signature(signature, padding.PKCS1v15(), None)
     except InvalidSignature:
