@@ -93,6 +93,23 @@ fn a_dialogue_of_two_calls(rt: HostRuntime) -> Result<(), Fail> {
 }
 
 #[test]
+fn a_dialogue_counts_no_fault(rt: HostRuntime) -> Result<(), Fail> {
+    let alloc = rt.alloc();
+    let first = service(alloc, b"yes\nno\nyes\n", &[], &[])?;
+    let mut keys = keys(alloc, Some(first), None)?;
+    for answer in [VerifyAnswer::Yes, VerifyAnswer::No, VerifyAnswer::Yes] {
+        assert_eq!(rt; ask(&mut keys), answer);
+        assert_eq!(rt; keys.faults(), 0);
+    }
+    // The service has closed the connection, and no other is given.
+    for faults in 1..4 {
+        assert_eq!(rt; ask(&mut keys), VerifyAnswer::Fault);
+        assert_eq!(rt; keys.faults(), faults);
+    }
+    Ok(())
+}
+
+#[test]
 fn dials_a_unix_socket(rt: HostRuntime) -> Result<(), Fail> {
     let path = "key_service.socket";
     let _stale = fs::remove_file(&rt, path);
