@@ -3,14 +3,8 @@ pub mod FirstLine
 pub mod FirstWord
 pub mod LineSteps
 pub mod ObjectSteps
-pub mod RoundTrip
 pub mod BodyLines
-pub mod WrittenBytes
-pub mod ObjectAgain
-pub mod ItemsAgain
 pub mod Places
 pub mod DecodedBytes
 pub mod Base64Groups
-pub mod BlockLines
-pub mod BlockFronts
-pub mod BlockReading
+pub mod Symbols

@@ -5,5 +5,3 @@ pub mod Bodies
 pub mod Writing
 pub mod Writers
 pub mod InPlace
-pub mod Blocks
-pub mod BlockFaults

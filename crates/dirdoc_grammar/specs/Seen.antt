@@ -1,5 +1,5 @@
 -- What contracts see of an item, and what a reader gives.
-use Rattle.std.specs.Prelude.{◌≡◌, ◌+◌, ◌<◌, ◌≤◌, [], ◌∷◌, length, Option, Some, None, Result, Ok, Err, IfSome}
+use Rattle.std.specs.Prelude.{◌≡◌, ◌+◌, ◌<◌, ◌≤◌, ◌^◌, [], ◌∷◌, length, Option, Some, None, Result, Ok, Err, IfSome}
 use Rattle.item_terms.specs.declared.fault.DocFault.{DocFault}
 use Rattle.item_terms.specs.Items as model
 use Rattle.dirdoc_grammar.specs.declared.item.Item.{Item}
@@ -21,6 +21,7 @@ seen item = record {
   separator = item.separator;
   arguments = item.arguments.now;
   start = item.start;
+  line_end = item.line_end;
   object = seen_object_if item.object;
   place = item.place;
   after = item.after;
@@ -43,3 +44,7 @@ pub record LiesInOrder (item : model.Item) : Type 0 where
   pub some_bytes : item.place < item.after
   pub arguments_end : item.start + length item.arguments ≤ item.after
   pub object_ends : IfSome item.object (λ object. object.start + length object.text ≤ item.after)
+
+-- an item lies within an input of fewer than 2 ^ 62 bytes
+abbrev pub IsInside : Item → Type 0
+IsInside item = LiesInOrder (seen item) × (item.after < 2 ^ 62)

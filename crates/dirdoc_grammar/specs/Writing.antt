@@ -1,11 +1,11 @@
--- Items that are written, and that they are read again.
-use Rattle.std.specs.Prelude.{◌≡◌, ℕ, ◌+◌, ◌≤◌, ◌==◌, Bool, true, false, not, ◌&&◌, List, [], ◌∷◌, ◌++◌, length, Option, Some, None, IfSome, slice_get}
+-- Items that are written: their text, and the items that are read of it.
+use Rattle.std.specs.Prelude.{◌≡◌, ℕ, ◌+◌, ◌≤◌, ◌==◌, Bool, true, false, not, List, [], ◌∷◌, ◌++◌, length, Option, Some, None, IfSome, slice_get}
 use Rattle.std.specs.List.{list_all}
 use Rattle.base64.specs.GeneralPurpose.{IsBytes}
-use Rattle.item_terms.specs.Words.{is_letter_or_digit, is_word_byte, first_is, argument_start, trim, begins_dash, are_words}
+use Rattle.item_terms.specs.Words.{is_letter_or_digit, is_word_byte, first_is, argument_start, trim, are_words}
 use Rattle.item_terms.specs.Faults.{max_line, max_object}
-use Rattle.item_terms.specs.Items.{Item, Object, Contents, nothing, contents}
-use Rattle.dirdoc_grammar.specs.Bodies.{begin_line, body_text, decoded, object_text}
+use Rattle.item_terms.specs.Items.{Item, Object, Contents}
+use Rattle.dirdoc_grammar.specs.Bodies.{begin_line, body_text, object_text}
 
 -- an object that is written: its words and its bytes
 pub record NewObject : Type 0 where
@@ -104,6 +104,7 @@ written place item = record {
   separator = slice_get (tail item.arguments) 0;
   arguments = item.arguments;
   start = argument_start place (keyword_text item);
+  line_end = place + (length (keyword_text item) + 1);
   object = written_object_if (place + (length (keyword_text item) + 1)) item.object;
   place = place;
   after = place + length (item_text item);
@@ -117,16 +118,3 @@ all_written place (item ∷ items) = written place item ∷ all_written (place +
 -- the contents with the items in front
 abbrev pub in_front : List Item → Contents → Contents
 in_front items rest = record { items = items ++ rest.items; fault = rest.fault }
-
--- ---- laws
-
--- Items that were written are the first that are read, and what follows them is read as it would be alone, unless an object
--- may follow and the next byte is '-'.
-abbrev pub ReadsAgain : Type 0
-ReadsAgain =
-    (limit place : ℕ) (items : List NewItem) (rest : List ℕ) → AreWritable limit place items → is_open items && begins_dash rest ≡ false
-    → contents limit place nothing (items_text items ++ rest) ≡ in_front (all_written place items) (contents limit (place + length (items_text items)) nothing rest)
-
--- The lines of an object that was written spell its bytes.
-abbrev pub ObjectsAreReadAgain : Type 0
-ObjectsAreReadAgain = (bytes : List ℕ) → IsBytes bytes → decoded (body_text bytes) ≡ Some bytes

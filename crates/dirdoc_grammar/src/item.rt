@@ -78,6 +78,8 @@ pub struct Item<'a> {
     pub arguments: &'a [u8],
     /// The place of the arguments' first byte; with no argument, that of the line's end.
     pub start: u64,
+    /// The place after the keyword line.
+    pub line_end: u64,
     /// The object, if there is one.
     pub object: Option<ObjectText<'a>>,
     /// The place of the item's first byte.

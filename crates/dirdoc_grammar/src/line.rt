@@ -86,6 +86,7 @@ fn item_of(text: &[u8], place: u64) -> Result<Option<Item<'_>>, DocFault>
         separator: rest.first().copied(),
         arguments: trim_end(&rest[blanks..]),
         start: place + (keyword.len() + blanks) as u64,
+        line_end: place + text.len() as u64 + 1,
         object: None,
         place,
         after: place + text.len() as u64 + 1,

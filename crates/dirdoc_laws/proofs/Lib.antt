@@ -1,3 +1,10 @@
+pub mod RoundTrip
+pub mod WrittenBytes
+pub mod ObjectAgain
+pub mod ItemsAgain
+pub mod BlockLines
+pub mod BlockFronts
+pub mod BlockReading
 pub mod LineRests
 pub mod Calls
 pub mod ReadAgain

@@ -7,7 +7,7 @@ use Rattle.item_terms.specs.Items.{Contents, contents, items_from, nothing}
 use Rattle.item_terms.specs.Faults.{max_object}
 use Rattle.dirdoc_grammar.specs.Bodies.{object_text}
 use Rattle.dirdoc_grammar.specs.Writing.{AreWritable, IsWritableObject, NewItem, NewObject, all_written, in_front, is_open, item_text, items_text}
-use Rattle.dirdoc_grammar.proofs.ItemsAgain.{items_again}
+use Rattle.dirdoc_laws.proofs.ItemsAgain.{items_again}
 use Rattle.dirdoc_laws.specs.Written.{AreWithinLimits, HasItems, IsItem, IsObject}
 
 -- an object that passes no limit may be written

@@ -1,7 +1,9 @@
-//! Laws of the writer of a document's items (dir-spec, meta-format): what its calls have written
-//! are items, and these are read again.
+//! Laws of the items of a document (dir-spec, meta-format): a document by its lines, and that items
+//! that were written are read again. Nothing stands on this crate but other laws.
 #![tactic(auto)]
 
+mod blocks;
 mod laws;
 
-pub use laws::{writers_write_items, written_items_are_read};
+pub use blocks::{faults_are_there, items_are_there, no_others_are};
+pub use laws::{objects_are_read_again, reads_again, writers_write_items, written_items_are_read};

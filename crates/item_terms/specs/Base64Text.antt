@@ -2,15 +2,16 @@
 use Rattle.std.specs.Prelude.{ℕ, ◌+◌, ◌==◌, nat_le, Bool, not, ◌&&◌, List, [], ◌∷◌, filter, is_ok, if◌then◌else◌}
 use Rattle.base64.specs.GeneralPurpose.{decode_of}
 use Rattle.base64.specs.Engines.{standard}
+use Rattle.item_terms.specs.Bytes.{line_feed}
 
 -- each line has 1 to 64 bytes; count are there already of the one that is read
 abbrev pub lines_fit : ℕ → List ℕ → Bool
 lines_fit count [] = count == 0
-lines_fit count (b ∷ text) = if b == 10 then nat_le 1 count && nat_le count 64 && lines_fit 0 text else lines_fit (count + 1) text
+lines_fit count (b ∷ text) = if b == line_feed then nat_le 1 count && nat_le count 64 && lines_fit 0 text else lines_fit (count + 1) text
 
 -- a byte that is no NL
 abbrev pub is_inside : ℕ → Bool
-is_inside b = not (b == 10)
+is_inside b = not (b == line_feed)
 
 -- the lines without their NLs, in one text
 abbrev pub joined : List ℕ → List ℕ

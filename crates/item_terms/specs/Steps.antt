@@ -6,6 +6,7 @@ use Rattle.item_terms.specs.Lines.{Line, size}
 use Rattle.item_terms.specs.Words.{is_blank_line, begins_dash, keyword, separator, arguments, argument_start, is_keyword_line, begin_words, is_end_line}
 use Rattle.item_terms.specs.Base64Text.{is_body}
 use Rattle.item_terms.specs.Faults.{max_object, at, line_fault, object_line_fault}
+use Rattle.item_terms.specs.Bytes.{line_feed}
 
 -- An object: the words of its first line, the place after that line, and what stands from there up to its last line.
 pub record Object : Type 0 where
@@ -14,12 +15,13 @@ pub record Object : Type 0 where
   pub text : List ℕ
 
 -- An item: its keyword, the byte right after it where its line goes on, the rest of its line without outer blanks and where
--- that stands, its object, the place of its first byte, and the place after its last line.
+-- that stands, the place after its line, its object, the place of its first byte, and the place after its last line.
 pub record Item : Type 0 where
   pub keyword : List ℕ
   pub separator : Option ℕ
   pub arguments : List ℕ
   pub start : ℕ
+  pub line_end : ℕ
   pub object : Option Object
   pub place : ℕ
   pub after : ℕ
@@ -33,6 +35,7 @@ keyword_item place line = record {
   separator = separator line.text;
   arguments = arguments line.text;
   start = argument_start place line.text;
+  line_end = place + size line;
   object = None;
   place = place;
   after = place + size line;
@@ -80,7 +83,7 @@ first_object_line place item line (Some words) =
 
 -- the object with one more line
 abbrev pub with_line : Object → List ℕ → Object
-with_line object text = record { words = object.words; start = object.start; text = object.text ++ text ++ 10 ∷ [] }
+with_line object text = record { words = object.words; start = object.start; text = object.text ++ text ++ line_feed ∷ [] }
 
 -- the item with its object, and the place after it
 abbrev pub with_object : Item → Object → ℕ → Item
@@ -89,6 +92,7 @@ with_object item object after = record {
   separator = item.separator;
   arguments = item.arguments;
   start = item.start;
+  line_end = item.line_end;
   object = Some object;
   place = item.place;
   after = after;

@@ -3,10 +3,11 @@
 use Rattle.std.specs.Prelude.{ℕ, ◌+◌, ◌-◌, ◌==◌, nat_le, nat_eq, Bool, true, false, not, ◌&&◌, ◌||◌, List, [], ◌∷◌, length, take, drop, Option, Some, None, if◌then◌else◌, codes, slice_get, option_and_then}
 use Rattle.std.specs.List.{list_all, position, prefix_len, suffix_len}
 use lib.Pointwise.{pointwise}
+use Rattle.item_terms.specs.Bytes.{nul, tab, space, hyphen}
 
 -- a space or a tab
 abbrev pub is_blank : ℕ → Bool
-is_blank b = (b == 32) || (b == 9)
+is_blank b = (b == space) || (b == tab)
 
 -- an ASCII letter or digit
 abbrev pub is_letter_or_digit : ℕ → Bool
@@ -14,7 +15,7 @@ is_letter_or_digit b = (nat_le 48 b && nat_le b 57) || (nat_le 65 b && nat_le b 
 
 -- a byte of a keyword: a letter, a digit or '-'
 abbrev pub is_word_byte : ℕ → Bool
-is_word_byte b = is_letter_or_digit b || (b == 45)
+is_word_byte b = is_letter_or_digit b || (b == hyphen)
 
 -- a line that is empty or has blanks alone
 abbrev pub is_blank_line : List ℕ → Bool
@@ -22,7 +23,7 @@ is_blank_line text = list_all is_blank text
 
 -- where the first NUL of a line is
 abbrev pub nul_in : List ℕ → Option ℕ
-nul_in text = position (λ b. b == 0) text
+nul_in text = position (λ b. b == nul) text
 
 -- ---- parts of a line
 
@@ -45,7 +46,7 @@ first_is p (b ∷ bytes) = p b
 
 -- the line begins with '-'
 abbrev pub begins_dash : List ℕ → Bool
-begins_dash text = first_is (λ b. b == 45) text
+begins_dash text = first_is (λ b. b == hyphen) text
 
 -- nothing stands here, or a blank in front
 abbrev pub ends_or_blank : List ℕ → Bool
@@ -104,7 +105,7 @@ argument n args = slice_get (words_of args) n
 -- words of letters, digits and '-', with one space between each two; at_start: whether a word has to begin here
 abbrev pub are_words : Bool → List ℕ → Bool
 are_words at_start [] = not at_start
-are_words at_start (b ∷ bytes) = if b == 32 then not at_start && are_words true bytes else is_word_byte b && are_words false bytes
+are_words at_start (b ∷ bytes) = if b == space then not at_start && are_words true bytes else is_word_byte b && are_words false bytes
 
 -- the end of both lines
 abbrev pub dashes : List ℕ

@@ -11,9 +11,9 @@ use Rattle.item_terms.specs.Base64Text.{is_body}
 use Rattle.item_terms.specs.Faults.{at, line_fault, object_line_fault, max_object}
 use Rattle.item_terms.specs.Steps.{Item, Open, Step, Object, step, nothing, keyword_line, object_lines, keyword_item, begun_object, with_line, with_object, open_item, item_unless, open_unless, step_unless, read_line, starts_dash, first_object_line}
 use Rattle.item_terms.specs.Items.{Contents, contents_of, also, proceed, failed, at_end, items_from}
-use Rattle.dirdoc_grammar.proofs.BlockLines.{sizes_append, and_false, dash_no_keyword, last_append, blank_apart, item_apart}
-use Rattle.dirdoc_grammar.specs.BlockFaults.{IsFaultBetween, IsFaultOfBegin, IsFaultInside, IsFaultAfter, HasFault, EndInFault, begin_with_dash, end_in_keyword_line}
-use Rattle.dirdoc_grammar.specs.Blocks.{sizes, text_of, IsBlankLine, IsKeywordLine, IsBeginLine, IsBodyLine, IsEndLine, AreBodyLines, AreLinesOfObject, AreLinesOfItem, AreLinesOfItems, ItemsAreThere}
+use Rattle.dirdoc_laws.proofs.BlockLines.{sizes_append, and_false, dash_no_keyword, last_append, blank_apart, item_apart}
+use Rattle.dirdoc_laws.specs.BlockFaults.{IsFaultBetween, IsFaultOfBegin, IsFaultInside, IsFaultAfter, HasFault, EndInFault, begin_with_dash, end_in_keyword_line}
+use Rattle.dirdoc_laws.specs.Blocks.{sizes, text_of, IsBlankLine, IsKeywordLine, IsBeginLine, IsBodyLine, IsEndLine, AreBodyLines, AreLinesOfObject, AreLinesOfItem, AreLinesOfItems, ItemsAreThere}
 
 text_more : (front : List Line) (line : Line) → text_of (front ++ line ∷ []) ≡ text_of front ++ line.text ++ 10 ∷ []
 text_more [] line = refl
@@ -134,6 +134,7 @@ alone limit p line h = record {
   separator = refl;
   arguments = refl;
   start = refl;
+  line_end = refl;
   stands = refl;
   after = omega arith;
 }
@@ -245,6 +246,7 @@ item_whole limit p place before item begin object line o b l = record {
   separator = ap (λ (i : Item). i.separator) o.made;
   arguments = ap (λ (i : Item). i.arguments) o.made;
   start = ap (λ (i : Item). i.start) o.made;
+  line_end = ap (λ (i : Item). i.line_end) o.made;
   stands = ap (λ (i : Item). i.place) o.made;
   after = omega (arith, o.next, o.begin_is, ap sizes o.lines, sizes_append before (line ∷ []));
 }

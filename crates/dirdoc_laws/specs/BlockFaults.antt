@@ -7,7 +7,7 @@ use Rattle.item_terms.specs.Words.{is_blank_line, is_keyword_line, begins_dash, 
 use Rattle.item_terms.specs.Base64Text.{is_body}
 use Rattle.item_terms.specs.Faults.{at, line_fault, object_line_fault, max_object}
 use Rattle.item_terms.specs.Items.{Item, items_from}
-use Rattle.dirdoc_grammar.specs.Blocks.{sizes, text_of, IsKeywordLine, IsBeginLine, IsEndLine, AreBodyLines, AreLinesOfItems}
+use Rattle.dirdoc_laws.specs.Blocks.{sizes, text_of, IsKeywordLine, IsBeginLine, IsEndLine, AreBodyLines, AreLinesOfItems}
 
 -- the fault of a line between items: the line is not sound, or it is neither a blank line nor a keyword line
 pub data IsFaultBetween (limit place : ℕ) (line : Line) (fault : DocFault) : Type 0 where

@@ -9,8 +9,8 @@ use Rattle.std.proofs.lemmas.List.{append-nil}
 use Rattle.item_terms.specs.Lines.{Line}
 use Rattle.item_terms.specs.Words.{is_blank, is_blank_line, is_letter_or_digit, is_keyword_line, ends_or_blank, after_keyword, begins_dash, begins, ends, strip, strip_end, dashes, if_words, is_dashes}
 use Rattle.item_terms.specs.Items.{Item}
-use Rattle.dirdoc_grammar.specs.Blocks.{sizes, IsBlankLine, AreBlankLines, AreLinesOfItem, AreLinesOfItems}
-use Rattle.dirdoc_grammar.specs.BlockFaults.{begin_with_dash, end_in_keyword_line}
+use Rattle.dirdoc_laws.specs.Blocks.{sizes, IsBlankLine, AreBlankLines, AreLinesOfItem, AreLinesOfItems}
+use Rattle.dirdoc_laws.specs.BlockFaults.{begin_with_dash, end_in_keyword_line}
 
 -- ---- lines in front of lines
 

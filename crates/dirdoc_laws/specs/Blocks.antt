@@ -88,6 +88,7 @@ pub record AreLinesOfItem (limit place : ℕ) (own : List Line) (item : Item) : 
   pub separator : item.separator ≡ separator first.text
   pub arguments : item.arguments ≡ arguments first.text
   pub start : item.start ≡ argument_start place first.text
+  pub line_end : item.line_end ≡ place + size first
   pub stands : item.place ≡ place
   pub after : item.after ≡ place + sizes own
 

@@ -16,8 +16,9 @@ use Rattle.item_terms.specs.Steps.{Item, Object, Step, step_unless, nothing, key
 use Rattle.item_terms.specs.Items.{contents, also}
 use Rattle.dirdoc_grammar.specs.Bodies.{begin_line, body_text, end_line, in_lines, object_text, base64_of}
 use Rattle.dirdoc_grammar.proofs.BodyLines.{first_of_lines}
-use Rattle.dirdoc_grammar.proofs.RoundTrip.{MayStand, read_over, sound_line}
-use Rattle.dirdoc_grammar.proofs.WrittenBytes.{all_taken, avoids, base64_symbols, begin_bytes, begin_words-begin_line, body_is_body, differs, end_bytes, ends_object, is_symbol, is_words_byte}
+use Rattle.dirdoc_laws.proofs.RoundTrip.{MayStand, read_over, sound_line}
+use Rattle.dirdoc_grammar.proofs.Symbols.{base64_symbols, is_symbol}
+use Rattle.dirdoc_laws.proofs.WrittenBytes.{all_taken, avoids, begin_bytes, begin_words-begin_line, body_is_body, differs, end_bytes, ends_object, is_words_byte}
 
 -- the line with its NL
 abbrev pub ended_line : List ℕ → Line

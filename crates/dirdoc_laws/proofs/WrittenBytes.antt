@@ -10,15 +10,12 @@ use Rattle.std.proofs.Math.Bool.{or-true}
 use lib.Pointwise.{bytes_decides, pointwise}
 use Rattle.base64.specs.declared.decode.DecodeError.{DecodeError}
 use Rattle.base64.specs.Engines.{standard}
-use Rattle.base64.specs.GeneralPurpose.{IsBytes, decode_of, encode_of}
+use Rattle.base64.specs.GeneralPurpose.{IsBytes, decode_of}
 use Rattle.base64.proofs.EngineFacts.{decode_of-encode_of}
 use Rattle.item_terms.specs.Base64Text.{is_base64, is_body, is_inside, joined, lines_fit}
 use Rattle.item_terms.specs.Words.{are_words, begin_words, begins, dashes, ends, if_words, is_dashes, is_end_line, is_word_byte, strip, strip_end}
-use Rattle.dirdoc_grammar.specs.declared.base64_text.Group.{Group}
-use Rattle.dirdoc_grammar.specs.declared.base64_text.Group.TheVariants.{Start, One, Two, Three, PaddedOnce, Closed}
-use Rattle.dirdoc_grammar.specs.Groups.{symbol, may_grow, grown, goes_on}
 use Rattle.dirdoc_grammar.specs.Bodies.{base64_of, begin_line, body_text, decoded, end_line, in_lines}
-use Rattle.dirdoc_grammar.proofs.Base64Groups.{encoding_is_accepted}
+use Rattle.dirdoc_grammar.proofs.Symbols.{base64_symbols, is_symbol}
 
 -- ---- bytes of one kind are none of another
 
@@ -40,39 +37,6 @@ all_taken p n text all = and_parts (list_all p (take n text)) (list_all p (drop 
 
 pub all_joined : (p : ℕ → Bool) (a b : List ℕ) → list_all p a ≡ true → list_all p b ≡ true → list_all p (a ++ b) ≡ true
 all_joined p a b all more = list_all-append p a b ∙ ap (λ (t : Bool). t && list_all p b) all ∙ more
-
--- ---- base64 has symbols and '=' alone
-
-abbrev pub is_symbol : ℕ → Bool
-is_symbol b = nat_le (symbol b) 63 || (b == 61)
-
-symbol_is : (b : ℕ) → nat_le (symbol b) 63 ≡ true → is_symbol b ≡ true
-symbol_is b e = ap (λ (t : Bool). t || (b == 61)) e
-
-padding_is : (b : ℕ) → (b == 61) ≡ true → is_symbol b ≡ true
-padding_is b e = ap (λ (t : Bool). nat_le (symbol b) 63 || t) e ∙ or-true (nat_le (symbol b) 63)
-
-by_padding : (padding low : Bool) (b : ℕ) → (b == 61) ≡ padding → cond padding low (nat_le (symbol b) 63) ≡ true → is_symbol b ≡ true
-by_padding true low b is h = padding_is b is
-by_padding false low b is h = symbol_is b h
-
-grows_by_symbol : (group : Group) (b : ℕ) → may_grow group b ≡ true → is_symbol b ≡ true
-grows_by_symbol Start b h = symbol_is b h
-grows_by_symbol One b h = symbol_is b h
-grows_by_symbol (Two value) b h = by_padding (b == 61) _ b refl h
-grows_by_symbol (Three value) b h = by_padding (b == 61) _ b refl h
-grows_by_symbol PaddedOnce b h = padding_is b h
-grows_by_symbol Closed b h = absurd (false≢true h)
-
-each_symbol : (group : Group) (text : List ℕ) → goes_on group text ≡ true → list_all is_symbol text ≡ true
-each_symbol group [] h = refl
-each_symbol group (b ∷ text) h =
-    let parts = and_parts (may_grow group b) (goes_on (grown group b) text) h in
-    ap (λ (t : Bool). t && list_all is_symbol text) (grows_by_symbol group b parts.0) ∙ each_symbol (grown group b) text parts.1
-
-pub base64_symbols : (bytes : List ℕ) → IsBytes bytes → list_all is_symbol (base64_of bytes) ≡ true
-unfolding base64_of
-base64_symbols bytes fit = each_symbol Start (encode_of standard bytes) (encoding_is_accepted bytes fit)
 
 -- ---- its lines have 1 to 64 characters
 

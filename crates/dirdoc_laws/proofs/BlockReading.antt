@@ -11,9 +11,9 @@ use Rattle.item_terms.specs.Base64Text.{is_body}
 use Rattle.item_terms.specs.Faults.{at, line_fault, object_line_fault, max_object}
 use Rattle.item_terms.specs.Steps.{Item, Open, Step, Object, step, nothing, keyword_line, object_lines, keyword_item, begun_object, with_line, with_object, open_item, item_unless, open_unless, step_unless, object_step, line_item, read_line, starts_dash, first_object_line}
 use Rattle.item_terms.specs.Items.{Contents, contents_of, also, proceed, failed, items_from}
-use Rattle.dirdoc_grammar.specs.Blocks.{sizes, text_of, IsBlankLine, IsKeywordLine, IsBeginLine, IsBodyLine, IsEndLine, AreBlankLines, AreBodyLines, AreLinesOfObject, AreLinesOfObjectIf, AreLinesOfItem, AreLinesOfItems, NoOthersAre}
-use Rattle.dirdoc_grammar.specs.BlockFaults.{IsFaultBetween, IsFaultOfBegin, IsFaultInside, IsFaultAfter, HasFaultInObject, HasFault, EndInFault, begin_with_dash, end_in_keyword_line}
-use Rattle.dirdoc_grammar.proofs.BlockLines.{sizes_append, and_false, keyword_not_blank, end_dash, begin_dash, items_no_dash, last_append}
+use Rattle.dirdoc_laws.specs.Blocks.{sizes, text_of, IsBlankLine, IsKeywordLine, IsBeginLine, IsBodyLine, IsEndLine, AreBlankLines, AreBodyLines, AreLinesOfObject, AreLinesOfObjectIf, AreLinesOfItem, AreLinesOfItems, NoOthersAre}
+use Rattle.dirdoc_laws.specs.BlockFaults.{IsFaultBetween, IsFaultOfBegin, IsFaultInside, IsFaultAfter, HasFaultInObject, HasFault, EndInFault, begin_with_dash, end_in_keyword_line}
+use Rattle.dirdoc_laws.proofs.BlockLines.{sizes_append, and_false, keyword_not_blank, end_dash, begin_dash, items_no_dash, last_append}
 
 -- ---- one line
 
@@ -143,25 +143,28 @@ item_with place line object after = record {
   separator = separator line.text;
   arguments = arguments line.text;
   start = argument_start place line.text;
+  line_end = place + size line;
   object = object;
   place = place;
   after = after;
 }
 
-abbrev item_of : List ℕ → Option ℕ → List ℕ → ℕ → Option Object → ℕ → ℕ → Item
-item_of word after_word args start object place after = record { keyword = word; separator = after_word; arguments = args; start = start; object = object; place = place; after = after }
+abbrev item_of : List ℕ → Option ℕ → List ℕ → ℕ → ℕ → Option Object → ℕ → ℕ → Item
+item_of word after_word args start line_end object place after = record { keyword = word; separator = after_word; arguments = args; start = start; line_end = line_end; object = object; place = place; after = after }
 
 item_is : (limit place : ℕ) (own : List Line) (item : Item) (object : Option Object) (h : AreLinesOfItem limit place own item) → item.object ≡ object → item ≡ item_with place h.first object (place + sizes own)
 item_is limit place own item object h o =
     let text = h.first.text in
     let start = argument_start place text in
-    ap (λ (k : List ℕ). item_of k item.separator item.arguments item.start item.object item.place item.after) h.keyword
-    ∙ ap (λ (s : Option ℕ). item_of (keyword text) s item.arguments item.start item.object item.place item.after) h.separator
-    ∙ ap (λ (a : List ℕ). item_of (keyword text) (separator text) a item.start item.object item.place item.after) h.arguments
-    ∙ ap (λ (n : ℕ). item_of (keyword text) (separator text) (arguments text) n item.object item.place item.after) h.start
-    ∙ ap (λ (x : Option Object). item_of (keyword text) (separator text) (arguments text) start x item.place item.after) o
-    ∙ ap (λ (n : ℕ). item_of (keyword text) (separator text) (arguments text) start object n item.after) h.stands
-    ∙ ap (λ (n : ℕ). item_of (keyword text) (separator text) (arguments text) start object place n) h.after
+    let line_end = place + size h.first in
+    ap (λ (k : List ℕ). item_of k item.separator item.arguments item.start item.line_end item.object item.place item.after) h.keyword
+    ∙ ap (λ (s : Option ℕ). item_of (keyword text) s item.arguments item.start item.line_end item.object item.place item.after) h.separator
+    ∙ ap (λ (a : List ℕ). item_of (keyword text) (separator text) a item.start item.line_end item.object item.place item.after) h.arguments
+    ∙ ap (λ (n : ℕ). item_of (keyword text) (separator text) (arguments text) n item.line_end item.object item.place item.after) h.start
+    ∙ ap (λ (n : ℕ). item_of (keyword text) (separator text) (arguments text) start n item.object item.place item.after) h.line_end
+    ∙ ap (λ (x : Option Object). item_of (keyword text) (separator text) (arguments text) start line_end x item.place item.after) o
+    ∙ ap (λ (n : ℕ). item_of (keyword text) (separator text) (arguments text) start line_end object n item.after) h.stands
+    ∙ ap (λ (n : ℕ). item_of (keyword text) (separator text) (arguments text) start line_end object place n) h.after
 
 -- what a keyword line and the lines of an object leave, if there is one
 after_keyword_line : (limit place : ℕ) (first : Line) (others rest : List Line) (object : Option Object) → AreLinesOfObjectIf limit (place + size first) others object

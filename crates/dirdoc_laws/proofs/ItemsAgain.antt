@@ -10,9 +10,9 @@ use Rattle.item_terms.specs.Steps.{nothing}
 use Rattle.item_terms.specs.Items.{Contents, contents, also}
 use Rattle.dirdoc_grammar.specs.Bodies.{object_text}
 use Rattle.dirdoc_grammar.specs.Writing.{AreWritable, IsKeyword, IsLineRest, IsWritable, NewItem, NewObject, all_written, in_front, is_open, item_text, items_text, lacks_object, object_text_if, tail, written}
-use Rattle.dirdoc_grammar.proofs.ObjectAgain.{object_again}
-use Rattle.dirdoc_grammar.proofs.RoundTrip.{MayStand, line_again, whole_item, written_item}
-use Rattle.dirdoc_grammar.proofs.WrittenBytes.{all_joined, avoids, differs}
+use Rattle.dirdoc_laws.proofs.ObjectAgain.{object_again}
+use Rattle.dirdoc_laws.proofs.RoundTrip.{MayStand, line_again, whole_item, written_item}
+use Rattle.dirdoc_laws.proofs.WrittenBytes.{all_joined, avoids, differs}
 
 -- ---- the keyword line
 
@@ -50,7 +50,7 @@ line_alone limit place word args rest h dash =
       read = ap (λ (l : List ℕ). contents limit place nothing l) (append_assoc line (10 ∷ []) rest)
           ∙ line_again limit place word args rest h.keyword h.arguments.trimmed stands
           ∙ whole_item limit after item rest dash
-          ∙ ap (λ (k : ℕ). also (Some (record { keyword = item.keyword; separator = item.separator; arguments = item.arguments; start = item.start; object = None; place = place; after = k })) (contents limit k nothing rest)) end;
+          ∙ ap (λ (k : ℕ). also (Some (record { keyword = item.keyword; separator = item.separator; arguments = item.arguments; start = item.start; line_end = item.line_end; object = None; place = place; after = k })) (contents limit k nothing rest)) end;
     }
 
 -- with an object, whatever follows
@@ -68,7 +68,7 @@ line_with_object limit place word args object rest h =
       read = ap (λ (l : List ℕ). contents limit place nothing l) (append_assoc line (10 ∷ text) rest)
           ∙ line_again limit place word args (text ++ rest) h.keyword h.arguments.trimmed stands
           ∙ object_again limit begin item object.words object.bytes rest h.object.words h.object.bytes h.object.fits (omega (arith, n, h.within))
-          ∙ ap (λ (k : ℕ). also (Some (record { keyword = item.keyword; separator = item.separator; arguments = item.arguments; start = item.start; object = whole.object; place = place; after = k })) (contents limit k nothing rest)) end;
+          ∙ ap (λ (k : ℕ). also (Some (record { keyword = item.keyword; separator = item.separator; arguments = item.arguments; start = item.start; line_end = item.line_end; object = whole.object; place = place; after = k })) (contents limit k nothing rest)) end;
     }
 
 by_object : (limit place : ℕ) (word args : List ℕ) (object : Option NewObject) (rest : List ℕ) → IsWritable limit place (item_of word args object) → lacks_object object && begins_dash rest ≡ false → IsReadAgain limit place (item_of word args object) rest
