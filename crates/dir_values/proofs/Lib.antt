@@ -3,3 +3,11 @@ pub mod Orders
 pub mod Flags
 pub mod Members
 pub mod SetTexts
+pub mod ArgumentWords
+pub mod ListedFlags
+pub mod NumberTexts
+pub mod PortTexts
+pub mod Apart
+pub mod RangeTexts
+pub mod PortEntries
+pub mod PortsAgain

@@ -1,14 +1,6 @@
--- The arguments of a text, one after the other (dir-spec, meta-format).
-use Rattle.std.specs.Prelude.{ℕ, ◌+◌, ◌==◌, Bool, true, ◌||◌, List, [], ◌∷◌, map, if◌then◌else◌}
-
--- a space or a tab
-abbrev pub is_blank : ℕ → Bool
-is_blank byte = byte == 32 || byte == 9
-
--- nothing stands here, or a blank in front
-abbrev pub ends_or_blank : List ℕ → Bool
-ends_or_blank [] = true
-ends_or_blank (byte ∷ text) = is_blank byte
+-- The arguments of a text, one after the other: its words, with their places (dir-spec, meta-format).
+use Rattle.std.specs.Prelude.{◌≡◌, ℕ, ◌+◌, List, [], ◌∷◌, map, if◌then◌else◌}
+use Rattle.item_terms.specs.Words.{is_blank, ends_or_blank, words_of}
 
 -- an argument, and the place of its first byte
 pub record Argument : Type 0 where
@@ -28,6 +20,10 @@ arguments_at place (byte ∷ text) =
     else if ends_or_blank text then record { place = place; text = byte ∷ [] } ∷ arguments_at (place + 1) text
     else onto place byte (arguments_at (place + 1) text)
 
--- the words of a text: its arguments without their places
-abbrev pub words_in : List ℕ → List (List ℕ)
-words_in text = map (λ argument. argument.text) (arguments_at 0 text)
+-- their texts
+abbrev pub texts_of : List Argument → List (List ℕ)
+texts_of arguments = map (λ (argument : Argument). argument.text) arguments
+
+-- Without their places the arguments of a text are its words.
+abbrev pub ArgumentsAreWords : Type 0
+ArgumentsAreWords = (place : ℕ) (text : List ℕ) → texts_of (arguments_at place text) ≡ words_of text

@@ -16,6 +16,10 @@ use Rattle.dir_values.specs.declared.digest.Digest2.{Digest2}
 abbrev pub fingerprint : List ℕ → Option Fingerprint
 fingerprint text = option_map (λ bytes. record { 0 = bytes }) (fields.hex 20 text)
 
+-- the digest of a signing key that 40 hex digits spell, of either case
+abbrev pub key_digest : List ℕ → Option Digest1
+key_digest text = option_map (λ bytes. record { 0 = bytes }) (fields.hex 20 text)
+
 -- the SHA-1 digest that 27 characters of strict base64 spell, without `=`
 abbrev pub digest1 : List ℕ → Option Digest1
 digest1 text = option_map (λ bytes. record { 0 = bytes }) (fields.base64 20 text)
@@ -27,6 +31,10 @@ digest2 text = option_map (λ bytes. record { 0 = bytes }) (fields.base64 32 tex
 -- 40 hex digits, in upper case
 abbrev pub fingerprint_text : Fingerprint → List ℕ
 fingerprint_text value = hex_text value.0
+
+-- the digest of a signing key as 40 hex digits, in upper case
+abbrev pub key_digest_text : Digest1 → List ℕ
+key_digest_text value = hex_text value.0
 
 -- 27 characters of base64, without `=`
 abbrev pub digest1_text : Digest1 → List ℕ

@@ -1,7 +1,10 @@
 -- Sets of flags: a flag's name, the set that flags make, and its text.
-use Rattle.std.specs.Prelude.{◌≡◌, ℕ, ◌==◌, nat_le, Bool, true, ◌&&◌, ◌||◌, not, List, [], ◌∷◌, length, AllPairs, Result, Ok, Err, if◌then◌else◌}
+use Rattle.std.specs.Prelude.{◌≡◌, ℕ, ◌==◌, nat_le, Bool, true, ◌&&◌, ◌||◌, not, List, [], ◌∷◌, ◌++◌, length, AllPairs}
+use Rattle.std.specs.Prelude.{Option, Some, None, Result, Ok, Err, if◌then◌else◌}
 use Rattle.std.specs.List.{fold, list_all, list_any, join_with_byte}
 use Rattle.std.specs.Str.{bytes_eq}
+use Rattle.item_terms.specs.Bytes.{space, hyphen, underscore}
+use Rattle.item_terms.specs.Words.{is_letter_or_digit, words_of}
 use Rattle.dir_values.specs.Arguments.{Argument, arguments_at}
 use Rattle.dir_values.specs.Digests.{bytes_below}
 use Rattle.dir_values.specs.declared.refusal.ValueRefusal.{ValueRefusal}
@@ -9,9 +12,7 @@ use Rattle.dir_values.specs.declared.refusal.ValueRefusal.TheVariants.{BadValue}
 
 -- a letter, a digit, `-` or `_`
 abbrev pub is_name_byte : ℕ → Bool
-is_name_byte byte =
-    (nat_le 48 byte && nat_le byte 57) || (nat_le 65 byte && nat_le byte 90) || (nat_le 97 byte && nat_le byte 122)
-    || byte == 45 || byte == 95
+is_name_byte byte = is_letter_or_digit byte || byte == hyphen || byte == underscore
 
 -- the name of a flag: 1 to 64 such bytes
 abbrev pub is_name : List ℕ → Bool
@@ -39,19 +40,27 @@ as_set flags = fold with_flag [] flags
 
 -- the flags with single spaces between them
 abbrev pub set_text : List (List ℕ) → List ℕ
-set_text flags = join_with_byte 32 flags
+set_text flags = join_with_byte space flags
 
--- the flags in a list of arguments, together with those before; the first argument that is no name of a flag, or that
--- stands before in the list, is a bad value
-abbrev pub flags_after : List (List ℕ) → List Argument → Result (List (List ℕ)) ValueRefusal
-flags_after before [] = Ok before
-flags_after before (argument ∷ rest) =
-    if is_name argument.text && not (has_flag before argument.text) then flags_after (with_flag before argument.text) rest
-    else Err (BadValue argument.place)
+-- whether a flag is among some arguments
+abbrev pub is_among : List ℕ → List Argument → Bool
+is_among flag arguments = list_any (λ (argument : Argument). bytes_eq argument.text flag) arguments
+
+-- the place of the first argument that is no name of a flag, or that stands before it too
+unfoldable pub wrong_flag : List Argument → List Argument → Option ℕ
+wrong_flag before [] = None
+wrong_flag before (argument ∷ rest) =
+    if is_name argument.text && not (is_among argument.text before) then wrong_flag (before ++ argument ∷ []) rest
+    else Some argument.place
+
+-- a set, unless something is wrong at a place
+abbrev pub unless_wrong : Option ℕ → List (List ℕ) → Result (List (List ℕ)) ValueRefusal
+unless_wrong None flags = Ok flags
+unless_wrong (Some place) flags = Err (BadValue place)
 
 -- the set of flags that a text spells
 abbrev pub flag_set : List ℕ → Result (List (List ℕ)) ValueRefusal
-flag_set text = flags_after [] (arguments_at 0 text)
+flag_set text = unless_wrong (wrong_flag [] (arguments_at 0 text)) (as_set (words_of text))
 
 -- A set of flags ascends.
 abbrev pub SetsAscend : Type 0

@@ -1,11 +1,15 @@
 -- What the private functions of this crate say.
-use Rattle.std.specs.Prelude.{ℕ, Bool, false, not, List, [], ◌∷◌, ◌++◌, slice_get}
+use Rattle.std.specs.Prelude.{ℕ, nat_le, Bool, false, not, ◌&&◌, List, [], ◌∷◌, ◌++◌, slice_get, decimal}
+use Rattle.std.specs.Prelude.{Option, Some, None, if◌then◌else◌}
 use Rattle.std.specs.Option.{option_map_or}
 use Rattle.std.specs.List.{list_all, prefix_len}
 use Rattle.std.specs.Str.{bytes_eq}
+use Rattle.item_terms.specs.Bytes.{space}
+use Rattle.item_terms.specs.Words.{is_blank}
 use Rattle.dir_values.specs.Digests.{bytes_below}
-use Rattle.dir_values.specs.Arguments.{is_blank}
-use Rattle.dir_values.specs.FlagSets.{is_name_byte}
+use Rattle.dir_values.specs.Arguments.{Argument}
+use Rattle.dir_values.specs.FlagSets.{is_name_byte, is_name, is_among}
+use Rattle.dir_values.specs.declared.port_range.PortRange.{PortRange}
 
 -- how many flags stand before the first that does not come before a flag
 abbrev pub place_of : List (List ℕ) → List ℕ → ℕ
@@ -30,4 +34,18 @@ has_name_bytes text = list_all is_name_byte text
 -- flags, each after a space
 abbrev pub after_text : List (List ℕ) → List ℕ
 after_text [] = []
-after_text (flag ∷ rest) = 32 ∷ (flag ++ after_text rest)
+after_text (flag ∷ rest) = space ∷ (flag ++ after_text rest)
+
+-- whether a text is the name of a flag that is not among some arguments
+abbrev pub is_new_flag : List ℕ → List Argument → Bool
+is_new_flag text before = is_name text && not (is_among text before)
+
+-- numbers, each after a space
+abbrev pub after_numbers : List ℕ → List ℕ
+after_numbers [] = []
+after_numbers (number ∷ rest) = space ∷ decimal number ++ after_numbers rest
+
+-- the range, if it begins at a port or behind it
+abbrev pub from_port : ℕ → Option PortRange → Option PortRange
+from_port next None = None
+from_port next (Some range) = if nat_le next range.low then Some range else None

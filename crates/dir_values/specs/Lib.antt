@@ -5,3 +5,6 @@ pub mod Lending
 pub mod Refusals
 pub mod Rosters
 pub mod Taking
+pub mod Names
+pub mod Numbers
+pub mod Ports

@@ -1,7 +1,9 @@
 // The arguments of a text, one after the other.
 ghost use Rattle.std.specs.Prelude.{◌≡◌, ◌+◌, ◌<◌, ◌^◌, ◌≤◌, IfSome, length};
-ghost use Rattle.dir_values.specs.Arguments as words;
+ghost use Rattle.dir_values.specs.Arguments as arguments;
+ghost use Rattle.dir_values.specs.Arguments.{ArgumentsAreWords};
 ghost use Rattle.dir_values.specs.Lending as lending;
+ghost use Rattle.item_terms.specs.Words as words;
 
 use std::marker::Model;
 
@@ -36,7 +38,7 @@ impl<'a> Arguments<'a> {
     /// The arguments of a text that begins at this place.
     pub fn at(place: u64, text: &'a [u8]) -> Arguments<'a>
         requires { place + length text.now < 2 ^ 64 }
-        ensures { result ≡ words.arguments_at place text.now }
+        ensures { result ≡ arguments.arguments_at place text.now }
     {
         Arguments { place, text }
     }
@@ -58,13 +60,14 @@ impl<'a> Arguments<'a> {
     }
 }
 
+/// Whether a byte is a blank: a space or a tab.
 fn is_blank(byte: u8) -> bool
     ensures { result ≡ words.is_blank byte }
 {
     byte == b' ' || byte == b'\t'
 }
 
-// How many blanks stand in front.
+/// How many blanks stand in front.
 fn blanks(text: &[u8]) -> usize
     ensures count { result ≡ lending.blanks text.now }
     ensures within { result ≤ length text.now }
@@ -72,10 +75,15 @@ fn blanks(text: &[u8]) -> usize
     text.iter().take_while(|byte| is_blank(**byte)).count()
 }
 
-// How many bytes stand in front of the first blank.
+/// How many bytes stand in front of the first blank.
 fn word_len(text: &[u8]) -> usize
     ensures count { result ≡ lending.word_len text.now }
     ensures within { result ≤ length text.now }
 {
     text.iter().take_while(|byte| !is_blank(**byte)).count()
 }
+
+/// A law: the arguments of a text are its words, with their places.
+pub fn arguments_are_words()
+    ensures { ArgumentsAreWords }
+{}

@@ -5,7 +5,7 @@ ghost use Rattle.dir_values.specs.Refusals.{or_bad_value};
 use crate::refusal::ValueRefusal;
 use dir_bytes::{Memory, push_base64, push_hex_upper, read_base64, read_hex};
 
-/// The SHA-1 of a relay's or an authority's identity key, which names it. Its text is 40 hex digits.
+/// A SHA-1 of a relay's or an authority's identity key, which names it. Its text is 40 hex digits.
 #[derive(Clone, Copy, Debug, PartialEq, Eq, PartialOrd, Ord)]
 pub struct Fingerprint(pub [u8; 20]);
 
@@ -59,6 +59,18 @@ impl Fingerprint {
 
 impl Digest1 {
     ghost use Rattle.dir_values.specs.Digests as digests;
+
+    /// The digest of a signing key that 40 hex digits spell, of either case, as they stand in a `directory-signature`.
+    /// `BadValue`, at place 0, for any other text.
+    pub fn read_hex(text: &[u8]) -> Result<Digest1, ValueRefusal>
+        ensures { result ≡ or_bad_value (digests.key_digest text.now) }
+    {
+        let mut bytes = [0u8; 20];
+        match read_hex(text, &mut bytes) {
+            Ok(()) => Ok(Digest1(bytes)),
+            Err(_) => Err(ValueRefusal::BadValue { place: 0 }),
+        }
+    }
 
     /// The digest that the text spells. `BadValue`, at place 0, for any other text.
     pub fn read(text: &[u8]) -> Result<Digest1, ValueRefusal>

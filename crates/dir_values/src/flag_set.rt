@@ -1,12 +1,13 @@
 // Sets of flags.
 ghost use Rattle.std.specs.Prelude.{◌≡◌, ◌==◌, ◌+◌, ◌<◌, ◌≤◌, ◌^◌, ◌++◌, [], Some, IsOk, OnOk, OnErr, length, slice_get, vec_len, vec_capacity, take};
 ghost use Rattle.std.specs.List.{fold};
-ghost use Rattle.dir_values.specs.Arguments.{words_in};
 ghost use Rattle.dir_values.specs.FlagSets as flag_sets;
 ghost use Rattle.dir_values.specs.Lending as lending;
 ghost use Rattle.dir_values.specs.Refusals.{Reads};
+ghost use Rattle.item_terms.specs.Words.{words_of};
 
 use crate::arguments::Arguments;
+use crate::flag_list::wrong_flag;
 use crate::refusal::ValueRefusal;
 use dir_bytes::{Memory, Text};
 use std::alloc::Global;
@@ -85,8 +86,7 @@ impl FlagSet {
 
     /// Puts in each word of a text. Without memory some of them may have been put in.
     pub fn insert_words(&mut self, alloc: Global, text: &[u8]) -> Result<(), Memory>
-        requires { length text.now < 2 ^ 62 }
-        ensures { OnOk result (self.new ≡ fold flag_sets.with_flag self.old (words_in text.now)) }
+        ensures { OnOk result (self.new ≡ fold flag_sets.with_flag self.old (words_of text.now)) }
     {
         let mut arguments = Arguments::at(0, text);
         'arguments: while let Some(argument) = arguments.next() {
@@ -102,16 +102,11 @@ impl FlagSet {
     pub fn read(alloc: Global, text: &[u8]) -> Result<FlagSet, ValueRefusal>
         ensures { Reads (flag_sets.flag_set text.now) result }
     {
-        let mut set = FlagSet::new(alloc);
-        let mut arguments = Arguments::at(0, text);
-        'arguments: while let Some(argument) = arguments.next() {
-            if !is_name(argument.text) || set.contains(argument.text) {
-                return Err(ValueRefusal::BadValue {
-                    place: argument.place,
-                });
-            }
-            set.insert(alloc, argument.text)?;
+        if let Some(place) = wrong_flag(0, text) {
+            return Err(ValueRefusal::BadValue { place });
         }
+        let mut set = FlagSet::new(alloc);
+        set.insert_words(alloc, text)?;
         Ok(set)
     }
 
@@ -133,7 +128,7 @@ impl FlagSet {
     }
 }
 
-// Appends flags, with single spaces between them. Without memory a part of them may stand there.
+/// Appends flags, with single spaces between them. Without memory a part of them may stand there.
 fn push_flags(flags: &[Text], out: &mut Vec<u8>) -> Result<(), Memory>
     ensures ok { OnOk result (out.new.items ≡ out.old.items ++ flag_sets.set_text flags.now) }
     ensures err { OnErr result (take (vec_len out.old) out.new.items ≡ out.old.items) }
@@ -151,27 +146,7 @@ fn push_flags(flags: &[Text], out: &mut Vec<u8>) -> Result<(), Memory>
     Ok(())
 }
 
-// Whether a text is the name of a flag.
-fn is_name(text: &[u8]) -> bool
-    ensures { result ≡ flag_sets.is_name text.now }
-{
-    text.len() >= 1 && text.len() <= 64 && has_name_bytes(text)
-}
-
-// Whether a text has letters, digits, `-` and `_` alone.
-fn has_name_bytes(text: &[u8]) -> bool
-    ensures { result ≡ lending.has_name_bytes text.now }
-{
-    text.iter().all(|byte| is_name_byte(*byte))
-}
-
-fn is_name_byte(byte: u8) -> bool
-    ensures { result ≡ flag_sets.is_name_byte byte }
-{
-    byte.is_ascii_alphanumeric() || byte == b'-' || byte == b'_'
-}
-
-// How many of the flags come before a flag.
+/// How many of the flags come before a flag.
 fn place_of(flags: &[Text], flag: &[u8]) -> usize
     ensures count { result ≡ lending.place_of flags.now flag.now }
     ensures within { result ≤ length flags.now }
@@ -182,7 +157,7 @@ fn place_of(flags: &[Text], flag: &[u8]) -> usize
         .count()
 }
 
-// Whether a flag stands at a place.
+/// Whether a flag stands at a place.
 fn is_at(flags: &[Text], place: usize, flag: &[u8]) -> bool
     ensures { result ≡ lending.is_at flags.now place flag.now }
 {

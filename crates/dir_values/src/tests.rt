@@ -1,5 +1,7 @@
 // Texts of values from outside, and what reading and writing them gives.
-use crate::{Digest1, Digest2, Fingerprint, FlagSet, Roster, RosterFault, ValueRefusal};
+use crate::{
+    Digest1, Digest2, Fingerprint, FlagSet, PortSummary, Roster, RosterFault, ValueRefusal,
+};
 use std::test::Fail;
 
 #[test]
@@ -36,5 +38,34 @@ fn a_roster_has_each_member_once(rt: HostRuntime) -> Result<(), Fail> {
     assert!(rt; roster.copy(rt.alloc())?.contains(&second));
     let twice = Roster::new([first, second, first].to_vec(rt.alloc())?).err();
     assert_eq!(rt; twice, Some(RosterFault::Twice(first)));
+    Ok(())
+}
+
+#[test]
+fn ports_are_read_and_written(rt: HostRuntime) -> Result<(), Fail> {
+    let ports = PortSummary::read(rt.alloc(), b"accept 80-80,443-00445 ignored")?;
+    let mut out = Vec::new(rt.alloc());
+    ports.push(&mut out)?;
+    assert_eq!(rt; out.as_slice(), b"accept 80,443-445".as_slice());
+    assert!(rt; ports.accepts(445) && !ports.accepts(81));
+    let rejected = PortSummary::read(rt.alloc(), b"reject 1-1023")?;
+    assert!(rt; rejected.accepts(1024) && !rejected.accepts(1023));
+    Ok(())
+}
+
+#[test]
+fn wrong_ports_are_refused_where_they_stand(rt: HostRuntime) -> Result<(), Fail> {
+    let touching = PortSummary::read(rt.alloc(), b"accept 1-2,3-4").err();
+    assert_eq!(rt; touching, Some(ValueRefusal::BadValue { place: 7 }));
+    let backwards = PortSummary::read(rt.alloc(), b"reject  5-3").err();
+    assert_eq!(rt; backwards, Some(ValueRefusal::BadValue { place: 8 }));
+    let zero = PortSummary::read(rt.alloc(), b"accept 0").err();
+    assert_eq!(rt; zero, Some(ValueRefusal::BadValue { place: 7 }));
+    let past = PortSummary::read(rt.alloc(), b"accept 65536").err();
+    assert_eq!(rt; past, Some(ValueRefusal::BadValue { place: 7 }));
+    let word = PortSummary::read(rt.alloc(), b"allow 80").err();
+    assert_eq!(rt; word, Some(ValueRefusal::BadValue { place: 0 }));
+    let missing = PortSummary::read(rt.alloc(), b"accept").err();
+    assert_eq!(rt; missing, Some(ValueRefusal::BadValue { place: 6 }));
     Ok(())
 }

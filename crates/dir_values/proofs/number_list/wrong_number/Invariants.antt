@@ -1,9 +1,9 @@
 use Rattle.std.proofs.Common.{◌≡◌, length}
-use Rattle.dir_values.specs.FlagSets.{flags_after, flag_set}
-use Rattle.dir_values.proofs.flag_set.FlagSet.read.Given as goal
+use Rattle.dir_values.specs.Numbers.{wrong_number}
+use Rattle.dir_values.proofs.number_list.wrong_number.Given as goal
 
 abbrev pub invariant-arguments : goal.invariant-arguments
-invariant-arguments l = flags_after l.set l.arguments ≡ flag_set l.fn.text
+invariant-arguments l = wrong_number l.arguments ≡ wrong_number l.fn.arguments
 
 abbrev pub decreases-arguments : goal.decreases-arguments
 decreases-arguments l = length l.arguments

@@ -1,0 +1,7 @@
+use Rattle.std.proofs.Common.{◌≡◌, ◌++◌, drop}
+use Rattle.dir_values.specs.Lending.{after_numbers}
+use Rattle.dir_values.specs.Numbers.{numbers_text}
+use Rattle.dir_values.proofs.number_list.push_numbers.Given as goal
+
+abbrev pub invariant-numbers : goal.invariant-numbers
+invariant-numbers l = l.out.items ++ after_numbers (drop l.number-index l.others) ≡ l.fn.out.items ++ numbers_text l.fn.list
