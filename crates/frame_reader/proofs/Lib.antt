@@ -1,3 +1,2 @@
-pub mod Flags
 pub mod Closing
 pub mod Within

@@ -6,66 +6,99 @@ use Rattle.dirdoc_grammar.specs.InPlace.{EachInPlace}
 use Rattle.dirdoc_grammar.proofs.Places.{stand_in_place}
 use Rattle.frame_terms.specs.declared.document.Group.{Group}
 use Rattle.frame_terms.specs.declared.document.Made.{Made}
-use Rattle.frame_terms.specs.declared.document.Made.TheVariants.{Passes, Pushes, Opens, Enters, Leaves, Ends}
+use Rattle.frame_terms.specs.declared.document.Made.TheVariants.{Passes, Pushes, Opens, Enters, Leaves, Ends, Stops}
 use Rattle.frame_terms.specs.declared.document.Open.{Open}
+use Rattle.frame_terms.specs.declared.document.Taken.{Taken}
+use Rattle.frame_terms.specs.declared.fault.FrameFault.{FrameFault}
 use Rattle.frame_terms.specs.declared.fault.ReadRefusal.{ReadRefusal}
 use Rattle.frame_terms.specs.declared.keyword.Keyword.{Keyword}
-use Rattle.frame_terms.specs.declared.section.DocKind.{DocKind}
-use Rattle.frame_terms.specs.declared.section.SectionName.{SectionName}
-use Rattle.frame_terms.specs.declared.value.Taken.{Taken}
 use Rattle.frame_terms.specs.Decisions.{made_by}
-use Rattle.frame_terms.specs.Documents.{Document, closed_at, at_end, missing_at_end, opened, entered, pushed, left, is_inner, onto, go_on, read_items, start, document_of, finish, Folds}
+use Rattle.frame_terms.specs.Documents.{Document, closed_at, at_end, missing_at_end, with_next, with_inner, with_one}
+use Rattle.frame_terms.specs.Documents.{without_inner, onto, go_on, note_of_made, after_noted, after_made, read_items}
+use Rattle.frame_terms.specs.Documents.{start, document_of, finish, Folds}
+use Rattle.frame_terms.specs.Tables.{Tables}
 use Rattle.frame_reader.specs.Reading.{EndsWithin}
 
 -- the document ends before this place
-abbrev pub UsedWithin : ℕ → Result Document ReadRefusal → Type 0
+abbrev pub UsedWithin : {S V : Type 0} → ℕ → Result (Document S V) ReadRefusal → Type 0
 UsedWithin n (Ok document) = document.used ≤ n
 UsedWithin n (Err refusal) = Unit {0}
 
-closes_within : (n : ℕ) (open_ : Open) (missing : Option Keyword) → UsedWithin n (closed_at n open_ missing)
+closes_within : {S V : Type 0} (n : ℕ) (open_ : Open S V) (missing : Option Keyword)
+    → UsedWithin n (closed_at n open_ missing)
 closes_within n open_ None = omega arith
 closes_within n open_ (Some keyword) = tt
 
-ends_there : (kind : DocKind) (n : ℕ) (open_ : Open) (fault : Option DocFault) → UsedWithin n (at_end kind n open_ fault)
-ends_there kind n open_ None = closes_within n open_ (missing_at_end kind open_.section open_.taken)
-ends_there kind n open_ (Some fault) = tt
+ends_there : {S K V X : Type 0} (tables : Tables S K V X) (n : ℕ) (open_ : Open S V) (fault : Option DocFault)
+    → UsedWithin n (at_end tables n open_ fault)
+ends_there tables n open_ None = closes_within n open_ (missing_at_end tables open_.section open_.taken)
+ends_there tables n open_ (Some fault) = tt
 
-onto_within : (n : ℕ) (group : Group) (rest : Result Document ReadRefusal) → UsedWithin n rest → UsedWithin n (onto group rest)
+onto_within : {S V : Type 0} (n : ℕ) (group : Group S V) (rest : Result (Document S V) ReadRefusal) → UsedWithin n rest
+    → UsedWithin n (onto group rest)
 onto_within n group (Ok document) within = within
 onto_within n group (Err refusal) within = tt
 
-goes_on : (n : ℕ) (made : Result Made ReadRefusal) (open_ : Open) (item : Item) (more : Open → Result Document ReadRefusal) → item.after ≤ n
-    → ((next : Open) → UsedWithin n (more next)) → UsedWithin n (go_on made open_ item more)
-goes_on n (Err refusal) open_ item more after within = tt
-goes_on n (Ok Passes) open_ item more after within = within open_
-goes_on n (Ok (Pushes one)) open_ item more after within = within (pushed one open_)
-goes_on n (Ok (Opens next one)) open_ item more after within = onto_within n _ (more (opened next one open_)) (within (opened next one open_))
-goes_on n (Ok (Enters inner one)) open_ item more after within = within (entered inner one open_)
-goes_on n (Ok (Leaves one)) open_ item more after within = onto_within n _ (more (left open_.section open_.around)) (within (left open_.section open_.around))
-goes_on n (Ok (Ends one)) open_ item more after within = after
+goes_on : {S V : Type 0} (n : ℕ) (made : Made S V) (open_ : Open S V) (item : Item)
+    (more : Open S V → Result (Document S V) ReadRefusal) → item.place ≤ n → item.after ≤ n
+    → ((next : Open S V) → UsedWithin n (more next)) → UsedWithin n (go_on made open_ item more)
+goes_on n Passes open_ item more place after within = within open_
+goes_on n (Pushes one) open_ item more place after within = within (with_one one open_)
+goes_on n (Opens next one) open_ item more place after within =
+    onto_within n _ (more (with_next next one open_)) (within (with_next next one open_))
+goes_on n (Enters inner one) open_ item more place after within = within (with_inner inner one open_)
+goes_on n (Leaves one) open_ item more place after within =
+    onto_within n _ (more (without_inner open_.around open_)) (within (without_inner open_.around open_))
+goes_on n (Ends one) open_ item more place after within = after
+goes_on n Stops open_ item more place after within = place
+
+noted_within : {S V X : Type 0} (n : ℕ) (noted : Result X FrameFault) (made : Made S V) (open_ : Open S V) (item : Item)
+    (more : X → Open S V → Result (Document S V) ReadRefusal) → item.place ≤ n → item.after ≤ n
+    → ((across : X) (next : Open S V) → UsedWithin n (more across next))
+    → UsedWithin n (after_noted noted made open_ item more)
+noted_within n (Err fault) made open_ item more place after within = tt
+noted_within n (Ok across) made open_ item more place after within =
+    goes_on n made open_ item (λ next. more across next) place after (λ next. within across next)
+
+made_within : {S K V X : Type 0} (tables : Tables S K V X) (n : ℕ) (made : Result (Made S V) ReadRefusal) (across : X)
+    (open_ : Open S V) (item : Item) (more : X → Open S V → Result (Document S V) ReadRefusal) → item.place ≤ n
+    → item.after ≤ n
+    → ((remembered : X) (next : Open S V) → UsedWithin n (more remembered next))
+    → UsedWithin n (after_made tables made across open_ item more)
+made_within tables n (Err refusal) across open_ item more place after within = tt
+made_within tables n (Ok made) across open_ item more place after within =
+    noted_within n (note_of_made tables made across) made open_ item more place after within
 
 -- a document of items that end within the bytes ends within them
-reads_within : (bytes : List ℕ) (kind : DocKind) (n : ℕ) (open_ : Open) (fault : Option DocFault) (items : List Item) → n ≡ length bytes
-    → EachInPlace bytes items → UsedWithin n (read_items kind n open_ fault items)
+reads_within : {S K V X : Type 0} (bytes : List ℕ) (tables : Tables S K V X) (n : ℕ) (across : X) (open_ : Open S V)
+    (fault : Option DocFault) (items : List Item) → n ≡ length bytes
+    → EachInPlace bytes items → UsedWithin n (read_items tables n across open_ fault items)
 unfolding read_items
-reads_within bytes kind n open_ fault [] same each = ends_there kind n open_ fault
-reads_within bytes kind n open_ fault (item ∷ items) same each =
-    goes_on n (made_by kind (is_inner open_) open_.section open_.taken item) open_ item (λ next. read_items kind n next fault items)
-    (let h = each.0.within in omega (arith, same, h)) (λ next. reads_within bytes kind n next fault items same each.1)
+reads_within bytes tables n across open_ fault [] same each = ends_there tables n open_ fault
+reads_within bytes tables n across open_ fault (item ∷ items) same each =
+    let ends = each.0.within in
+    let begins = each.0.in_order.some_bytes in
+    made_within tables n (made_by tables across open_ item) across open_ item
+    (λ remembered next. read_items tables n remembered next fault items)
+    (omega (arith, same, ends, begins)) (omega (arith, same, ends))
+    (λ remembered next. reads_within bytes tables n remembered next fault items same each.1)
 
 used_of : {F : Type 0} → Result (F × ℕ) ReadRefusal → ℕ
 used_of (Ok kept) = kept.1
 used_of (Err refusal) = 0
 
-used_is : {F : Type 0} (with_ : F → SectionName → List Taken → F) (facts kept : F) (n used : ℕ) (read : Result Document ReadRefusal)
+used_is : {S V F : Type 0} (with_ : F → S → List (Taken V) → F) (facts kept : F) (n used : ℕ)
+    (read : Result (Document S V) ReadRefusal)
     → finish with_ facts read ≡ Ok (kept, used) → UsedWithin n read → used ≤ n
 unfolding used_of
-used_is with_ facts kept n used (Ok document) same within = let e : document.used ≡ used = ap used_of same in omega (arith, e, within)
+used_is with_ facts kept n used (Ok document) same within =
+    let e : document.used ≡ used = ap used_of same in omega (arith, e, within)
 used_is with_ facts kept n used (Err refusal) same within = absurd (cc)
 
-pub ends_within : {F : Type 0} (with_ : F → SectionName → List Taken → F) (kind : DocKind) (n : ℕ) (old : Contents) (facts kept : F) (result : Result ℕ ReadRefusal)
-    → Folds with_ kind n old facts kept result → EndsWithin n old result
-ends_within with_ kind n old facts kept (Err refusal) folds from limit bytes are same = tt
-ends_within with_ kind n old facts kept (Ok used) folds from limit bytes are same =
-    used_is with_ facts kept n used (document_of kind n old) folds
-    (rw are (reads_within bytes kind n (start kind) (items_from from limit bytes).fault (items_from from limit bytes).items same (stand_in_place from limit bytes)))
+pub ends_within : {S K V X F : Type 0} (with_ : F → S → List (Taken V) → F) (tables : Tables S K V X) (n : ℕ)
+    (old : Contents) (facts kept : F) (result : Result ℕ ReadRefusal)
+    → Folds with_ tables n old facts kept result → EndsWithin n old result
+ends_within with_ tables n old facts kept (Err refusal) folds from limit bytes are same = tt
+ends_within with_ tables n old facts kept (Ok used) folds from limit bytes are same =
+    used_is with_ facts kept n used (document_of tables n old) folds
+    (rw are (reads_within bytes tables n tables.start (start tables) (items_from from limit bytes).fault (items_from from limit bytes).items same (stand_in_place from limit bytes)))

@@ -1,24 +1,23 @@
 // What an item makes of a document.
 ghost use Rattle.std.specs.Prelude.{◌≡◌};
-ghost use Rattle.dirdoc_grammar.specs.Seen.{seen};
+ghost use Rattle.dirdoc_grammar.specs.Seen.{seen, IsInside};
 ghost use Rattle.frame_terms.specs.Decisions as decisions;
-ghost use Rattle.frame_reader.specs.Reading.{IsInside};
 
-use crate::order::begins_document;
-use crate::section::{accept, refused, row_of, stands};
+use crate::frame::Frame;
+use crate::order::{begins_document, inner, opener};
+use crate::section::{accept_first, refused, row_of, stands};
 use crate::standing::by_keyword;
 use dirdoc_grammar::Item;
 use frame_terms::{
-    DocKind, FrameFault, FrameReason, Keyword, Limit, Made, ReadRefusal, SectionName, Taken,
-    keyword_of,
+    FrameFault, FrameReason, Group, Keyword, Limit, Made, Open, ReadRefusal, Taken, keyword_of,
 };
 
-fn not_built_reason(kind: DocKind, keyword: Option<Keyword>) -> Option<FrameReason>
-    ensures { result ≡ decisions.not_built_reason kind keyword }
+fn not_built_reason<F: Frame>(frame: F, keyword: Option<Keyword>) -> Option<FrameReason>
+    ensures { result ≡ decisions.not_built_reason (F.tables frame) keyword }
 {
     match keyword {
         Some(keyword) => {
-            if kind.is_not_built(keyword) {
+            if frame.is_not_built(keyword) {
                 Some(FrameReason::NotBuilt(keyword))
             } else {
                 None
@@ -28,31 +27,31 @@ fn not_built_reason(kind: DocKind, keyword: Option<Keyword>) -> Option<FrameReas
     }
 }
 
-fn beginning_reason(kind: DocKind, keyword: Option<Keyword>) -> Option<FrameReason>
-    ensures { result ≡ decisions.beginning_reason kind keyword }
+fn beginning_reason<F: Frame>(frame: F, keyword: Option<Keyword>) -> Option<FrameReason>
+    ensures { result ≡ decisions.beginning_reason (F.tables frame) keyword }
 {
-    if begins_document(kind, keyword) {
+    if begins_document(frame, keyword) {
         None
     } else {
-        Some(FrameReason::Missing(kind.first().opener()))
+        Some(FrameReason::Missing(opener(frame, frame.first())))
     }
 }
 
-fn first_reason(kind: DocKind, keyword: Option<Keyword>) -> Option<FrameReason>
-    ensures { result ≡ decisions.first_reason kind keyword }
+fn first_reason<F: Frame>(frame: F, keyword: Option<Keyword>) -> Option<FrameReason>
+    ensures { result ≡ decisions.first_reason (F.tables frame) keyword }
 {
-    match not_built_reason(kind, keyword) {
+    match not_built_reason(frame, keyword) {
         Some(reason) => Some(reason),
-        None => beginning_reason(kind, keyword),
+        None => beginning_reason(frame, keyword),
     }
 }
 
 /// Why an item can not be the first of a document of a kind, whatever it says: it is not built, or
 /// the document begins with another keyword. None where it can.
-pub fn first_fault(kind: DocKind, item: &Item<'_>) -> Option<FrameFault>
-    ensures { result ≡ decisions.first_fault kind (seen item.now) }
+pub fn first_fault<F: Frame>(frame: F, item: &Item<'_>) -> Option<FrameFault>
+    ensures { result ≡ decisions.first_fault (F.tables frame) (seen item.now) }
 {
-    match first_reason(kind, keyword_of(item.keyword)) {
+    match first_reason(frame, keyword_of(item.keyword)) {
         Some(reason) => Some(FrameFault {
             place: item.place,
             reason,
@@ -62,20 +61,40 @@ pub fn first_fault(kind: DocKind, item: &Item<'_>) -> Option<FrameFault>
 }
 
 /// The first item of a document.
-fn first_item(kind: DocKind, item: &Item<'_>, keyword: Option<Keyword>) -> Result<Made, ReadRefusal>
+fn first_item<F: Frame>(
+    frame: F,
+    across: &F::Across,
+    item: &Item<'_>,
+    keyword: Option<Keyword>,
+) -> Result<Made<F::Section, F::Value>, ReadRefusal>
     requires { IsInside item.now }
-    ensures { result ≡ decisions.first_item kind (seen item.now) keyword }
+    ensures { result ≡ decisions.first_item (F.tables frame) across.now (seen item.now) keyword }
 {
     let Some(keyword) = keyword else {
         return Ok(Made::Passes);
     };
-    match row_of(kind.first().rows(), keyword) {
+    match row_of(frame.rows(frame.first()), keyword) {
         None => Ok(Made::Passes),
-        Some(row) => Ok(Made::Pushes(accept(row, &[], item)?)),
+        Some(row) => Ok(Made::Pushes(accept_first(frame, across, row, item)?)),
     }
 }
 
-fn first_place(taken: &[Taken]) -> u64
+/// The fault of an item that ends too far from a place, if that is limited.
+fn beyond(start: u64, limit: Option<Limit>, item: &Item<'_>) -> Option<FrameFault>
+    ensures { result ≡ decisions.beyond start limit (seen item.now) }
+{
+    let limit = limit?;
+    if item.after.saturating_sub(start) > limit.number() {
+        Some(FrameFault {
+            place: start + limit.number(),
+            reason: FrameReason::TooMany(limit),
+        })
+    } else {
+        None
+    }
+}
+
+fn first_place<V>(taken: &[Taken<V>]) -> u64
     ensures { result ≡ decisions.first_place taken.now }
 {
     match taken {
@@ -84,106 +103,106 @@ fn first_place(taken: &[Taken]) -> u64
     }
 }
 
-fn begins_inner(section: SectionName, taken: &[Taken], keyword: Option<Keyword>) -> bool
-    ensures { result ≡ decisions.begins_inner section taken.now keyword }
+/// The section that an item of this keyword begins inside the one that is open.
+fn section_inside<F: Frame>(
+    frame: F,
+    section: F::Section,
+    taken: &[Taken<F::Value>],
+    keyword: Option<Keyword>,
+) -> Option<F::Section>
+    ensures { result ≡ decisions.section_inside (F.tables frame) section taken.now keyword }
 {
-    match keyword {
-        None => false,
-        Some(keyword) => section.inner(keyword).is_some() && !stands(keyword, taken),
+    let keyword = keyword?;
+    if stands(keyword, taken) {
+        None
+    } else {
+        inner(frame, section, keyword)
     }
 }
 
-/// Where the certificate begins that an item is part of, if it is part of one inside a document.
-fn inner_start(
-    is_inner: bool,
-    section: SectionName,
-    taken: &[Taken],
+fn beyond_inside<F: Frame>(
+    frame: F,
+    item: &Item<'_>,
+    inside: Option<F::Section>,
+) -> Option<FrameFault>
+    ensures { result ≡ decisions.beyond_inside (F.tables frame) (seen item.now) inside }
+{
+    match inside {
+        Some(section) => beyond(item.place, frame.shape(section).limit, item),
+        None => None,
+    }
+}
+
+/// The fault of an item of a section that may stand inside another, where that section has too many bytes.
+fn beyond_inner<F: Frame>(
+    frame: F,
+    section: F::Section,
+    taken: &[Taken<F::Value>],
+    around: &Option<Group<F::Section, F::Value>>,
     item: &Item<'_>,
     keyword: Option<Keyword>,
-) -> Option<u64>
-    ensures { result ≡ decisions.inner_start is_inner section taken.now (seen item.now) keyword }
+) -> Option<FrameFault>
+    ensures { result ≡ decisions.beyond_inner (F.tables frame) section taken.now around.now (seen item.now) keyword }
 {
-    if is_inner {
-        Some(first_place(taken))
-    } else if begins_inner(section, taken, keyword) {
-        Some(item.place)
-    } else {
-        None
-    }
-}
-
-/// The first place that is too many for the certificate that an item is part of.
-fn beyond(item: &Item<'_>, start: Option<u64>) -> Option<u64>
-    ensures { result ≡ decisions.beyond (seen item.now) start }
-{
-    let start = start?;
-    if item.after.saturating_sub(start) > Limit::Certificate.number() {
-        Some(start + Limit::Certificate.number())
-    } else {
-        None
-    }
-}
-
-fn is_nothing(taken: &[Taken]) -> bool
-    ensures { result ≡ decisions.is_nothing taken.now }
-{
-    match taken {
-        [] => true,
-        [_, ..] => false,
+    match around {
+        Some(_) => beyond(first_place(taken), frame.shape(section).limit, item),
+        None => beyond_inside(frame, item, section_inside(frame, section, taken, keyword)),
     }
 }
 
 /// What the first item of a document makes, which is built.
-fn made_first(kind: DocKind, item: &Item<'_>, keyword: Option<Keyword>) -> Result<Made, ReadRefusal>
+fn made_first<F: Frame>(
+    frame: F,
+    across: &F::Across,
+    item: &Item<'_>,
+    keyword: Option<Keyword>,
+) -> Result<Made<F::Section, F::Value>, ReadRefusal>
     requires { IsInside item.now }
-    ensures { result ≡ decisions.made_first kind (seen item.now) keyword }
+    ensures { result ≡ decisions.made_first (F.tables frame) across.now (seen item.now) keyword }
 {
-    match beginning_reason(kind, keyword) {
+    match beginning_reason(frame, keyword) {
         Some(reason) => Err(refused(item.place, reason)),
-        None => first_item(kind, item, keyword),
+        None => first_item(frame, across, item, keyword),
     }
 }
 
 /// What a later item makes, which is built.
-fn made_later(
-    kind: DocKind,
-    is_inner: bool,
-    section: SectionName,
-    taken: &[Taken],
+fn made_later<F: Frame>(
+    frame: F,
+    across: &F::Across,
+    state: &Open<F::Section, F::Value>,
     item: &Item<'_>,
     keyword: Option<Keyword>,
-) -> Result<Made, ReadRefusal>
+) -> Result<Made<F::Section, F::Value>, ReadRefusal>
     requires { IsInside item.now }
-    ensures { result ≡ decisions.made_later kind is_inner section taken.now (seen item.now) keyword }
+    ensures { result ≡ decisions.made_later (F.tables frame) across.now state.now (seen item.now) keyword }
 {
-    match beyond(item, inner_start(is_inner, section, taken, item, keyword)) {
-        Some(place) => Err(refused(place, FrameReason::TooMany(Limit::Certificate))),
-        None => by_keyword(kind, is_inner, section, taken, item, keyword),
+    let taken = state.taken.as_slice();
+    match beyond_inner(frame, state.section, taken, &state.around, item, keyword) {
+        Some(fault) => Err(ReadRefusal::Frame(fault)),
+        None => by_keyword(frame, across, state, item, keyword),
     }
 }
 
-/// What an item makes of a document whose open section, which may stand inside another, has these
-/// items so far.
+/// What an item makes of a document of which this is open.
 ///
 /// # Errors
 /// The first fault that the item has, in the order of `FrameReason`.
-pub fn made_by(
-    kind: DocKind,
-    is_inner: bool,
-    section: SectionName,
-    taken: &[Taken],
+pub fn made_by<F: Frame>(
+    frame: F,
+    across: &F::Across,
+    state: &Open<F::Section, F::Value>,
     item: &Item<'_>,
-) -> Result<Made, ReadRefusal>
+) -> Result<Made<F::Section, F::Value>, ReadRefusal>
     requires { IsInside item.now }
-    ensures { result ≡ decisions.made_by kind is_inner section taken.now (seen item.now) }
+    ensures { result ≡ decisions.made_by (F.tables frame) across.now state.now (seen item.now) }
 {
     let keyword = keyword_of(item.keyword);
-    if let Some(reason) = not_built_reason(kind, keyword) {
+    if let Some(reason) = not_built_reason(frame, keyword) {
         return Err(refused(item.place, reason));
     }
-    if is_nothing(taken) {
-        made_first(kind, item, keyword)
-    } else {
-        made_later(kind, is_inner, section, taken, item, keyword)
+    match state.taken.as_slice() {
+        [] => made_first(frame, across, item, keyword),
+        [_, ..] => made_later(frame, across, state, item, keyword),
     }
 }

@@ -1,66 +1,75 @@
 // Documents, as they are read item by item.
 ghost use Rattle.std.specs.Prelude.{◌≡◌, List, OnOk};
-ghost use Rattle.dirdoc_grammar.specs.Seen.{seen};
+ghost use Rattle.dirdoc_grammar.specs.Seen.{seen, IsInside};
 ghost use Rattle.frame_terms.specs.Documents as documents;
 ghost use Rattle.frame_terms.specs.Documents.{Folds};
-ghost use Rattle.frame_terms.specs.declared.section.SectionName.{SectionName};
-ghost use Rattle.frame_terms.specs.declared.value.Taken.{Taken};
-ghost use Rattle.frame_reader.specs.Reading.{EndsWithin, IsInside};
+ghost use Rattle.frame_terms.specs.Refusals.{Becomes};
+ghost use Rattle.frame_terms.specs.declared.document.Taken.{Taken};
+ghost use Rattle.frame_reader.specs.Reading.{EndsWithin};
 ghost use Rattle.frame_reader.specs.Turning as turning;
 
 use crate::decision::made_by;
-use crate::order::{first_of, following};
+use crate::frame::Frame;
+use crate::order::{first_of, following, must_open};
 use crate::section::{lacking, refused};
 use dir_bytes::Seq;
 use dirdoc_grammar::{Item, Items};
-use frame_terms::{
-    DocKind, FrameReason, Group, Keyword, Made, Open, ReadRefusal, SectionName, Taken,
-};
+use frame_terms::{FrameReason, Group, Keyword, Made, Open, ReadRefusal, Taken};
 use std::alloc::{AllocError, Global};
 
-/// What is kept of a document. Its sections are handed over one after the other, each when it ends.
-pub trait Facts {
+/// What is kept of a document of a kind. Its sections are handed over one after the other, each when it ends.
+pub trait Facts<F: Frame> {
     /// What is kept after a section with these items.
-    ghost with: { Self → SectionName → List Taken → Self };
+    ghost with: { Self → F.Section → List (Taken F.Value) → Self };
 
     /// Keeps what a section says.
     ///
     /// # Errors
     /// There was no memory.
-    fn close(&mut self, section: SectionName, taken: &[Taken]) -> Result<(), AllocError>
+    fn close(&mut self, section: F::Section, taken: &[Taken<F::Value>]) -> Result<(), AllocError>
         ensures { OnOk result (self.new ≡ with self.old section taken.now) };
 }
 
-/// The opener of the first section of a list that has to stand.
-fn must_open(list: &[SectionName]) -> Option<Keyword>
-    ensures { result ≡ documents.must_open list.now }
-{
-    for section in list {
-        if !section.repeats() {
-            return Some(section.opener());
-        }
-    }
-    None
-}
-
 /// What is missing where the input ends in a section.
-fn missing_at_end(kind: DocKind, section: SectionName, taken: &[Taken]) -> Option<Keyword>
-    ensures { result ≡ documents.missing_at_end kind section taken.now }
+fn missing_at_end<F: Frame>(
+    frame: F,
+    section: F::Section,
+    taken: &[Taken<F::Value>],
+) -> Option<Keyword>
+    ensures { result ≡ documents.missing_at_end (F.tables frame) section taken.now }
 {
     first_of(
-        lacking(section.rows(), taken),
-        must_open(following(kind, section)),
+        lacking(frame.rows(section), taken),
+        must_open(frame, following(frame, section)),
     )
 }
 
-/// A section ends, and the next one begins with an item.
-fn opens<F: Facts>(
-    state: &mut Open,
-    facts: &mut F,
-    next: SectionName,
-    one: Taken,
+/// Remembers what it has to of an item that makes this, if it may stand.
+fn note<F: Frame>(
+    frame: F,
+    across: &mut F::Across,
+    made: &Made<F::Section, F::Value>,
 ) -> Result<(), ReadRefusal>
-    ensures { turning.Opening F.with next one state.old facts.old state.new facts.new result }
+    ensures { Becomes (documents.note_of_made (F.tables frame) made.now across.old) across.new result }
+{
+    match made {
+        Made::Passes | Made::Stops => Ok(()),
+        Made::Pushes(one)
+        | Made::Opens(_, one)
+        | Made::Enters(_, one)
+        | Made::Leaves(one)
+        | Made::Ends(one) => frame.note(across, one),
+    }
+}
+
+/// A section ends, and the next one begins with an item.
+fn opens<F: Frame, K: Facts<F>>(
+    state: &mut Open<F::Section, F::Value>,
+    facts: &mut K,
+    next: F::Section,
+    one: Taken<F::Value>,
+) -> Result<(), ReadRefusal>
+    ensures { turning.Opening K.with next one state.old facts.old state.new facts.new result }
 {
     facts.close(state.section, state.taken.as_slice())?;
     state.taken.clear();
@@ -70,11 +79,11 @@ fn opens<F: Facts>(
 }
 
 /// A section begins with an item, inside the one that is open.
-fn enters(
+fn enters<S: Copy, V: Copy>(
     alloc: Global,
-    state: &mut Open,
-    inner: SectionName,
-    one: Taken,
+    state: &mut Open<S, V>,
+    inner: S,
+    one: Taken<V>,
 ) -> Result<(), ReadRefusal>
     ensures { turning.Entering inner one state.old state.new result }
 {
@@ -91,8 +100,12 @@ fn enters(
 }
 
 /// A section ends with an item, and the one around it goes on.
-fn leaves<F: Facts>(state: &mut Open, facts: &mut F, one: Taken) -> Result<(), ReadRefusal>
-    ensures { turning.Leaving F.with one state.old facts.old state.new facts.new result }
+fn leaves<F: Frame, K: Facts<F>>(
+    state: &mut Open<F::Section, F::Value>,
+    facts: &mut K,
+    one: Taken<F::Value>,
+) -> Result<(), ReadRefusal>
+    ensures { turning.Leaving K.with one state.old facts.old state.new facts.new result }
 {
     state.taken.push(one)?;
     facts.close(state.section, state.taken.as_slice())?;
@@ -108,23 +121,20 @@ fn leaves<F: Facts>(state: &mut Open, facts: &mut F, one: Taken) -> Result<(), R
 
 /// Takes the next item. Gives the place after the document where it ends there.
 #[tactic(auto, unfolding(frame_terms::specs::Documents::read_items), using(crate::proofs::Closing::closes))]
-fn turn<F: Facts>(
+fn turn<F: Frame, K: Facts<F>>(
     alloc: Global,
-    kind: DocKind,
-    state: &mut Open,
-    facts: &mut F,
+    frame: F,
+    across: &mut F::Across,
+    state: &mut Open<F::Section, F::Value>,
+    facts: &mut K,
     item: &Item<'_>,
 ) -> Result<Option<u64>, ReadRefusal>
     requires { IsInside item.now }
-    ensures { turning.Turns F.with kind (seen item.now) state.old facts.old state.new facts.new result }
+    ensures { turning.Turns K.with (F.tables frame) (seen item.now) across.old state.old facts.old across.new state.new facts.new result }
 {
-    match made_by(
-        kind,
-        state.around.is_some(),
-        state.section,
-        state.taken.as_slice(),
-        item,
-    )? {
+    let made = made_by(frame, across, state, item)?;
+    note(frame, across, &made)?;
+    match made {
         Made::Passes => Ok(None),
         Made::Pushes(one) => {
             state.taken.push(one)?;
@@ -147,31 +157,36 @@ fn turn<F: Facts>(
             facts.close(state.section, state.taken.as_slice())?;
             Ok(Some(item.after))
         }
+        Made::Stops => {
+            facts.close(state.section, state.taken.as_slice())?;
+            Ok(Some(item.place))
+        }
     }
 }
 
 /// Reads a document, as `read_document` does.
 #[tactic(auto, unfolding(frame_terms::specs::Documents::read_items), using(crate::proofs::Closing::closes))]
-fn read<F: Facts>(
+fn read<F: Frame, K: Facts<F>>(
     alloc: Global,
-    kind: DocKind,
+    frame: F,
     items: &mut Items<'_>,
     length: u64,
-    facts: &mut F,
+    facts: &mut K,
 ) -> Result<u64, ReadRefusal>
-    ensures { Folds F.with kind length items.old facts.old facts.new result }
+    ensures { Folds K.with (F.tables frame) length items.old facts.old facts.new result }
 {
     let mut state = Open {
-        section: kind.first(),
+        section: frame.first(),
         taken: Seq::new(Vec::new(alloc)),
         around: None,
     };
+    let mut across = frame.start(alloc);
     'items: while let Some(item) = items.next()? {
-        if let Some(used) = turn(alloc, kind, &mut state, facts, &item)? {
+        if let Some(used) = turn(alloc, frame, &mut across, &mut state, facts, &item)? {
             return Ok(used);
         }
     }
-    if let Some(missing) = missing_at_end(kind, state.section, state.taken.as_slice()) {
+    if let Some(missing) = missing_at_end(frame, state.section, state.taken.as_slice()) {
         return Err(refused(length, FrameReason::Missing(missing)));
     }
     facts.close(state.section, state.taken.as_slice())?;
@@ -184,15 +199,15 @@ fn read<F: Facts>(
 /// # Errors
 /// The first fault of the document, or want of memory. What `facts` has then is of no use: nothing
 /// is said of it.
-pub fn read_document<F: Facts>(
+pub fn read_document<F: Frame, K: Facts<F>>(
     alloc: Global,
-    kind: DocKind,
+    frame: F,
     items: &mut Items<'_>,
     length: u64,
-    facts: &mut F,
+    facts: &mut K,
 ) -> Result<u64, ReadRefusal>
-    ensures folds { Folds F.with kind length items.old facts.old facts.new result }
+    ensures folds { Folds K.with (F.tables frame) length items.old facts.old facts.new result }
     ensures within { EndsWithin length items.old result }
 {
-    read(alloc, kind, items, length, facts)
+    read(alloc, frame, items, length, facts)
 }

@@ -1,15 +1,12 @@
 // The items of a section and the rows of its table.
-ghost use Rattle.std.specs.Prelude.{◌≡◌};
-ghost use Rattle.dirdoc_grammar.specs.Seen.{seen};
+ghost use Rattle.std.specs.Prelude.{◌≡◌, []};
+ghost use Rattle.dirdoc_grammar.specs.Seen.{seen, IsInside};
 ghost use Rattle.frame_terms.specs.Refusals as refusals;
 ghost use Rattle.frame_terms.specs.Sections as sections;
-ghost use Rattle.frame_reader.specs.Reading.{IsInside};
 
-use crate::items::arguments_of;
-use crate::lists::are_above;
-use crate::value::value_of;
+use crate::frame::Frame;
 use dirdoc_grammar::Item;
-use frame_terms::{Count, FrameFault, FrameReason, Keyword, Limit, ReadRefusal, Row, Taken};
+use frame_terms::{Count, FrameFault, FrameReason, Keyword, ReadRefusal, Row, Taken};
 
 /// The refusal at a place.
 pub fn refused(place: u64, reason: FrameReason) -> ReadRefusal
@@ -19,21 +16,21 @@ pub fn refused(place: u64, reason: FrameReason) -> ReadRefusal
 }
 
 /// The row of a keyword.
-pub fn row_of(rows: &[Row], keyword: Keyword) -> Option<Row>
+pub fn row_of<K: Copy>(rows: &[Row<K>], keyword: Keyword) -> Option<Row<K>>
     ensures { result ≡ sections.row_of rows.now keyword }
 {
     rows.iter().copied().find(|row| row.keyword.same(keyword))
 }
 
 /// Whether an item of this keyword is among those taken.
-pub fn stands(keyword: Keyword, taken: &[Taken]) -> bool
+pub fn stands<V>(keyword: Keyword, taken: &[Taken<V>]) -> bool
     ensures { result ≡ sections.stands keyword taken.now }
 {
     taken.iter().any(|one| one.keyword.same(keyword))
 }
 
 /// The keyword of the first row that lacks its item.
-pub fn lacking(rows: &[Row], taken: &[Taken]) -> Option<Keyword>
+pub fn lacking<K, V>(rows: &[Row<K>], taken: &[Taken<V>]) -> Option<Keyword>
     ensures { result ≡ sections.lacking rows.now taken.now }
 {
     rows.iter()
@@ -42,7 +39,7 @@ pub fn lacking(rows: &[Row], taken: &[Taken]) -> Option<Keyword>
 }
 
 /// The same of the rows but the last one.
-pub fn lacking_but(rows: &[Row], last: Keyword, taken: &[Taken]) -> Option<Keyword>
+pub fn lacking_but<K, V>(rows: &[Row<K>], last: Keyword, taken: &[Taken<V>]) -> Option<Keyword>
     ensures { result ≡ sections.lacking_but rows.now last taken.now }
 {
     rows.iter()
@@ -52,37 +49,51 @@ pub fn lacking_but(rows: &[Row], last: Keyword, taken: &[Taken]) -> Option<Keywo
         .map(|row| row.keyword)
 }
 
-/// The limit that an item passes with the number of its arguments.
-fn too_many(limit: Option<Limit>, item: &Item<'_>) -> Option<Limit>
+/// An item that says this, with its places.
+fn taken_of<V>(keyword: Keyword, item: &Item<'_>, value: V) -> Taken<V>
     requires { IsInside item.now }
-    ensures { result ≡ sections.too_many limit (seen item.now) }
+    ensures { result ≡ sections.taken_of keyword (seen item.now) value }
 {
-    let limit = limit?;
-    if are_above(limit.number(), &mut arguments_of(item)) {
-        Some(limit)
-    } else {
-        None
+    Taken {
+        keyword,
+        value,
+        place: item.place,
+        separator: item.place + item.keyword.len() as u64,
+        line_end: item.line_end,
+        after: item.after,
     }
 }
 
 /// An item of this row after those that are taken.
-pub fn accept(row: Row, taken: &[Taken], item: &Item<'_>) -> Result<Taken, ReadRefusal>
+pub fn accept<F: Frame>(
+    frame: F,
+    across: &F::Across,
+    row: Row<F::Kind>,
+    taken: &[Taken<F::Value>],
+    item: &Item<'_>,
+) -> Result<Taken<F::Value>, ReadRefusal>
     requires { IsInside item.now }
-    ensures { result ≡ sections.accept row taken.now (seen item.now) }
+    ensures { result ≡ sections.accept (F.tables frame) across.now row taken.now (seen item.now) }
 {
     if row.count != Count::Many && stands(row.keyword, taken) {
         return Err(refused(item.place, FrameReason::Twice(row.keyword)));
     }
-    if let Some(limit) = too_many(row.limit, item) {
-        return Err(refused(item.place, FrameReason::TooMany(limit)));
+    match frame.value(across, row.kind, item) {
+        Ok(value) => Ok(taken_of(row.keyword, item, value)),
+        Err(fault) => Err(ReadRefusal::Frame(fault)),
     }
-    match value_of(row.kind, item) {
-        Ok(value) => Ok(Taken {
-            keyword: row.keyword,
-            value,
-            place: item.place,
-            after: item.after,
-        }),
-        Err(place) => Err(refused(place, FrameReason::Value)),
-    }
+}
+
+/// An item of this row, which is its section's first.
+pub fn accept_first<F: Frame>(
+    frame: F,
+    across: &F::Across,
+    row: Row<F::Kind>,
+    item: &Item<'_>,
+) -> Result<Taken<F::Value>, ReadRefusal>
+    requires { IsInside item.now }
+    ensures { result ≡ sections.accept (F.tables frame) across.now row [] (seen item.now) }
+{
+    let none: [Taken<F::Value>; 0] = [];
+    accept(frame, across, row, &none, item)
 }

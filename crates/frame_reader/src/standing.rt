@@ -1,26 +1,25 @@
 // What an item makes that is not the first of its document.
 ghost use Rattle.std.specs.Prelude.{◌≡◌};
-ghost use Rattle.dirdoc_grammar.specs.Seen.{seen};
+ghost use Rattle.dirdoc_grammar.specs.Seen.{seen, IsInside};
 ghost use Rattle.frame_terms.specs.Order as order;
 ghost use Rattle.frame_terms.specs.Standing as standing;
-ghost use Rattle.frame_reader.specs.Reading.{IsInside};
 
-use crate::order::{first_of, following, is_last, knows, opened_by, passed_over};
-use crate::section::{accept, lacking, lacking_but, refused, row_of};
+use crate::frame::Frame;
+use crate::order::{first_of, following, inner, is_keyword, knows, opened_by, opener, passed_over};
+use crate::section::{accept, accept_first, lacking, lacking_but, refused, row_of};
 use dirdoc_grammar::Item;
-use frame_terms::{DocKind, FrameReason, Keyword, Made, ReadRefusal, Row, SectionName, Taken};
+use frame_terms::{Again, FrameReason, Group, Keyword, Made, Open, ReadRefusal, Row, Taken};
 
-fn ends(is_inner: bool, one: Taken) -> Made
-    ensures { result ≡ standing.ends is_inner one }
+fn ends<S, V>(around: &Option<Group<S, V>>, one: Taken<V>) -> Made<S, V>
+    ensures { result ≡ standing.ends around.now one }
 {
-    if is_inner {
-        Made::Leaves(one)
-    } else {
-        Made::Ends(one)
+    match around {
+        Some(_) => Made::Leaves(one),
+        None => Made::Ends(one),
     }
 }
 
-fn enters(inner: Option<SectionName>, one: Taken) -> Made
+fn enters<S, V>(inner: Option<S>, one: Taken<V>) -> Made<S, V>
     ensures { result ≡ standing.enters inner one }
 {
     match inner {
@@ -29,77 +28,120 @@ fn enters(inner: Option<SectionName>, one: Taken) -> Made
     }
 }
 
-/// An item of this row of the section that is open.
-fn in_section(
-    is_inner: bool,
-    section: SectionName,
-    taken: &[Taken],
-    item: &Item<'_>,
-    row: Row,
-) -> Result<Made, ReadRefusal>
-    requires { IsInside item.now }
-    ensures { result ≡ standing.in_section is_inner section taken.now (seen item.now) row }
+/// What an item of this row begins, of the section that is open.
+fn begins_again<F: Frame>(frame: F, section: F::Section, row: Row<F::Kind>) -> Again
+    ensures { result ≡ standing.begins_again (F.tables frame) section row }
 {
-    if is_last(section, row.keyword) {
-        if let Some(missing) = lacking_but(section.rows(), row.keyword, taken) {
+    if opener(frame, section).same(row.keyword) {
+        frame.shape(section).again
+    } else {
+        Again::Nothing
+    }
+}
+
+/// An item of this row of the section that is open, which does not end with it.
+fn goes_on<F: Frame>(
+    frame: F,
+    across: &F::Across,
+    state: &Open<F::Section, F::Value>,
+    item: &Item<'_>,
+    row: Row<F::Kind>,
+    again: Again,
+) -> Result<Made<F::Section, F::Value>, ReadRefusal>
+    requires { IsInside item.now }
+    ensures { result ≡ standing.goes_on (F.tables frame) across.now state.now (seen item.now) row again }
+{
+    if let Again::Nothing = again {
+        let one = accept(frame, across, row, state.taken.as_slice(), item)?;
+        return Ok(enters(inner(frame, state.section, row.keyword), one));
+    }
+    if let Some(missing) = lacking(frame.rows(state.section), state.taken.as_slice()) {
+        return Err(refused(item.place, FrameReason::Missing(missing)));
+    }
+    if let Again::Document = again {
+        return Ok(Made::Stops);
+    }
+    Ok(Made::Opens(state.section, accept_first(frame, across, row, item)?))
+}
+
+/// An item of this row of the section that is open.
+fn in_section<F: Frame>(
+    frame: F,
+    across: &F::Across,
+    state: &Open<F::Section, F::Value>,
+    item: &Item<'_>,
+    row: Row<F::Kind>,
+) -> Result<Made<F::Section, F::Value>, ReadRefusal>
+    requires { IsInside item.now }
+    ensures { result ≡ standing.in_section (F.tables frame) across.now state.now (seen item.now) row }
+{
+    let taken = state.taken.as_slice();
+    if is_keyword(frame.shape(state.section).last, row.keyword) {
+        if let Some(missing) = lacking_but(frame.rows(state.section), row.keyword, taken) {
             return Err(refused(item.place, FrameReason::Missing(missing)));
         }
-        return Ok(ends(is_inner, accept(row, taken, item)?));
+        return Ok(ends(&state.around, accept(frame, across, row, taken, item)?));
     }
-    if section.repeats() && section.opener().same(row.keyword) {
-        if let Some(missing) = lacking(section.rows(), taken) {
-            return Err(refused(item.place, FrameReason::Missing(missing)));
-        }
-        return Ok(Made::Opens(section, accept(row, &[], item)?));
-    }
-    let one = accept(row, taken, item)?;
-    Ok(enters(section.inner(row.keyword), one))
+    goes_on(
+        frame,
+        across,
+        state,
+        item,
+        row,
+        begins_again(frame, state.section, row),
+    )
 }
 
 /// An item of no row of the section that is open.
-fn elsewhere(
-    kind: DocKind,
-    section: SectionName,
-    taken: &[Taken],
+fn elsewhere<F: Frame>(
+    frame: F,
+    across: &F::Across,
+    state: &Open<F::Section, F::Value>,
     item: &Item<'_>,
     keyword: Keyword,
-) -> Result<Made, ReadRefusal>
+) -> Result<Made<F::Section, F::Value>, ReadRefusal>
     requires { IsInside item.now }
-    ensures { result ≡ standing.elsewhere kind section taken.now (seen item.now) keyword (order.opened_by keyword (order.following kind section)) }
+    ensures { result ≡ standing.elsewhere (F.tables frame) across.now state.now (seen item.now) keyword (order.opened_by (F.tables frame) keyword (order.following (F.tables frame) state.now.section)) }
 {
-    let later = following(kind, section);
-    let Some(other) = opened_by(keyword, later) else {
-        if knows(kind, keyword) {
+    let later = following(frame, state.section);
+    let Some(other) = opened_by(frame, keyword, later) else {
+        if knows(frame, keyword) {
             return Err(refused(item.place, FrameReason::Order));
         }
         return Ok(Made::Passes);
     };
-    if let Some(missing) = first_of(lacking(section.rows(), taken), passed_over(keyword, later)) {
+    let missing = lacking(frame.rows(state.section), state.taken.as_slice());
+    if let Some(missing) = first_of(missing, passed_over(frame, keyword, later)) {
         return Err(refused(item.place, FrameReason::Missing(missing)));
     }
-    match row_of(other.rows(), keyword) {
+    match row_of(frame.rows(other), keyword) {
         None => Ok(Made::Passes),
-        Some(row) => Ok(Made::Opens(other, accept(row, &[], item)?)),
+        Some(row) => Ok(Made::Opens(other, accept_first(frame, across, row, item)?)),
     }
 }
 
 /// What an item makes that is not the first of its document.
-pub fn by_keyword(
-    kind: DocKind,
-    is_inner: bool,
-    section: SectionName,
-    taken: &[Taken],
+pub fn by_keyword<F: Frame>(
+    frame: F,
+    across: &F::Across,
+    state: &Open<F::Section, F::Value>,
     item: &Item<'_>,
     keyword: Option<Keyword>,
-) -> Result<Made, ReadRefusal>
+) -> Result<Made<F::Section, F::Value>, ReadRefusal>
     requires { IsInside item.now }
-    ensures { result ≡ standing.by_keyword kind is_inner section taken.now (seen item.now) keyword }
+    ensures { result ≡ standing.by_keyword (F.tables frame) across.now state.now (seen item.now) keyword }
 {
     let Some(keyword) = keyword else {
         return Ok(Made::Passes);
     };
-    match row_of(section.rows(), keyword) {
-        Some(row) => in_section(is_inner, section, taken, item, row),
-        None => elsewhere(kind, section, taken, item, keyword),
+    match row_of(frame.rows(state.section), keyword) {
+        Some(row) => {
+            if frame.ignores(row.kind, item) {
+                Ok(Made::Passes)
+            } else {
+                in_section(frame, across, state, item, row)
+            }
+        }
+        None => elsewhere(frame, across, state, item, keyword),
     }
 }

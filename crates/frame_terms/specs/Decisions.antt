@@ -1,111 +1,129 @@
 -- What an item makes of a document, of which the open section and its items are known. The faults of its lines are told
--- before. Of its others the first is given: NotBuilt, TooMany of an inner certificate's bytes, Missing, Order, Twice, TooMany of
--- an item's arguments, Value.
-use Rattle.std.specs.Prelude.{ℕ, ◌+◌, ◌-◌, nat_lt, Bool, true, false, not, ◌&&◌, List, [], ◌∷◌, Option, Some, None, is_some, Result, Ok, Err, if◌then◌else◌}
+-- before. Of its others the first is given: NotBuilt, TooMany of an inner section's bytes, Missing, Order, Twice, and
+-- what is wrong with what it says.
+use Rattle.std.specs.Prelude.{ℕ, ◌+◌, ◌-◌, nat_lt, List, [], ◌∷◌, Option, Some, None, Result, Ok, Err, if◌then◌else◌}
 use Rattle.std.specs.Option.{option_map}
 use Rattle.item_terms.specs.Items.{Item}
+use Rattle.frame_terms.specs.declared.document.Group.{Group}
 use Rattle.frame_terms.specs.declared.document.Made.{Made}
 use Rattle.frame_terms.specs.declared.document.Made.TheVariants.{Passes, Pushes}
+use Rattle.frame_terms.specs.declared.document.Open.{Open}
+use Rattle.frame_terms.specs.declared.document.Taken.{Taken}
 use Rattle.frame_terms.specs.declared.fault.FrameFault.{FrameFault}
 use Rattle.frame_terms.specs.declared.fault.FrameReason.{FrameReason}
 use Rattle.frame_terms.specs.declared.fault.FrameReason.TheVariants.{Missing, NotBuilt, TooMany}
 use Rattle.frame_terms.specs.declared.fault.ReadRefusal.{ReadRefusal}
+use Rattle.frame_terms.specs.declared.fault.ReadRefusal.TheVariants.{Frame}
 use Rattle.frame_terms.specs.declared.keyword.Keyword.{Keyword}
-use Rattle.frame_terms.specs.declared.row.Limit.TheVariants.{Certificate}
-use Rattle.frame_terms.specs.declared.section.DocKind.{DocKind}
-use Rattle.frame_terms.specs.declared.section.SectionName.{SectionName}
-use Rattle.frame_terms.specs.declared.value.Taken.{Taken}
+use Rattle.frame_terms.specs.declared.row.Limit.{Limit}
 use Rattle.frame_terms.specs.Keywords.{word_of}
-use Rattle.frame_terms.specs.Order.{begins_document}
+use Rattle.frame_terms.specs.Order.{opener, begins_document, inner}
 use Rattle.frame_terms.specs.Refusals.{refused}
 use Rattle.frame_terms.specs.Rows.{limit_number}
 use Rattle.frame_terms.specs.Sections.{row_of, stands}
 use Rattle.frame_terms.specs.Standing.{begins, by_keyword}
-use Rattle.frame_terms.specs.Tables.{rows, opener, inner, first, is_not_built}
+use Rattle.frame_terms.specs.Tables.{Tables}
 
--- ---- the first item, and what is refused wherever it stands
-
--- the refusal of an item that is not built yet
-abbrev pub not_built_reason : DocKind → Option Keyword → Option FrameReason
-not_built_reason kind None = None
-not_built_reason kind (Some keyword) = if is_not_built kind keyword then Some (NotBuilt keyword) else None
-
--- the refusal of an item that begins no document
-abbrev pub beginning_reason : DocKind → Option Keyword → Option FrameReason
-beginning_reason kind word = if begins_document kind word then None else Some (Missing (opener (first kind)))
+-- ---- what is refused wherever it stands
 
 -- the first reason of two that is there
 abbrev pub reason_of : Option FrameReason → Option FrameReason → Option FrameReason
 reason_of None other = other
 reason_of (Some reason) other = Some reason
 
--- why an item is refused as the first of a document, whatever it says
-abbrev pub first_reason : DocKind → Option Keyword → Option FrameReason
-first_reason kind word = reason_of (not_built_reason kind word) (beginning_reason kind word)
+module _ {S V : Type 0} where
+  -- what an item makes, unless there is a reason to refuse it
+  abbrev pub unless_refused : ℕ → Option FrameReason → Result (Made S V) ReadRefusal → Result (Made S V) ReadRefusal
+  unless_refused place None other = other
+  unless_refused place (Some reason) other = Err (refused place reason)
 
--- the same with its place
-abbrev pub first_fault : DocKind → Item → Option FrameFault
-first_fault kind item = option_map (λ reason. record { place = item.place; reason = reason }) (first_reason kind (word_of item.keyword))
+  -- what an item makes, unless there is this fault
+  abbrev pub unless_fault : Option FrameFault → Result (Made S V) ReadRefusal → Result (Made S V) ReadRefusal
+  unless_fault None other = other
+  unless_fault (Some fault) other = Err (Frame fault)
 
--- what an item makes, unless there is a reason to refuse it
-abbrev pub unless_refused : ℕ → Option FrameReason → Result Made ReadRefusal → Result Made ReadRefusal
-unless_refused place None other = other
-unless_refused place (Some reason) other = Err (refused place reason)
+module _ {S K V X : Type 0} where
+  -- the refusal of an item that is not built yet
+  abbrev pub not_built_reason : Tables S K V X → Option Keyword → Option FrameReason
+  not_built_reason tables None = None
+  not_built_reason tables (Some keyword) = if tables.is_not_built keyword then Some (NotBuilt keyword) else None
 
--- the first item of a document
-abbrev pub first_item : DocKind → Item → Option Keyword → Result Made ReadRefusal
-first_item kind item None = Ok Passes
-first_item kind item (Some keyword) = begins Pushes item (row_of (rows (first kind)) keyword)
+  -- the refusal of an item that begins no document
+  abbrev pub beginning_reason : Tables S K V X → Option Keyword → Option FrameReason
+  beginning_reason tables word =
+      if begins_document tables word then None else Some (Missing (opener tables tables.first))
 
--- ---- the limit of a certificate inside a vote
+  -- why an item is refused as the first of a document, whatever it says
+  abbrev pub first_reason : Tables S K V X → Option Keyword → Option FrameReason
+  first_reason tables word = reason_of (not_built_reason tables word) (beginning_reason tables word)
 
--- the place of the first of these items
-abbrev pub first_place : List Taken → ℕ
-first_place [] = 0
-first_place (one ∷ taken) = one.place
+  -- the same with its place
+  abbrev pub first_fault : Tables S K V X → Item → Option FrameFault
+  first_fault tables item =
+      option_map (λ reason. record { place = item.place; reason = reason }) (first_reason tables (word_of item.keyword))
 
--- whether an item of this keyword begins a section inside the one that is open
-abbrev pub begins_inner : SectionName → List Taken → Option Keyword → Bool
-begins_inner section taken None = false
-begins_inner section taken (Some keyword) = is_some (inner section keyword) && not (stands keyword taken)
+  -- the first item of a document
+  abbrev pub first_item : Tables S K V X → X → Item → Option Keyword → Result (Made S V) ReadRefusal
+  first_item tables across item None = Ok Passes
+  first_item tables across item (Some keyword) =
+      begins tables across Pushes item (row_of (tables.rows tables.first) keyword)
 
--- where the certificate begins that an item is part of, if it is part of one inside a document
-abbrev pub inner_start : Bool → SectionName → List Taken → Item → Option Keyword → Option ℕ
-inner_start is_inner section taken item word =
-    if is_inner then Some (first_place taken)
-    else if begins_inner section taken word then Some item.place
-    else None
+-- ---- the limit of a section inside another
 
--- the first place that is too many for a certificate that begins at a place, where the item ends after it
-abbrev pub beyond : Item → Option ℕ → Option ℕ
-beyond item None = None
-beyond item (Some start) =
-    if nat_lt (limit_number Certificate) (item.after - start) then Some (start + limit_number Certificate) else None
+-- the fault of an item that ends too far from a place, if that is limited
+abbrev pub beyond : ℕ → Option Limit → Item → Option FrameFault
+beyond start None item = None
+beyond start (Some limit) item =
+    if nat_lt (limit_number limit) (item.after - start)
+    then Some (record { place = start + limit_number limit; reason = TooMany limit }) else None
 
--- what an item makes, unless the certificate that it is part of has too many bytes
-abbrev pub unless_beyond : Option ℕ → Result Made ReadRefusal → Result Made ReadRefusal
-unless_beyond None other = other
-unless_beyond (Some place) other = Err (refused place (TooMany Certificate))
+module _ {V : Type 0} where
+  -- the place of the first of these items
+  abbrev pub first_place : List (Taken V) → ℕ
+  first_place [] = 0
+  first_place (one ∷ taken) = one.place
 
--- ---- an item
+module _ {S K V X : Type 0} where
+  -- the section that an item of this keyword begins inside the one that is open
+  abbrev pub section_inside : Tables S K V X → S → List (Taken V) → Option Keyword → Option S
+  section_inside tables section taken None = None
+  section_inside tables section taken (Some keyword) =
+      if stands keyword taken then None else inner tables section keyword
 
--- whether nothing is taken yet
-abbrev pub is_nothing : List Taken → Bool
-is_nothing [] = true
-is_nothing (one ∷ taken) = false
+  -- the fault of an item that begins a section inside another
+  abbrev pub beyond_inside : Tables S K V X → Item → Option S → Option FrameFault
+  beyond_inside tables item None = None
+  beyond_inside tables item (Some section) = beyond item.place ((tables.shape section).limit) item
 
--- what the first item of a document makes, which is built
-abbrev pub made_first : DocKind → Item → Option Keyword → Result Made ReadRefusal
-made_first kind item word = unless_refused item.place (beginning_reason kind word) (first_item kind item word)
+  -- the fault of an item of a section that may stand inside another, where that section has too many bytes
+  abbrev pub beyond_inner : Tables S K V X → S → List (Taken V) → Option (Group S V) → Item → Option Keyword
+      → Option FrameFault
+  beyond_inner tables section taken None item word =
+      beyond_inside tables item (section_inside tables section taken word)
+  beyond_inner tables section taken (Some around) item word =
+      beyond (first_place taken) ((tables.shape section).limit) item
 
--- what a later item makes, which is built
-abbrev pub made_later : DocKind → Bool → SectionName → List Taken → Item → Option Keyword → Result Made ReadRefusal
-made_later kind is_inner section taken item word =
-    unless_beyond (beyond item (inner_start is_inner section taken item word)) (by_keyword kind is_inner section taken item word)
+  -- ---- an item
 
--- what an item makes of a document whose open section, which may stand inside another, has these items
-abbrev pub made_by : DocKind → Bool → SectionName → List Taken → Item → Result Made ReadRefusal
-made_by kind is_inner section taken item =
-    let word = word_of item.keyword in
-    unless_refused item.place (not_built_reason kind word)
-    (if is_nothing taken then made_first kind item word else made_later kind is_inner section taken item word)
+  -- what the first item of a document makes, which is built
+  abbrev pub made_first : Tables S K V X → X → Item → Option Keyword → Result (Made S V) ReadRefusal
+  made_first tables across item word =
+      unless_refused item.place (beginning_reason tables word) (first_item tables across item word)
+
+  -- what a later item makes, which is built
+  abbrev pub made_later : Tables S K V X → X → Open S V → Item → Option Keyword → Result (Made S V) ReadRefusal
+  made_later tables across open_ item word =
+      unless_fault (beyond_inner tables open_.section open_.taken open_.around item word)
+      (by_keyword tables across open_ item word)
+
+  -- what an item makes that is built, by the items of the open section
+  abbrev pub made_after : Tables S K V X → X → Open S V → Item → Option Keyword → List (Taken V)
+      → Result (Made S V) ReadRefusal
+  made_after tables across open_ item word [] = made_first tables across item word
+  made_after tables across open_ item word (one ∷ taken) = made_later tables across open_ item word
+
+  -- what an item makes of a document of which this is open
+  abbrev pub made_by : Tables S K V X → X → Open S V → Item → Result (Made S V) ReadRefusal
+  made_by tables across open_ item =
+      let word = word_of item.keyword in
+      unless_refused item.place (not_built_reason tables word) (made_after tables across open_ item word open_.taken)

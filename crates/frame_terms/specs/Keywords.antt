@@ -1,97 +1,183 @@
--- The keywords of votes and of key certificates, and their texts (dir-spec).
+-- The keywords of all kinds of documents, and their texts (dir-spec).
 use Rattle.std.specs.Prelude.{ℕ, List, [], ◌∷◌, Option, codes, nat_eq, Bool}
 use Rattle.std.specs.List.{find}
 use lib.Pointwise.{pointwise}
 use Rattle.frame_terms.specs.declared.keyword.Keyword.{Keyword}
-use Rattle.frame_terms.specs.declared.keyword.Keyword.TheVariants.{NetworkStatusVersion, VoteStatus, ConsensusMethods, Published, ValidAfter, FreshUntil, ValidUntil, VotingDelay, ClientVersions, ServerVersions, KnownFlags, FlagThresholds, RecommendedClientProtocols, RecommendedRelayProtocols, RequiredClientProtocols, RequiredRelayProtocols, Params, DirSource, Contact, DirKeyCertificateVersion, DirAddress, Fingerprint, DirIdentityKey, DirKeyPublished, DirKeyExpires, DirSigningKey, DirKeyCrosscert, DirKeyCertification, R, A, S, V, Pr, W, P, M, Id, DirectoryFooter, DirectorySignature}
+use Rattle.frame_terms.specs.declared.keyword.Keyword.TheVariants as the
 
 -- the text of a keyword
 abbrev pub text_of : Keyword → List ℕ
-text_of NetworkStatusVersion = codes "network-status-version"
-text_of VoteStatus = codes "vote-status"
-text_of ConsensusMethods = codes "consensus-methods"
-text_of Published = codes "published"
-text_of ValidAfter = codes "valid-after"
-text_of FreshUntil = codes "fresh-until"
-text_of ValidUntil = codes "valid-until"
-text_of VotingDelay = codes "voting-delay"
-text_of ClientVersions = codes "client-versions"
-text_of ServerVersions = codes "server-versions"
-text_of KnownFlags = codes "known-flags"
-text_of FlagThresholds = codes "flag-thresholds"
-text_of RecommendedClientProtocols = codes "recommended-client-protocols"
-text_of RecommendedRelayProtocols = codes "recommended-relay-protocols"
-text_of RequiredClientProtocols = codes "required-client-protocols"
-text_of RequiredRelayProtocols = codes "required-relay-protocols"
-text_of Params = codes "params"
-text_of DirSource = codes "dir-source"
-text_of Contact = codes "contact"
-text_of DirKeyCertificateVersion = codes "dir-key-certificate-version"
-text_of DirAddress = codes "dir-address"
-text_of Fingerprint = codes "fingerprint"
-text_of DirIdentityKey = codes "dir-identity-key"
-text_of DirKeyPublished = codes "dir-key-published"
-text_of DirKeyExpires = codes "dir-key-expires"
-text_of DirSigningKey = codes "dir-signing-key"
-text_of DirKeyCrosscert = codes "dir-key-crosscert"
-text_of DirKeyCertification = codes "dir-key-certification"
-text_of R = codes "r"
-text_of A = codes "a"
-text_of S = codes "s"
-text_of V = codes "v"
-text_of Pr = codes "pr"
-text_of W = codes "w"
-text_of P = codes "p"
-text_of M = codes "m"
-text_of Id = codes "id"
-text_of DirectoryFooter = codes "directory-footer"
-text_of DirectorySignature = codes "directory-signature"
+text_of the.R = codes "r"
+text_of the.A = codes "a"
+text_of the.S = codes "s"
+text_of the.V = codes "v"
+text_of the.Pr = codes "pr"
+text_of the.W = codes "w"
+text_of the.P = codes "p"
+text_of the.M = codes "m"
+text_of the.Id = codes "id"
+text_of the.NetworkStatusVersion = codes "network-status-version"
+text_of the.VoteStatus = codes "vote-status"
+text_of the.ConsensusMethods = codes "consensus-methods"
+text_of the.ConsensusMethod = codes "consensus-method"
+text_of the.Published = codes "published"
+text_of the.ValidAfter = codes "valid-after"
+text_of the.FreshUntil = codes "fresh-until"
+text_of the.ValidUntil = codes "valid-until"
+text_of the.VotingDelay = codes "voting-delay"
+text_of the.ClientVersions = codes "client-versions"
+text_of the.ServerVersions = codes "server-versions"
+text_of the.KnownFlags = codes "known-flags"
+text_of the.FlagThresholds = codes "flag-thresholds"
+text_of the.RecommendedClientProtocols = codes "recommended-client-protocols"
+text_of the.RecommendedRelayProtocols = codes "recommended-relay-protocols"
+text_of the.RequiredClientProtocols = codes "required-client-protocols"
+text_of the.RequiredRelayProtocols = codes "required-relay-protocols"
+text_of the.Params = codes "params"
+text_of the.SharedRandPreviousValue = codes "shared-rand-previous-value"
+text_of the.SharedRandCurrentValue = codes "shared-rand-current-value"
+text_of the.DirSource = codes "dir-source"
+text_of the.Contact = codes "contact"
+text_of the.VoteDigest = codes "vote-digest"
+text_of the.DirectoryFooter = codes "directory-footer"
+text_of the.BandwidthWeights = codes "bandwidth-weights"
+text_of the.DirectorySignature = codes "directory-signature"
+text_of the.DirKeyCertificateVersion = codes "dir-key-certificate-version"
+text_of the.DirAddress = codes "dir-address"
+text_of the.Fingerprint = codes "fingerprint"
+text_of the.DirIdentityKey = codes "dir-identity-key"
+text_of the.DirKeyPublished = codes "dir-key-published"
+text_of the.DirKeyExpires = codes "dir-key-expires"
+text_of the.DirSigningKey = codes "dir-signing-key"
+text_of the.DirKeyCrosscert = codes "dir-key-crosscert"
+text_of the.DirKeyCertification = codes "dir-key-certification"
+text_of the.ConsensusDigest = codes "consensus-digest"
+text_of the.AdditionalDigest = codes "additional-digest"
+text_of the.AdditionalSignature = codes "additional-signature"
+text_of the.Router = codes "router"
+text_of the.IdentityEd25519 = codes "identity-ed25519"
+text_of the.MasterKeyEd25519 = codes "master-key-ed25519"
+text_of the.Platform = codes "platform"
+text_of the.Uptime = codes "uptime"
+text_of the.Bandwidth = codes "bandwidth"
+text_of the.Hibernating = codes "hibernating"
+text_of the.OnionKey = codes "onion-key"
+text_of the.SigningKey = codes "signing-key"
+text_of the.NtorOnionKey = codes "ntor-onion-key"
+text_of the.Accept = codes "accept"
+text_of the.Reject = codes "reject"
+text_of the.Ipv6Policy = codes "ipv6-policy"
+text_of the.Family = codes "family"
+text_of the.OrAddress = codes "or-address"
+text_of the.TunnelledDirServer = codes "tunnelled-dir-server"
+text_of the.Proto = codes "proto"
+text_of the.RouterSigEd25519 = codes "router-sig-ed25519"
+text_of the.RouterSignature = codes "router-signature"
+text_of the.P6 = codes "p6"
+text_of the.Station = codes "station"
+text_of the.Own = codes "own"
+text_of the.Schedule = codes "schedule"
+text_of the.Authority = codes "authority"
+text_of the.Rule = codes "rule"
+text_of the.Measured = codes "measured"
+text_of the.EndStation = codes "end-station"
 
 -- its number in the enum
 abbrev pub number_of : Keyword → ℕ
-number_of NetworkStatusVersion = 0
-number_of VoteStatus = 1
-number_of ConsensusMethods = 2
-number_of Published = 3
-number_of ValidAfter = 4
-number_of FreshUntil = 5
-number_of ValidUntil = 6
-number_of VotingDelay = 7
-number_of ClientVersions = 8
-number_of ServerVersions = 9
-number_of KnownFlags = 10
-number_of FlagThresholds = 11
-number_of RecommendedClientProtocols = 12
-number_of RecommendedRelayProtocols = 13
-number_of RequiredClientProtocols = 14
-number_of RequiredRelayProtocols = 15
-number_of Params = 16
-number_of DirSource = 17
-number_of Contact = 18
-number_of DirKeyCertificateVersion = 19
-number_of DirAddress = 20
-number_of Fingerprint = 21
-number_of DirIdentityKey = 22
-number_of DirKeyPublished = 23
-number_of DirKeyExpires = 24
-number_of DirSigningKey = 25
-number_of DirKeyCrosscert = 26
-number_of DirKeyCertification = 27
-number_of R = 28
-number_of A = 29
-number_of S = 30
-number_of V = 31
-number_of Pr = 32
-number_of W = 33
-number_of P = 34
-number_of M = 35
-number_of Id = 36
-number_of DirectoryFooter = 37
-number_of DirectorySignature = 38
+number_of the.R = 0
+number_of the.A = 1
+number_of the.S = 2
+number_of the.V = 3
+number_of the.Pr = 4
+number_of the.W = 5
+number_of the.P = 6
+number_of the.M = 7
+number_of the.Id = 8
+number_of the.NetworkStatusVersion = 9
+number_of the.VoteStatus = 10
+number_of the.ConsensusMethods = 11
+number_of the.ConsensusMethod = 12
+number_of the.Published = 13
+number_of the.ValidAfter = 14
+number_of the.FreshUntil = 15
+number_of the.ValidUntil = 16
+number_of the.VotingDelay = 17
+number_of the.ClientVersions = 18
+number_of the.ServerVersions = 19
+number_of the.KnownFlags = 20
+number_of the.FlagThresholds = 21
+number_of the.RecommendedClientProtocols = 22
+number_of the.RecommendedRelayProtocols = 23
+number_of the.RequiredClientProtocols = 24
+number_of the.RequiredRelayProtocols = 25
+number_of the.Params = 26
+number_of the.SharedRandPreviousValue = 27
+number_of the.SharedRandCurrentValue = 28
+number_of the.DirSource = 29
+number_of the.Contact = 30
+number_of the.VoteDigest = 31
+number_of the.DirectoryFooter = 32
+number_of the.BandwidthWeights = 33
+number_of the.DirectorySignature = 34
+number_of the.DirKeyCertificateVersion = 35
+number_of the.DirAddress = 36
+number_of the.Fingerprint = 37
+number_of the.DirIdentityKey = 38
+number_of the.DirKeyPublished = 39
+number_of the.DirKeyExpires = 40
+number_of the.DirSigningKey = 41
+number_of the.DirKeyCrosscert = 42
+number_of the.DirKeyCertification = 43
+number_of the.ConsensusDigest = 44
+number_of the.AdditionalDigest = 45
+number_of the.AdditionalSignature = 46
+number_of the.Router = 47
+number_of the.IdentityEd25519 = 48
+number_of the.MasterKeyEd25519 = 49
+number_of the.Platform = 50
+number_of the.Uptime = 51
+number_of the.Bandwidth = 52
+number_of the.Hibernating = 53
+number_of the.OnionKey = 54
+number_of the.SigningKey = 55
+number_of the.NtorOnionKey = 56
+number_of the.Accept = 57
+number_of the.Reject = 58
+number_of the.Ipv6Policy = 59
+number_of the.Family = 60
+number_of the.OrAddress = 61
+number_of the.TunnelledDirServer = 62
+number_of the.Proto = 63
+number_of the.RouterSigEd25519 = 64
+number_of the.RouterSignature = 65
+number_of the.P6 = 66
+number_of the.Station = 67
+number_of the.Own = 68
+number_of the.Schedule = 69
+number_of the.Authority = 70
+number_of the.Rule = 71
+number_of the.Measured = 72
+number_of the.EndStation = 73
 
 -- all of them
 abbrev pub known : List Keyword
-known = NetworkStatusVersion ∷ VoteStatus ∷ ConsensusMethods ∷ Published ∷ ValidAfter ∷ FreshUntil ∷ ValidUntil ∷ VotingDelay ∷ ClientVersions ∷ ServerVersions ∷ KnownFlags ∷ FlagThresholds ∷ RecommendedClientProtocols ∷ RecommendedRelayProtocols ∷ RequiredClientProtocols ∷ RequiredRelayProtocols ∷ Params ∷ DirSource ∷ Contact ∷ DirKeyCertificateVersion ∷ DirAddress ∷ Fingerprint ∷ DirIdentityKey ∷ DirKeyPublished ∷ DirKeyExpires ∷ DirSigningKey ∷ DirKeyCrosscert ∷ DirKeyCertification ∷ R ∷ A ∷ S ∷ V ∷ Pr ∷ W ∷ P ∷ M ∷ Id ∷ DirectoryFooter ∷ DirectorySignature ∷ []
+known =
+    the.R ∷ the.A ∷ the.S ∷ the.V ∷ the.Pr ∷ the.W ∷ the.P ∷ the.M ∷ the.Id ∷
+    the.NetworkStatusVersion ∷ the.VoteStatus ∷ the.ConsensusMethods ∷ the.ConsensusMethod ∷ the.Published ∷
+    the.ValidAfter ∷ the.FreshUntil ∷ the.ValidUntil ∷ the.VotingDelay ∷ the.ClientVersions ∷ the.ServerVersions ∷
+    the.KnownFlags ∷ the.FlagThresholds ∷ the.RecommendedClientProtocols ∷ the.RecommendedRelayProtocols ∷
+    the.RequiredClientProtocols ∷ the.RequiredRelayProtocols ∷ the.Params ∷ the.SharedRandPreviousValue ∷
+    the.SharedRandCurrentValue ∷
+    the.DirSource ∷ the.Contact ∷ the.VoteDigest ∷ the.DirectoryFooter ∷ the.BandwidthWeights ∷
+    the.DirectorySignature ∷
+    the.DirKeyCertificateVersion ∷ the.DirAddress ∷ the.Fingerprint ∷ the.DirIdentityKey ∷ the.DirKeyPublished ∷
+    the.DirKeyExpires ∷ the.DirSigningKey ∷ the.DirKeyCrosscert ∷ the.DirKeyCertification ∷
+    the.ConsensusDigest ∷ the.AdditionalDigest ∷ the.AdditionalSignature ∷
+    the.Router ∷ the.IdentityEd25519 ∷ the.MasterKeyEd25519 ∷ the.Platform ∷ the.Uptime ∷ the.Bandwidth ∷
+    the.Hibernating ∷ the.OnionKey ∷ the.SigningKey ∷ the.NtorOnionKey ∷ the.Accept ∷ the.Reject ∷ the.Ipv6Policy ∷
+    the.Family ∷ the.OrAddress ∷ the.TunnelledDirServer ∷ the.Proto ∷ the.RouterSigEd25519 ∷ the.RouterSignature ∷
+    the.P6 ∷
+    the.Station ∷ the.Own ∷ the.Schedule ∷ the.Authority ∷ the.Rule ∷ the.Measured ∷ the.EndStation ∷ []
 
 -- the first keyword of a list that has this text
 abbrev pub among : List ℕ → List Keyword → Option Keyword

@@ -1,11 +1,7 @@
 pub mod Keywords
 pub mod Rows
-pub mod Tables
 pub mod Refusals
-pub mod Arguments
-pub mod Fields
-pub mod Signatures
-pub mod Values
+pub mod Tables
 pub mod Sections
 pub mod Order
 pub mod Standing

@@ -1,59 +1,63 @@
 -- A section of a document: its items in any order after its first one, with the counts of its table.
-use Rattle.std.specs.Prelude.{ℕ, nat_lt, Bool, not, ◌&&◌, List, length, Option, Some, None, Result, Ok, Err, if◌then◌else◌}
+use Rattle.std.specs.Prelude.{◌+◌, Bool, not, ◌&&◌, List, length, Option, Some, None, Result, Ok, Err, if◌then◌else◌}
 use Rattle.std.specs.List.{find, list_any}
 use Rattle.item_terms.specs.Items.{Item}
+use Rattle.frame_terms.specs.declared.document.Taken.{Taken}
+use Rattle.frame_terms.specs.declared.fault.FrameFault.{FrameFault}
+use Rattle.frame_terms.specs.declared.fault.FrameReason.TheVariants.{Twice}
+use Rattle.frame_terms.specs.declared.fault.ReadRefusal.{ReadRefusal}
+use Rattle.frame_terms.specs.declared.fault.ReadRefusal.TheVariants.{Frame}
 use Rattle.frame_terms.specs.declared.keyword.Keyword.{Keyword}
 use Rattle.frame_terms.specs.declared.row.Row.{Row}
-use Rattle.frame_terms.specs.declared.row.Limit.{Limit}
-use Rattle.frame_terms.specs.declared.fault.FrameReason.TheVariants.{Twice, TooMany, Value as BadValue}
-use Rattle.frame_terms.specs.declared.fault.ReadRefusal.{ReadRefusal}
-use Rattle.frame_terms.specs.declared.value.Value.{Value}
-use Rattle.frame_terms.specs.declared.value.Taken.{Taken}
-use Rattle.frame_terms.specs.Arguments.{arguments_of}
 use Rattle.frame_terms.specs.Keywords.{same}
 use Rattle.frame_terms.specs.Refusals.{refused}
-use Rattle.frame_terms.specs.Rows.{is_one, is_many, limit_number}
-use Rattle.frame_terms.specs.Values.{value_of}
+use Rattle.frame_terms.specs.Rows.{is_one, is_many}
+use Rattle.frame_terms.specs.Tables.{Tables}
 
--- the row of a keyword
-abbrev pub row_of : List Row → Keyword → Option Row
-row_of rows keyword = find (λ row. same row.keyword keyword) rows
+module _ {K : Type 0} where
+  -- the row of a keyword
+  abbrev pub row_of : List (Row K) → Keyword → Option (Row K)
+  row_of rows keyword = find (λ (row : Row K). same row.keyword keyword) rows
 
--- whether an item of this keyword is among those taken
-abbrev pub stands : Keyword → List Taken → Bool
-stands keyword taken = list_any (λ one. same one.keyword keyword) taken
+  -- the keyword of a row
+  abbrev pub keyword_if : Option (Row K) → Option Keyword
+  keyword_if None = None
+  keyword_if (Some row) = Some row.keyword
 
--- the keyword of a row
-abbrev pub keyword_if : Option Row → Option Keyword
-keyword_if None = None
-keyword_if (Some row) = Some row.keyword
+module _ {V : Type 0} where
+  -- whether an item of this keyword is among those taken
+  abbrev pub stands : Keyword → List (Taken V) → Bool
+  stands keyword taken = list_any (λ (one : Taken V). same one.keyword keyword) taken
 
--- the keyword of the first row that lacks its item
-abbrev pub lacking : List Row → List Taken → Option Keyword
-lacking rows taken = keyword_if (find (λ row. is_one row.count && not (stands row.keyword taken)) rows)
+  -- an item that says this, with its places
+  abbrev pub taken_of : Keyword → Item → V → Taken V
+  taken_of keyword item value = record {
+    keyword = keyword;
+    value = value;
+    place = item.place;
+    separator = item.place + length item.keyword;
+    line_end = item.line_end;
+    after = item.after;
+  }
 
--- the same of the rows but the one of this last keyword
-abbrev pub lacking_but : List Row → Keyword → List Taken → Option Keyword
-lacking_but rows last taken =
-    keyword_if (find (λ row. is_one row.count && not (same row.keyword last) && not (stands row.keyword taken)) rows)
+  -- an item with what it says, or what is wrong with it
+  abbrev pub taken_as : Keyword → Item → Result V FrameFault → Result (Taken V) ReadRefusal
+  taken_as keyword item (Err fault) = Err (Frame fault)
+  taken_as keyword item (Ok value) = Ok (taken_of keyword item value)
 
--- the limit that an item passes with the number of its arguments
-abbrev pub too_many : Option Limit → Item → Option Limit
-too_many None item = None
-too_many (Some limit) item = if nat_lt (limit_number limit) (length (arguments_of item)) then Some limit else None
+module _ {K V : Type 0} where
+  -- the keyword of the first row that lacks its item
+  abbrev pub lacking : List (Row K) → List (Taken V) → Option Keyword
+  lacking rows taken = keyword_if (find (λ (row : Row K). is_one row.count && not (stands row.keyword taken)) rows)
 
--- an item with what it says, or the fault Value at the place of what is wrong
-abbrev pub taken_as : Keyword → Item → Result Value ℕ → Result Taken ReadRefusal
-taken_as keyword item (Err place) = Err (refused place BadValue)
-taken_as keyword item (Ok value) = Ok (record { keyword = keyword; value = value; place = item.place; after = item.after })
+  -- the same of the rows but the one of this last keyword
+  abbrev pub lacking_but : List (Row K) → Keyword → List (Taken V) → Option Keyword
+  lacking_but rows last taken =
+      keyword_if (find (λ (row : Row K). is_one row.count && not (same row.keyword last) && not (stands row.keyword taken)) rows)
 
--- an item of this row, unless it has too many arguments
-abbrev pub unless_many : Option Limit → Item → Result Taken ReadRefusal → Result Taken ReadRefusal
-unless_many None item other = other
-unless_many (Some limit) item other = Err (refused item.place (TooMany limit))
-
--- an item of this row after those that are taken: Twice, TooMany, and Value in this order
-abbrev pub accept : Row → List Taken → Item → Result Taken ReadRefusal
-accept row taken item =
-    if not (is_many row.count) && stands row.keyword taken then Err (refused item.place (Twice row.keyword))
-    else unless_many (too_many row.limit item) item (taken_as row.keyword item (value_of row.kind item))
+module _ {S K V X : Type 0} where
+  -- an item of this row after those that are taken: Twice, then what is wrong with what it says
+  abbrev pub accept : Tables S K V X → X → Row K → List (Taken V) → Item → Result (Taken V) ReadRefusal
+  accept tables across row taken item =
+      if not (is_many row.count) && stands row.keyword taken then Err (refused item.place (Twice row.keyword))
+      else taken_as row.keyword item (tables.value_of across row.kind item)

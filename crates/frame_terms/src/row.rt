@@ -15,26 +15,6 @@ pub enum Count {
     Many,
 }
 
-/// A word that an item has to have as its first argument.
-#[derive(Clone, Copy, Debug, PartialEq, Eq)]
-pub enum Literal {
-    /// `3`
-    Three,
-    /// `vote`
-    Vote,
-}
-
-/// What the first and the last line of an object may call it.
-#[derive(Clone, Copy, Debug, PartialEq, Eq)]
-pub enum ObjectWords {
-    /// `RSA PUBLIC KEY`
-    RsaPublicKey,
-    /// `SIGNATURE`
-    Signature,
-    /// `ID SIGNATURE`, or `SIGNATURE`.
-    IdSignature,
-}
-
 /// What may not stand more than so many times, or be longer than so many bytes.
 #[derive(Clone, Copy, Debug, PartialEq, Eq)]
 pub enum Limit {
@@ -42,78 +22,25 @@ pub enum Limit {
     KnownFlags,
     /// The methods of a `consensus-methods` line: 64.
     Methods,
-    /// The bytes of a key certificate inside a vote: 65,536.
+    /// The bytes of a key certificate inside another document: 65,536.
     Certificate,
     /// The votes of an input: 64.
     Votes,
+    /// The relay entries of a vote: 65,535.
+    Entries,
+    /// The parameters of a `params` line: 1,024.
+    Params,
 }
 
-/// What the arguments of an item say, and its object.
-#[derive(Clone, Copy, Debug, PartialEq, Eq)]
-pub enum Kind {
-    /// The rest of the line as it stands, which is read no further.
-    Rest,
-    /// Nothing: its arguments are ignored.
-    Nothing,
-    /// This word.
-    Literal(Literal),
-    /// Numbers below 2 ^ 32, in any number.
-    Numbers,
-    /// A date and a time of day.
-    Time,
-    /// Two numbers of seconds, each below 2 ^ 32.
-    Delays,
-    /// Flags, in any number, none of them twice.
-    Flags,
-    /// Who an authority is: nickname, identity, host name, IPv4 address, DirPort and ORPort.
-    Source,
-    /// One argument, whatever it is.
-    OneArgument,
-    /// 40 hex digits.
-    Fingerprint,
-    /// An object; the arguments are ignored.
-    Object(ObjectWords),
-    /// An algorithm or none, an identity, the digest of a signing key, and a signature.
-    Signature,
-}
-
-/// An item of a section.
+/// An item of a section, with what it says as one of the kinds that its document has.
 #[derive(Clone, Copy, Debug)]
-pub struct Row {
+pub struct Row<K> {
     /// Its keyword.
     pub keyword: Keyword,
     /// How often it stands.
     pub count: Count,
     /// What it says.
-    pub kind: Kind,
-    /// How many arguments it may have, where that is limited.
-    pub limit: Option<Limit>,
-}
-
-impl Literal {
-    /// The word.
-    pub fn text(self) -> &'static [u8]
-        ensures { result.now ≡ rows.literal_text self }
-    {
-        match self {
-            Literal::Three => b"3",
-            Literal::Vote => b"vote",
-        }
-    }
-}
-
-impl ObjectWords {
-    /// Whether an object with these words is meant.
-    pub fn admits(self, words: &[u8]) -> bool
-        ensures { result ≡ rows.admits self words.now }
-    {
-        match self {
-            ObjectWords::RsaPublicKey => words == b"RSA PUBLIC KEY".as_slice(),
-            ObjectWords::Signature => words == b"SIGNATURE".as_slice(),
-            ObjectWords::IdSignature => words == b"ID SIGNATURE".as_slice()
-                || words == b"SIGNATURE".as_slice(),
-        }
-    }
+    pub kind: K,
 }
 
 impl Limit {
@@ -124,6 +51,8 @@ impl Limit {
         match self {
             Limit::KnownFlags | Limit::Methods | Limit::Votes => 64,
             Limit::Certificate => 65_536,
+            Limit::Entries => 65_535,
+            Limit::Params => 1_024,
         }
     }
 
@@ -136,6 +65,8 @@ impl Limit {
             Limit::Methods => b"methods",
             Limit::Certificate => b"certificate",
             Limit::Votes => b"votes",
+            Limit::Entries => b"entries",
+            Limit::Params => b"params",
         }
     }
 }

@@ -4,44 +4,28 @@ ghost use Rattle.frame_terms.specs.Keywords.{word_of, among};
 
 use crate::keyword::Keyword;
 
-const N_WORDS: [Keyword; 1] = [Keyword::NetworkStatusVersion];
-
-const V_WORDS: [Keyword; 5] = [
-    Keyword::VoteStatus,
-    Keyword::ValidAfter,
-    Keyword::ValidUntil,
-    Keyword::VotingDelay,
-    Keyword::V,
+const A_WORDS: [Keyword; 5] = [
+    Keyword::A,
+    Keyword::AdditionalDigest,
+    Keyword::AdditionalSignature,
+    Keyword::Accept,
+    Keyword::Authority,
 ];
 
-const C_WORDS: [Keyword; 3] = [
+const B_WORDS: [Keyword; 2] = [Keyword::BandwidthWeights, Keyword::Bandwidth];
+
+const C_WORDS: [Keyword; 5] = [
     Keyword::ConsensusMethods,
+    Keyword::ConsensusMethod,
     Keyword::ClientVersions,
     Keyword::Contact,
-];
-
-const P_WORDS: [Keyword; 4] = [Keyword::Published, Keyword::Params, Keyword::Pr, Keyword::P];
-
-const F_WORDS: [Keyword; 3] = [
-    Keyword::FreshUntil,
-    Keyword::FlagThresholds,
-    Keyword::Fingerprint,
-];
-
-const S_WORDS: [Keyword; 2] = [Keyword::ServerVersions, Keyword::S];
-
-const K_WORDS: [Keyword; 1] = [Keyword::KnownFlags];
-
-const R_WORDS: [Keyword; 5] = [
-    Keyword::RecommendedClientProtocols,
-    Keyword::RecommendedRelayProtocols,
-    Keyword::RequiredClientProtocols,
-    Keyword::RequiredRelayProtocols,
-    Keyword::R,
+    Keyword::ConsensusDigest,
 ];
 
 const D_WORDS: [Keyword; 11] = [
     Keyword::DirSource,
+    Keyword::DirectoryFooter,
+    Keyword::DirectorySignature,
     Keyword::DirKeyCertificateVersion,
     Keyword::DirAddress,
     Keyword::DirIdentityKey,
@@ -50,17 +34,76 @@ const D_WORDS: [Keyword; 11] = [
     Keyword::DirSigningKey,
     Keyword::DirKeyCrosscert,
     Keyword::DirKeyCertification,
-    Keyword::DirectoryFooter,
-    Keyword::DirectorySignature,
 ];
 
-const A_WORDS: [Keyword; 1] = [Keyword::A];
+const E_WORDS: [Keyword; 1] = [Keyword::EndStation];
+
+const F_WORDS: [Keyword; 4] = [
+    Keyword::FreshUntil,
+    Keyword::FlagThresholds,
+    Keyword::Fingerprint,
+    Keyword::Family,
+];
+
+const H_WORDS: [Keyword; 1] = [Keyword::Hibernating];
+
+const I_WORDS: [Keyword; 3] = [Keyword::Id, Keyword::IdentityEd25519, Keyword::Ipv6Policy];
+
+const K_WORDS: [Keyword; 1] = [Keyword::KnownFlags];
+
+const M_WORDS: [Keyword; 3] = [Keyword::M, Keyword::MasterKeyEd25519, Keyword::Measured];
+
+const N_WORDS: [Keyword; 2] = [Keyword::NetworkStatusVersion, Keyword::NtorOnionKey];
+
+const O_WORDS: [Keyword; 3] = [Keyword::OnionKey, Keyword::OrAddress, Keyword::Own];
+
+const P_WORDS: [Keyword; 7] = [
+    Keyword::Pr,
+    Keyword::P,
+    Keyword::Published,
+    Keyword::Params,
+    Keyword::Platform,
+    Keyword::Proto,
+    Keyword::P6,
+];
+
+const R_WORDS: [Keyword; 10] = [
+    Keyword::R,
+    Keyword::RecommendedClientProtocols,
+    Keyword::RecommendedRelayProtocols,
+    Keyword::RequiredClientProtocols,
+    Keyword::RequiredRelayProtocols,
+    Keyword::Router,
+    Keyword::Reject,
+    Keyword::RouterSigEd25519,
+    Keyword::RouterSignature,
+    Keyword::Rule,
+];
+
+const S_WORDS: [Keyword; 7] = [
+    Keyword::S,
+    Keyword::ServerVersions,
+    Keyword::SharedRandPreviousValue,
+    Keyword::SharedRandCurrentValue,
+    Keyword::SigningKey,
+    Keyword::Station,
+    Keyword::Schedule,
+];
+
+const T_WORDS: [Keyword; 1] = [Keyword::TunnelledDirServer];
+
+const U_WORDS: [Keyword; 1] = [Keyword::Uptime];
+
+const V_WORDS: [Keyword; 6] = [
+    Keyword::V,
+    Keyword::VoteStatus,
+    Keyword::ValidAfter,
+    Keyword::ValidUntil,
+    Keyword::VotingDelay,
+    Keyword::VoteDigest,
+];
 
 const W_WORDS: [Keyword; 1] = [Keyword::W];
-
-const M_WORDS: [Keyword; 1] = [Keyword::M];
-
-const I_WORDS: [Keyword; 1] = [Keyword::Id];
 
 /// The keywords that begin with this byte.
 #[tactic(auto, unfolding(crate::specs::Keywords::word_of))]
@@ -68,19 +111,25 @@ fn beginning_with(first: u8) -> &'static [Keyword]
     ensures { (more : List ℕ) → word_of (first ∷ more) ≡ among (first ∷ more) result.now }
 {
     match first {
-        b'n' => &N_WORDS,
-        b'v' => &V_WORDS,
-        b'c' => &C_WORDS,
-        b'p' => &P_WORDS,
-        b'f' => &F_WORDS,
-        b's' => &S_WORDS,
-        b'k' => &K_WORDS,
-        b'r' => &R_WORDS,
-        b'd' => &D_WORDS,
         b'a' => &A_WORDS,
-        b'w' => &W_WORDS,
-        b'm' => &M_WORDS,
+        b'b' => &B_WORDS,
+        b'c' => &C_WORDS,
+        b'd' => &D_WORDS,
+        b'e' => &E_WORDS,
+        b'f' => &F_WORDS,
+        b'h' => &H_WORDS,
         b'i' => &I_WORDS,
+        b'k' => &K_WORDS,
+        b'm' => &M_WORDS,
+        b'n' => &N_WORDS,
+        b'o' => &O_WORDS,
+        b'p' => &P_WORDS,
+        b'r' => &R_WORDS,
+        b's' => &S_WORDS,
+        b't' => &T_WORDS,
+        b'u' => &U_WORDS,
+        b'v' => &V_WORDS,
+        b'w' => &W_WORDS,
         _ => &[],
     }
 }
@@ -92,7 +141,7 @@ fn among(text: &[u8], words: &[Keyword]) -> Option<Keyword>
     words.iter().copied().find(|word| text == word.text())
 }
 
-/// The keyword that has this text, if a vote or a certificate has one that does.
+/// The keyword that has this text, if there is one.
 #[tactic(auto, unfolding(crate::specs::Keywords::word_of))]
 pub fn keyword_of(text: &[u8]) -> Option<Keyword>
     ensures { result ≡ word_of text.now }

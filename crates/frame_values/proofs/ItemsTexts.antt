@@ -6,7 +6,8 @@ use Rattle.dirdoc_grammar.specs.Writing.{NewItem, item_text, items_text}
 pub sections : (front back : List NewItem) → items_text (front ++ back) ≡ items_text front ++ items_text back
 sections [] back = refl
 sections (item ∷ front) back =
-    ap (λ (l : List ℕ). item_text item ++ l) (sections front back) ∙ sym (append_assoc (item_text item) (items_text front) (items_text back))
+    ap (λ (l : List ℕ). item_text item ++ l) (sections front back)
+    ∙ sym (append_assoc (item_text item) (items_text front) (items_text back))
 
 -- a text that was appended and what was appended after it
 pub link : (o a p q rest : List ℕ) → p ≡ o ++ a → q ≡ p ++ rest → q ≡ o ++ (a ++ rest)

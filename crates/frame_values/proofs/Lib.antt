@@ -1,10 +1,1 @@
 pub mod ItemsTexts
-pub mod WordTexts
-pub mod Words
-pub mod ItemValues
-pub mod WrittenItems
-pub mod Entries
-pub mod Suiting
-pub mod Steps
-pub mod Places
-pub mod StandingParts

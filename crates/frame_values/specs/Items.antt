@@ -12,7 +12,8 @@ bare keyword rest = record { keyword = text_of keyword; arguments = rest; object
 
 -- an item whose line has this rest, with an object of these words and bytes
 abbrev pub with_object : Keyword → List ℕ → List ℕ → List ℕ → NewItem
-with_object keyword rest words bytes = record { keyword = text_of keyword; arguments = rest; object = Some (record { words = words; bytes = bytes }) }
+with_object keyword rest words bytes =
+    record { keyword = text_of keyword; arguments = rest; object = Some (record { words = words; bytes = bytes }) }
 
 -- an item where there is a rest of its line
 abbrev pub item_if : Keyword → Option (List ℕ) → List NewItem

@@ -1,4 +1,9 @@
+pub mod Arguments
+pub mod Fields
+pub mod Lines
+pub mod Signatures
 pub mod Values
+pub mod Faults
 pub mod Parts
 pub mod Items
 pub mod Ranges

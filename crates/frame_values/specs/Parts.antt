@@ -2,13 +2,14 @@
 use Rattle.std.specs.Prelude.{ℕ, min, List, [], slice_range, unwrap_or}
 use Rattle.dir_bytes.specs.Causes.{last_moment}
 use Rattle.dirdoc_grammar.specs.Bodies.{decoded}
-use Rattle.frame_terms.specs.declared.value.Span.{Span}
+use Rattle.frame_values.specs.declared.found.Span.{Span}
 
 -- the text that stands in a span
 abbrev pub part : List ℕ → Span → List ℕ
 part bytes span = slice_range bytes span.start span.end
 
--- the bytes that an object's lines spell, which stand in a span. Each object that is read is base64, so that none is lost.
+-- the bytes that an object's lines spell, which stand in a span. Each object that is read is base64, so that none is
+-- lost.
 abbrev pub bytes_in : List ℕ → Span → List ℕ
 bytes_in bytes lines = unwrap_or (decoded (part bytes lines)) []
 

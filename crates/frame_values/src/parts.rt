@@ -4,9 +4,9 @@ ghost use Rattle.dir_bytes.specs.Causes.{last_moment};
 ghost use Rattle.frame_values.specs.Parts as parts;
 ghost use Rattle.frame_values.specs.Parts.{moment_of};
 
+use crate::found::Span;
 use dir_bytes::{LAST_MOMENT, Memory, Text};
 use dirdoc_grammar::decode_lines;
-use frame_terms::Span;
 use std::alloc::Global;
 
 /// The part of a text from one place to another; places past its end name what there is.

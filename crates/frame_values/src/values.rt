@@ -2,18 +2,36 @@
 ghost use Rattle.std.specs.Prelude.{◌≡◌};
 ghost use Rattle.frame_values.specs.Values as values;
 
-use dir_values::{Digest1, Fingerprint};
-use frame_terms::{DirSource, Keyword, Span, Taken, Value, VoteSignature};
+use crate::found::Span;
+use dir_values::Fingerprint;
+use frame_terms::{Keyword, Taken};
+
+/// What an item says, where V is what items of its kind of document say beside what those of several do.
+#[derive(Clone, Copy, Debug)]
+pub enum Value<V> {
+    /// No more than that it stands.
+    Nothing,
+    /// A text, or the arguments as they stand.
+    Text(Span),
+    /// A time, in seconds from 1970-01-01 00:00:00.
+    Number(u64),
+    /// A fingerprint.
+    Fingerprint(Fingerprint),
+    /// The lines of an object, without its first and last.
+    Object(Span),
+    /// What only items of its kind of document say.
+    Own(V),
+}
 
 /// The first item of a keyword.
-pub fn item_at(taken: &[Taken], keyword: Keyword) -> Option<Taken>
+pub fn item_at<V: Copy>(taken: &[Taken<V>], keyword: Keyword) -> Option<Taken<V>>
     ensures { result ≡ values.item_at taken.now keyword }
 {
     taken.iter().copied().find(|one| one.keyword.same(keyword))
 }
 
 /// Where the first item of a keyword begins, and 0 of none.
-pub fn place_at(taken: &[Taken], keyword: Keyword) -> u64
+pub fn place_at<V: Copy>(taken: &[Taken<V>], keyword: Keyword) -> u64
     ensures { result ≡ values.place_in (values.item_at taken.now keyword) }
 {
     match item_at(taken, keyword) {
@@ -22,8 +40,28 @@ pub fn place_at(taken: &[Taken], keyword: Keyword) -> u64
     }
 }
 
+/// Where the keyword of the first item of a keyword ends, and 0 of none.
+pub fn separator_at<V: Copy>(taken: &[Taken<V>], keyword: Keyword) -> u64
+    ensures { result ≡ values.separator_in (values.item_at taken.now keyword) }
+{
+    match item_at(taken, keyword) {
+        Some(one) => one.separator,
+        None => 0,
+    }
+}
+
+/// Where the line of the first item of a keyword ends, and 0 of none.
+pub fn line_end_at<V: Copy>(taken: &[Taken<V>], keyword: Keyword) -> u64
+    ensures { result ≡ values.line_end_in (values.item_at taken.now keyword) }
+{
+    match item_at(taken, keyword) {
+        Some(one) => one.line_end,
+        None => 0,
+    }
+}
+
 /// Where the first item of a keyword ends, and 0 of none.
-pub fn after_at(taken: &[Taken], keyword: Keyword) -> u64
+pub fn after_at<V: Copy>(taken: &[Taken<V>], keyword: Keyword) -> u64
     ensures { result ≡ values.after_in (values.item_at taken.now keyword) }
 {
     match item_at(taken, keyword) {
@@ -32,32 +70,42 @@ pub fn after_at(taken: &[Taken], keyword: Keyword) -> u64
     }
 }
 
-/// The number that the first item of a keyword says, and 0 of none.
-pub fn number_at(taken: &[Taken], keyword: Keyword) -> u64
-    ensures { result ≡ values.number_in (values.item_at taken.now keyword) }
+/// What the first item of a keyword says, and nothing of none.
+pub fn value_at<V: Copy>(taken: &[Taken<Value<V>>], keyword: Keyword) -> Value<V>
+    ensures { result ≡ values.value_if (values.item_at taken.now keyword) }
 {
     match item_at(taken, keyword) {
-        Some(
-            Taken {
-                value: Value::Number(number),
-                ..
-            },
-        ) => number,
+        Some(one) => one.value,
+        None => Value::Nothing,
+    }
+}
+
+/// What only items of a kind of document say, as the first item of a keyword does.
+pub fn own_at<V: Copy>(taken: &[Taken<Value<V>>], keyword: Keyword) -> Option<V>
+    ensures { result ≡ values.own_in (values.item_at taken.now keyword) }
+{
+    match value_at(taken, keyword) {
+        Value::Own(value) => Some(value),
+        _ => None,
+    }
+}
+
+/// The number that the first item of a keyword says, and 0 of none.
+pub fn number_at<V: Copy>(taken: &[Taken<Value<V>>], keyword: Keyword) -> u64
+    ensures { result ≡ values.number_in (values.item_at taken.now keyword) }
+{
+    match value_at(taken, keyword) {
+        Value::Number(number) => number,
         _ => 0,
     }
 }
 
 /// Where the text of the first item of a keyword stands, if there is one.
-pub fn text_if(taken: &[Taken], keyword: Keyword) -> Option<Span>
+pub fn text_if<V: Copy>(taken: &[Taken<Value<V>>], keyword: Keyword) -> Option<Span>
     ensures { result ≡ values.text_if (values.item_at taken.now keyword) }
 {
-    match item_at(taken, keyword) {
-        Some(
-            Taken {
-                value: Value::Text(span),
-                ..
-            },
-        ) => Some(span),
+    match value_at(taken, keyword) {
+        Value::Text(span) => Some(span),
         _ => None,
     }
 }
@@ -70,7 +118,7 @@ pub fn nowhere() -> Span
 }
 
 /// Where the text of the first item of a keyword stands.
-pub fn text_at(taken: &[Taken], keyword: Keyword) -> Span
+pub fn text_at<V: Copy>(taken: &[Taken<Value<V>>], keyword: Keyword) -> Span
     ensures { result ≡ values.text_in (values.text_if (values.item_at taken.now keyword)) }
 {
     match text_if(taken, keyword) {
@@ -79,88 +127,12 @@ pub fn text_at(taken: &[Taken], keyword: Keyword) -> Span
     }
 }
 
-/// The seconds for exchanging votes and signatures.
-pub fn delays_at(taken: &[Taken]) -> (u32, u32)
-    ensures { result ≡ values.delays_in (values.item_at taken.now Keyword.VotingDelay) }
-{
-    match item_at(taken, Keyword::VotingDelay) {
-        Some(
-            Taken {
-                value: Value::Delays(vote, dist),
-                ..
-            },
-        ) => (vote, dist),
-        _ => (0, 0),
-    }
-}
-
-/// An authority of which nothing is known.
-pub fn no_source() -> DirSource
-    ensures { result ≡ values.no_source }
-{
-    DirSource {
-        nickname: nowhere(),
-        identity: Fingerprint([0; 20]),
-        address: nowhere(),
-        ip: 0,
-        dir_port: 0,
-        or_port: 0,
-    }
-}
-
-/// The authority.
-pub fn source_at(taken: &[Taken]) -> DirSource
-    ensures { result ≡ values.source_in (values.item_at taken.now Keyword.DirSource) }
-{
-    match item_at(taken, Keyword::DirSource) {
-        Some(
-            Taken {
-                value: Value::Source(source),
-                ..
-            },
-        ) => source,
-        _ => no_source(),
-    }
-}
-
-/// A signature of nothing.
-pub fn no_signature() -> VoteSignature
-    ensures { result ≡ values.no_signature }
-{
-    VoteSignature {
-        algorithm: None,
-        identity: Fingerprint([0; 20]),
-        key_digest: Digest1([0; 20]),
-        signature: nowhere(),
-    }
-}
-
-/// The signature.
-pub fn signature_at(taken: &[Taken]) -> VoteSignature
-    ensures { result ≡ values.signature_in (values.item_at taken.now Keyword.DirectorySignature) }
-{
-    match item_at(taken, Keyword::DirectorySignature) {
-        Some(
-            Taken {
-                value: Value::Signature(signature),
-                ..
-            },
-        ) => signature,
-        _ => no_signature(),
-    }
-}
-
 /// Where the lines of the object of the first item of a keyword stand.
-pub fn object_at(taken: &[Taken], keyword: Keyword) -> Span
+pub fn object_at<V: Copy>(taken: &[Taken<Value<V>>], keyword: Keyword) -> Span
     ensures { result ≡ values.object_in (values.item_at taken.now keyword) }
 {
-    match item_at(taken, keyword) {
-        Some(
-            Taken {
-                value: Value::Object(lines),
-                ..
-            },
-        ) => lines,
+    match value_at(taken, keyword) {
+        Value::Object(lines) => lines,
         _ => nowhere(),
     }
 }
@@ -173,16 +145,11 @@ pub fn no_identity() -> Fingerprint
 }
 
 /// The identity that the first item of a keyword says.
-pub fn fingerprint_at(taken: &[Taken], keyword: Keyword) -> Fingerprint
+pub fn fingerprint_at<V: Copy>(taken: &[Taken<Value<V>>], keyword: Keyword) -> Fingerprint
     ensures { result ≡ values.fingerprint_in (values.item_at taken.now keyword) }
 {
-    match item_at(taken, keyword) {
-        Some(
-            Taken {
-                value: Value::Fingerprint(identity),
-                ..
-            },
-        ) => identity,
+    match value_at(taken, keyword) {
+        Value::Fingerprint(identity) => identity,
         _ => no_identity(),
     }
 }

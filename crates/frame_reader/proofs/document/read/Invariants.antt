@@ -4,8 +4,9 @@ use Rattle.frame_reader.proofs.document.read.Given as goal
 
 abbrev pub invariant-items : goal.invariant-items
 invariant-items g l =
-    finish g.F.Facts.with l.facts (read_items l.kind l.length l.state l.items.fault l.items.items)
-    ≡ finish g.F.Facts.with l.fn.facts (document_of l.kind l.length l.fn.items)
+    finish g.K.Facts.with l.facts
+    (read_items (g.F.Frame.tables l.frame) l.length l.across l.state l.items.fault l.items.items)
+    ≡ finish g.K.Facts.with l.fn.facts (document_of (g.F.Frame.tables l.frame) l.length l.fn.items)
 
 abbrev pub decreases-items : goal.decreases-items
 decreases-items g l = length l.items.items

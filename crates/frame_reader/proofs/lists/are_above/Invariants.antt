@@ -1,8 +1,0 @@
-use Rattle.std.proofs.Common.{◌≡◌, ◌+◌, length}
-use Rattle.frame_reader.proofs.lists.are_above.Given as goal
-
-abbrev pub invariant-arguments : goal.invariant-arguments
-invariant-arguments l = l.left + length l.fn.arguments ≡ l.limit + length l.arguments
-
-abbrev pub decreases-arguments : goal.decreases-arguments
-decreases-arguments l = length l.arguments

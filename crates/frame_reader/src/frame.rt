@@ -1,0 +1,76 @@
+// What a kind of document has: its sections, the tables of their items, and what the items say.
+ghost use Rattle.std.specs.Prelude.{◌≡◌};
+ghost use Rattle.dirdoc_grammar.specs.Seen.{seen, IsInside};
+ghost use Rattle.frame_terms.specs.Refusals.{Becomes};
+ghost use Rattle.frame_terms.specs.Tables.{Tables};
+
+use dirdoc_grammar::Item;
+use frame_terms::{FrameFault, Keyword, ReadRefusal, Row, Shape, Taken};
+use std::alloc::Global;
+
+/// A kind of document, by the tables of its sections.
+pub trait Frame: Copy {
+    /// Its sections.
+    type Section: Copy + 'static;
+
+    /// The kinds of its items.
+    type Kind: Copy + 'static;
+
+    /// What its items say.
+    type Value: Copy + 'static;
+
+    /// What it remembers across its items; nothing, where no rule speaks of several of them.
+    type Across: Drop + 'static;
+
+    /// Its tables.
+    ghost tables: { Self → Tables Self.Section Self.Kind Self.Value Self.Across };
+
+    /// The section that it begins with.
+    fn first(self) -> Self::Section
+        ensures { result ≡ (tables self).first };
+
+    /// Its sections in order, without those inside others.
+    fn sections(self) -> &'static [Self::Section]
+        ensures { result.now ≡ (tables self).sections };
+
+    /// How a section begins and ends, and what may stand inside it.
+    fn shape(self, section: Self::Section) -> Shape<Self::Section>
+        ensures { result ≡ (tables self).shape section };
+
+    /// The items of a section. The first row is that of the item that opens it.
+    fn rows(self, section: Self::Section) -> &'static [Row<Self::Kind>]
+        ensures { result.now ≡ (tables self).rows section };
+
+    /// Whether an item of this keyword is one that is not built yet.
+    fn is_not_built(self, keyword: Keyword) -> bool
+        ensures { result ≡ (tables self).is_not_built keyword };
+
+    /// Whether an item of this kind is passed over, as one that the document does not know.
+    fn ignores(self, kind: Self::Kind, item: &Item<'_>) -> bool
+        requires { IsInside item.now }
+        ensures { result ≡ (tables self).ignores kind (seen item.now) };
+
+    /// What an item of a kind says.
+    ///
+    /// # Errors
+    /// The first thing that is wrong with it, also by what is remembered of the items before it.
+    fn value(
+        self,
+        across: &Self::Across,
+        kind: Self::Kind,
+        item: &Item<'_>,
+    ) -> Result<Self::Value, FrameFault>
+        requires { IsInside item.now }
+        ensures { result ≡ (tables self).value_of across.now kind (seen item.now) };
+
+    /// What is remembered of nothing.
+    fn start(self, alloc: Global) -> Self::Across
+        ensures { result ≡ (tables self).start };
+
+    /// Remembers what it has to of one more item.
+    ///
+    /// # Errors
+    /// Why the item may not stand behind those before it, or want of memory.
+    fn note(self, across: &mut Self::Across, one: &Taken<Self::Value>) -> Result<(), ReadRefusal>
+        ensures { Becomes ((tables self).note across.old one.now) across.new result };
+}
