@@ -2,22 +2,24 @@
 use Rattle.std.proofs.Common.{◌≡◌, ℕ, List, length, Ok, Result, sym, ap, ◌∙◌}
 use Rattle.item_terms.specs.Items.{Contents, items_of}
 use Rattle.frame_terms.specs.declared.fault.ReadRefusal.{ReadRefusal}
-use Rattle.frame_terms.specs.declared.section.DocKind.TheVariants.{Certificate}
 use Rattle.frame_terms.specs.Documents.{document_of, finish}
 use Rattle.authority_certs.specs.declared.cert.Cert.{Cert}
 use Rattle.authority_certs.specs.declared.head.CertHead.{CertHead}
 use Rattle.authority_certs.specs.Heads.{no_head, head_with}
 use Rattle.authority_certs.specs.Certs.{cert_in}
+use Rattle.authority_certs.specs.Tables.{cert_tables}
 use Rattle.authority_certs.specs.Reading.{cert_of, max_cert, with_cert}
 
 abbrev kept_of : CertHead → Contents → List ℕ → Result (CertHead × ℕ) ReadRefusal
-kept_of start items bytes = finish head_with start (document_of Certificate (length bytes) items)
+kept_of start items bytes = finish head_with start (document_of cert_tables (length bytes) items)
 
 abbrev ok_of : Cert → ℕ → Result (Cert × ℕ) ReadRefusal
 ok_of cert used = Ok (cert, used)
 
-pub reads : (bytes : List ℕ) (start head : CertHead) (items : Contents) (used : ℕ) (cert : Cert) → items ≡ items_of max_cert bytes → start ≡ no_head
-    → finish head_with start (document_of Certificate (length bytes) items) ≡ Ok (head, used) → cert ≡ cert_in bytes head → cert_of bytes ≡ Ok (cert, used)
+pub reads : (bytes : List ℕ) (start head : CertHead) (items : Contents) (used : ℕ) (cert : Cert)
+    → items ≡ items_of max_cert bytes → start ≡ no_head
+    → finish head_with start (document_of cert_tables (length bytes) items) ≡ Ok (head, used)
+    → cert ≡ cert_in bytes head → cert_of bytes ≡ Ok (cert, used)
 reads bytes start head items used cert e f g h =
     let kept : kept_of no_head (items_of max_cert bytes) bytes ≡ Ok (head, used) =
     ap (λ (i : Contents). kept_of no_head i bytes) (sym e) ∙ ap (λ (s : CertHead). kept_of s items bytes) (sym f) ∙ g in

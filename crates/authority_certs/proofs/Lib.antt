@@ -1,6 +1,1 @@
 pub mod KeptCerts
-pub mod CertEntries
-pub mod CertTables
-pub mod CertSection
-pub mod CertSays
-pub mod CertAgain

@@ -5,7 +5,8 @@ use Rattle.frame_values.specs.Parts.{part, bytes_in, moment_of}
 use Rattle.authority_certs.specs.declared.cert.Cert.{Cert}
 use Rattle.authority_certs.specs.declared.head.CertHead.{CertHead}
 
--- the text that the certification is made over: from the first item through the line `dir-key-certification` with its NL
+-- the text that the certification is made over: from the first item through the line `dir-key-certification` with its
+-- NL
 abbrev pub covered_part : List ℕ → CertHead → List ℕ
 covered_part bytes head = slice_range bytes head.begin head.covered_end
 

@@ -1,12 +1,14 @@
--- What is kept of a certificate's section. The table of the section sees to it that each item is there which has to stand;
--- where one is not, its value is nothing.
-use Rattle.std.specs.Prelude.{ℕ, ◌+◌, ◌-◌, List, None, length, codes, Option}
-use Rattle.dirdoc_grammar.specs.Bodies.{begin_line}
-use Rattle.frame_terms.specs.declared.keyword.Keyword.TheVariants.{DirAddress, Fingerprint, DirIdentityKey, DirKeyCertificateVersion, DirKeyPublished, DirKeyExpires, DirSigningKey, DirKeyCrosscert, DirKeyCertification}
-use Rattle.frame_terms.specs.declared.section.SectionName.{SectionName}
-use Rattle.frame_terms.specs.declared.section.SectionName.TheVariants.{Preamble, Authority, Certificate, Entry, Footer}
-use Rattle.frame_terms.specs.declared.value.Taken.{Taken}
-use Rattle.frame_values.specs.Values.{item_at, place_in, after_in, nowhere, number_in, text_if, no_identity, fingerprint_in, object_in}
+-- What is kept of a certificate's section. The table of the section sees to it that each item is there which has to
+-- stand; where one is not, its value is nothing.
+use Rattle.std.specs.Prelude.{List, None}
+use Rattle.frame_terms.specs.declared.keyword.Keyword.TheVariants.{DirAddress, Fingerprint, DirIdentityKey}
+use Rattle.frame_terms.specs.declared.keyword.Keyword.TheVariants.{DirKeyCertificateVersion, DirKeyPublished}
+use Rattle.frame_terms.specs.declared.keyword.Keyword.TheVariants.{DirKeyExpires, DirSigningKey, DirKeyCrosscert}
+use Rattle.frame_terms.specs.declared.keyword.Keyword.TheVariants.{DirKeyCertification}
+use Rattle.frame_terms.specs.declared.document.Taken.{Taken}
+use Rattle.frame_values.specs.declared.values.Value.{Value}
+use Rattle.frame_values.specs.Values.{item_at, place_in, line_end_in, after_in, nowhere, number_in, text_if}
+use Rattle.frame_values.specs.Values.{no_identity, fingerprint_in, object_in}
 use Rattle.authority_certs.specs.declared.head.CertHead.{CertHead}
 
 -- where nothing was read
@@ -25,34 +27,23 @@ no_head = record {
   certification = nowhere;
 }
 
--- how many bytes the line `-----BEGIN SIGNATURE-----` has, with its NL
-abbrev pub begin_size : ℕ
-begin_size = length (begin_line (codes "SIGNATURE")) + 1
+module _ {V : Type 0} where
+  -- what is kept of a certificate's items
+  abbrev pub head_of : List (Taken (Value V)) → CertHead
+  head_of taken = record {
+    begin = place_in (item_at taken DirKeyCertificateVersion);
+    covered_end = line_end_in (item_at taken DirKeyCertification);
+    end = after_in (item_at taken DirKeyCertification);
+    address = text_if (item_at taken DirAddress);
+    fingerprint = fingerprint_in (item_at taken Fingerprint);
+    identity_key = object_in (item_at taken DirIdentityKey);
+    published = number_in (item_at taken DirKeyPublished);
+    expires = number_in (item_at taken DirKeyExpires);
+    signing_key = object_in (item_at taken DirSigningKey);
+    crosscert = object_in (item_at taken DirKeyCrosscert);
+    certification = object_in (item_at taken DirKeyCertification);
+  }
 
--- The place after the covered text: that after the line `dir-key-certification`, where the BEGIN line of its object stands.
-abbrev pub covered_to : Option Taken → ℕ
-covered_to item = (object_in item).start - begin_size
-
--- what is kept of a certificate's items
-abbrev pub head_of : List Taken → CertHead
-head_of taken = record {
-  begin = place_in (item_at taken DirKeyCertificateVersion);
-  covered_end = covered_to (item_at taken DirKeyCertification);
-  end = after_in (item_at taken DirKeyCertification);
-  address = text_if (item_at taken DirAddress);
-  fingerprint = fingerprint_in (item_at taken Fingerprint);
-  identity_key = object_in (item_at taken DirIdentityKey);
-  published = number_in (item_at taken DirKeyPublished);
-  expires = number_in (item_at taken DirKeyExpires);
-  signing_key = object_in (item_at taken DirSigningKey);
-  crosscert = object_in (item_at taken DirKeyCrosscert);
-  certification = object_in (item_at taken DirKeyCertification);
-}
-
--- what is kept after one more section of a document
-abbrev pub head_with : CertHead → SectionName → List Taken → CertHead
-head_with head Preamble taken = head
-head_with head Authority taken = head
-head_with head Certificate taken = head_of taken
-head_with head Entry taken = head
-head_with head Footer taken = head
+-- what is kept after the one section of a certificate that stands alone
+abbrev pub head_with : CertHead → Unit {0} → List (Taken (Value (Unit {0}))) → CertHead
+head_with head section taken = head_of taken

@@ -1,6 +1,6 @@
 pub mod Heads
+pub mod Tables
 pub mod Certs
 pub mod Reading
 pub mod Texts
 pub mod Checks
-pub mod Again

@@ -2,13 +2,13 @@
 use Rattle.std.specs.Prelude.{◌≡◌, ℕ, ◌≤◌, List, length, Result, Ok, Err}
 use Rattle.item_terms.specs.Items.{items_of}
 use Rattle.frame_terms.specs.declared.fault.ReadRefusal.{ReadRefusal}
-use Rattle.frame_terms.specs.declared.section.DocKind.TheVariants.{Certificate}
 use Rattle.frame_terms.specs.Documents.{document_of, finish}
 use Rattle.frame_terms.specs.Refusals.{Fails}
 use Rattle.authority_certs.specs.declared.cert.Cert.{Cert}
 use Rattle.authority_certs.specs.declared.head.CertHead.{CertHead}
 use Rattle.authority_certs.specs.Heads.{no_head, head_with}
 use Rattle.authority_certs.specs.Certs.{cert_in}
+use Rattle.authority_certs.specs.Tables.{cert_tables}
 
 -- how many bytes a certificate may have
 abbrev pub max_cert : ℕ
@@ -21,7 +21,8 @@ with_cert bytes (Err refusal) = Err refusal
 
 -- the certificate that the bytes begin with, and the place after it; or the first fault
 abbrev pub cert_of : List ℕ → Result (Cert × ℕ) ReadRefusal
-cert_of bytes = with_cert bytes (finish head_with no_head (document_of Certificate (length bytes) (items_of max_cert bytes)))
+cert_of bytes =
+    with_cert bytes (finish head_with no_head (document_of cert_tables (length bytes) (items_of max_cert bytes)))
 
 -- what reading answers: that certificate, which is within the bytes; or the first fault, or want of memory
 abbrev pub ReadsCert : List ℕ → Result (Cert × ℕ) ReadRefusal → Type 0

@@ -1,16 +1,15 @@
 // What is kept of a certificate's section: numbers, and where its texts stand.
 ghost use Rattle.std.specs.Prelude.{◌≡◌, IfOk};
-ghost use Rattle.frame_values.specs.Values as values;
 ghost use Rattle.authority_certs.specs.Certs as certs;
 ghost use Rattle.authority_certs.specs.Heads as heads;
 
 use crate::cert::Cert;
 use dir_bytes::Memory;
 use dir_values::{Digest1, Fingerprint};
-use frame_terms::{Keyword, Span, Taken};
+use frame_terms::{Keyword, Taken};
 use frame_values::{
-    after_at, between, copy_part, copy_part_if, decode_part, fingerprint_at, moment, no_identity,
-    nowhere, number_at, object_at, place_at, text_if,
+    Span, Value, after_at, between, copy_part, copy_part_if, decode_part, fingerprint_at,
+    line_end_at, moment, no_identity, nowhere, number_at, object_at, place_at, text_if,
 };
 use sha1::Sha1;
 use sha2::Digest;
@@ -63,23 +62,13 @@ pub fn no_head() -> CertHead
     }
 }
 
-// The place after the text that the certification is made over.
-fn covered_to(taken: &[Taken]) -> u64
-    ensures { result ≡ heads.covered_to (values.item_at taken.now Keyword.DirKeyCertification) }
-{
-    // `-----BEGIN SIGNATURE-----` and NL
-    object_at(taken, Keyword::DirKeyCertification)
-        .start
-        .saturating_sub(26)
-}
-
 /// What is kept of a certificate with these items.
-pub fn head_of(taken: &[Taken]) -> CertHead
+pub fn head_of<V: Copy>(taken: &[Taken<Value<V>>]) -> CertHead
     ensures { result ≡ heads.head_of taken.now }
 {
     CertHead {
         begin: place_at(taken, Keyword::DirKeyCertificateVersion),
-        covered_end: covered_to(taken),
+        covered_end: line_end_at(taken, Keyword::DirKeyCertification),
         end: after_at(taken, Keyword::DirKeyCertification),
         address: text_if(taken, Keyword::DirAddress),
         fingerprint: fingerprint_at(taken, Keyword::Fingerprint),

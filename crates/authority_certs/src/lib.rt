@@ -3,15 +3,15 @@
 
 mod cert;
 mod checking;
+mod frame;
 mod head;
-mod laws;
 mod reading;
 mod writing;
 
 pub use cert::Cert;
 pub use checking::{CertAnswer, check};
+pub use frame::{CertFrame, CertKind, cert_shape, cert_value};
 pub use head::{CertHead, cert_at, head_of, no_head};
-pub use laws::certificates_are_read_again;
 pub use reading::read;
 pub use writing::write;
 

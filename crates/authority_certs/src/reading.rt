@@ -4,26 +4,22 @@ ghost use Rattle.authority_certs.specs.Heads.{head_with};
 ghost use Rattle.authority_certs.specs.Reading.{ReadsCert};
 
 use crate::cert::Cert;
+use crate::frame::CertFrame;
 use crate::head::{CertHead, cert_at, head_of, no_head};
 use dirdoc_grammar::Items;
 use frame_reader::{Facts, read_document};
-use frame_terms::{DocKind, ReadRefusal, SectionName, Taken};
+use frame_terms::{ReadRefusal, Taken};
+use frame_values::Value;
 use std::alloc::{AllocError, Global};
 
 /// How many bytes a certificate may have.
 const MAX_CERT: u64 = 65_536;
 
-impl Facts for CertHead {
+impl Facts<CertFrame> for CertHead {
     ghost with = { head_with };
 
-    fn close(&mut self, section: SectionName, taken: &[Taken]) -> Result<(), AllocError> {
-        match section {
-            SectionName::Certificate => *self = head_of(taken),
-            SectionName::Preamble
-            | SectionName::Authority
-            | SectionName::Entry
-            | SectionName::Footer => (),
-        }
+    fn close(&mut self, _: (), taken: &[Taken<Value<()>>]) -> Result<(), AllocError> {
+        *self = head_of(taken);
         Ok(())
     }
 }
@@ -40,7 +36,7 @@ pub fn read(alloc: Global, bytes: &[u8]) -> Result<(Cert, usize), ReadRefusal>
     let mut items = Items::new(bytes, MAX_CERT);
     let mut head = no_head();
     let length = bytes.len() as u64;
-    let used = read_document(alloc, DocKind::Certificate, &mut items, length, &mut head)?;
+    let used = read_document(alloc, CertFrame, &mut items, length, &mut head)?;
     match cert_at(alloc, bytes, &head) {
         Ok(cert) => Ok((cert, used as usize)),
         Err(_) => Err(ReadRefusal::Memory),

@@ -22,4 +22,5 @@ returns c =
     link out text1 at1 at3 rest1 c.in_ok-push_bare.ensures
     (link at1 text2 at2 at3 rest2 c.in_ok-push_if.ensures
     (last at2 text3 at3 c.in_ok-push_identity.ensures))
-    ∙ ap (λ (l : List ℕ). out ++ (text1 ++ l)) (sym (sections (item_if the.DirAddress facts.address) (bare the.Fingerprint (hex_text facts.fingerprint.0) ∷ [])))
+    ∙ ap (λ (l : List ℕ). out ++ (text1 ++ l))
+    (sym (sections (item_if the.DirAddress facts.address) (bare the.Fingerprint (hex_text facts.fingerprint.0) ∷ [])))

@@ -12,16 +12,16 @@ use Rattle.authority_certs.specs.declared.cert.Cert.{Cert}
 use Rattle.authority_certs.specs.Reading.{cert_of, max_cert}
 use Rattle.authority_certs.specs.Texts.{cert_items, cert_text, holder_items, key_items}
 
--- each of the certificate's values is one that can be read: its address is an argument, its identity twenty bytes, and its
--- moments are of the calendar
+-- each of the certificate's values is one that can be read: its address is an argument, its identity twenty bytes,
+-- and its moments are of the calendar
 pub record SaysInRange (cert : Cert) : Type 0 where
   pub address : IfSome cert.address (λ address. is_argument address ≡ true)
   pub fingerprint : AreTwenty cert.fingerprint.0
   pub published : cert.published ≤ last_moment
   pub expires : cert.expires ≤ last_moment
 
--- The certificate says what can be read, and its items may be written: its objects are bytes, and no line, no object and not
--- the whole passes its limit.
+-- The certificate says what can be read, and its items may be written: its objects are bytes, and no line, no object
+-- and not the whole passes its limit.
 pub record IsInRange (cert : Cert) : Type 0 where
   pub says : SaysInRange cert
   pub items : AreWritable max_cert 0 (cert_items cert)
@@ -40,8 +40,8 @@ covered_digest cert = record { 0 = sha1 (items_text (covered_items cert)) }
 abbrev pub as_written : Cert → Cert
 as_written cert = record cert { covered = covered_digest cert }
 
--- A certificate that was written is read again, whatever follows: what is read says the same, has the digest of the text that
--- was written, and ends with it.
+-- A certificate that was written is read again, whatever follows: what is read says the same, has the digest of the
+-- text that was written, and ends with it.
 abbrev pub CertificatesAreReadAgain : Type 0
 CertificatesAreReadAgain = (cert : Cert) (rest : List ℕ) → IsInRange cert
     → cert_of (cert_text cert ++ rest) ≡ Ok (as_written cert, length (cert_text cert))

@@ -1,0 +1,3 @@
+pub mod CertRows
+pub mod CertSays
+pub mod CertAgain
