@@ -1,12 +1,2 @@
 pub mod Placing
 pub mod KeptVotes
-pub mod WrittenFlags
-pub mod WrittenSources
-pub mod WrittenValues
-pub mod AgainEntries
-pub mod AgainItems
-pub mod AgainTables
-pub mod AgainSections
-pub mod AgainVote
-pub mod AgainFacts
-pub mod AgainLaw

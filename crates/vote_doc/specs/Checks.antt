@@ -19,7 +19,7 @@ abbrev pub RefusedByCert : Rules → List Fingerprint → ℕ → ReadVote → C
 RefusedByCert rules roster period vote answer.Checked = ⊥
 RefusedByCert rules roster period vote answer.WrongFingerprint = Refuses rules roster period vote word.Fingerprint
 RefusedByCert rules roster period vote (answer.Expired at expires) =
-    Refuses rules roster period vote word.Expired × (at ≡ period) × (expires ≡ vote.certificate.expires)
+    Refuses rules roster period vote word.Expired × (at ≡ period) × (expires ≡ vote.says.certificate.expires)
 RefusedByCert rules roster period vote answer.BadCertification = Refuses rules roster period vote word.Certification
 RefusedByCert rules roster period vote answer.BadCrosscert = Refuses rules roster period vote word.Crosscert
 RefusedByCert rules roster period vote answer.VerifierFault = ⊥
@@ -27,7 +27,7 @@ RefusedByCert rules roster period vote answer.VerifierFault = ⊥
 -- the first clause that the vote fails is the one that the refusal names; where the verifier failed it was asked
 abbrev pub RefusedBy : Rules → List Fingerprint → ℕ → ReadVote → VoteRefusal → Type 0
 RefusedBy rules roster period vote (WrongPeriod valid_after) =
-    Refuses rules roster period vote word.ValidAfter × (valid_after ≡ vote.valid_after)
+    Refuses rules roster period vote word.ValidAfter × (valid_after ≡ vote.says.valid_after)
 RefusedBy rules roster period vote UnknownAuthority = Refuses rules roster period vote word.Authority
 RefusedBy rules roster period vote (Cert answer) = RefusedByCert rules roster period vote answer
 RefusedBy rules roster period vote BadSignature = Refuses rules roster period vote word.Signature
@@ -37,20 +37,20 @@ RefusedBy rules roster period vote VerifierFault = IsAsked roster period vote
 
 -- the certificate is the vote's authority's
 abbrev pub IsItsOwn : ReadVote → Type 0
-IsItsOwn vote = same_identity vote.certificate.fingerprint vote.identity ≡ true
+IsItsOwn vote = same_identity vote.says.certificate.fingerprint vote.says.identity ≡ true
 
 -- whether the vote's certificate is its authority's and holds at a moment, or the first clause that fails
 abbrev pub ChecksCert : Rules → ℕ → ReadVote → CertAnswer → Type 0
-ChecksCert rules at vote answer.Checked = IsItsOwn vote × IsCertified rules at vote.certificate
+ChecksCert rules at vote answer.Checked = IsItsOwn vote × IsCertified rules at vote.says.certificate
 ChecksCert rules at vote answer.WrongFingerprint = has_fingerprint vote ≡ false
 ChecksCert rules at vote (answer.Expired moment expires) =
-    (has_fingerprint vote ≡ true) × (vote.certificate.expires ≤ at) × (moment ≡ at) × (expires ≡ vote.certificate.expires)
+    (has_fingerprint vote ≡ true) × (vote.says.certificate.expires ≤ at) × (moment ≡ at) × (expires ≡ vote.says.certificate.expires)
 ChecksCert rules at vote answer.BadCertification =
-    IsItsOwn vote × IsCurrent at vote.certificate × (certifies rules.may_refuse vote.certificate ≡ true)
+    IsItsOwn vote × IsCurrent at vote.says.certificate × (certifies rules.may_refuse vote.says.certificate ≡ true)
 ChecksCert rules at vote answer.BadCrosscert =
-    IsItsOwn vote × IsCurrent at vote.certificate × (certifies rules.may_accept vote.certificate ≡ true)
-    × (crosscertifies rules.may_refuse vote.certificate ≡ true)
-ChecksCert rules at vote answer.VerifierFault = IsItsOwn vote × IsCurrent at vote.certificate
+    IsItsOwn vote × IsCurrent at vote.says.certificate × (certifies rules.may_accept vote.says.certificate ≡ true)
+    × (crosscertifies rules.may_refuse vote.says.certificate ≡ true)
+ChecksCert rules at vote answer.VerifierFault = IsItsOwn vote × IsCurrent at vote.says.certificate
 
 -- whether the vote's signature names its signer and may be accepted
 abbrev pub ChecksSignature : Rules → ReadVote → VerifyAnswer → Type 0

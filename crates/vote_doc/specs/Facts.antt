@@ -1,13 +1,17 @@
 -- What a vote says, from its bytes and what was kept of its sections.
 use Rattle.std.specs.Prelude.{◌≡◌, ℕ, ◌<◌, ◌^◌, List, length, slice_range, option_map, Option, unwrap_or}
+use Rattle.item_terms.specs.Words.{words_of}
+use Rattle.dir_values.specs.FlagSets.{as_set}
 use Rattle.dir_values.specs.declared.algorithm.Algorithm.{Algorithm}
 use Rattle.dir_values.specs.declared.algorithm.Algorithm.TheVariants.{Sha1}
-use Rattle.frame_terms.specs.declared.value.VoteSignature.{VoteSignature}
+use Rattle.frame_values.specs.declared.found.VoteSignature.{VoteSignature}
 use Rattle.frame_values.specs.Parts.{bytes_in, moment_of, part}
 use Rattle.authority_certs.specs.declared.cert.Cert.{Cert}
 use Rattle.authority_certs.specs.Certs.{cert_in, whole_part}
+use Rattle.dir_values.specs.Numbers.{numbers_in}
 use Rattle.vote_terms.specs.Votes.{ReadVote}
 use Rattle.vote_terms.specs.declared.facts.SignatureFacts.{SignatureFacts}
+use Rattle.vote_terms.specs.declared.facts.VoteFacts.{VoteFacts}
 use Rattle.vote_doc.specs.declared.head.Head.{Head}
 
 -- the hash of a signature that names this one, or none
@@ -23,19 +27,21 @@ signature_facts bytes kept = record {
   signature = bytes_in bytes kept.signature;
 }
 
+-- the flags that the vote knows
+abbrev pub flags_of : List ℕ → Head → List (List ℕ)
+flags_of bytes head = as_set (words_of (part bytes head.known_flags))
+
 -- what the vote says of whose sections this was kept, in these bytes
-abbrev pub facts_of : List ℕ → Head → ReadVote
+abbrev pub facts_of : List ℕ → Head → VoteFacts
 facts_of bytes head = record {
-  whole = slice_range bytes head.begin head.end;
-  signed = slice_range bytes head.begin head.signed_end;
-  methods = option_map (part bytes) head.methods;
+  methods = option_map numbers_in (option_map (part bytes) head.methods);
   published = moment_of head.published;
   valid_after = moment_of head.valid_after;
   fresh_until = moment_of head.fresh_until;
   valid_until = moment_of head.valid_until;
   vote_seconds = head.vote_seconds;
   dist_seconds = head.dist_seconds;
-  known_flags = part bytes head.known_flags;
+  known_flags = flags_of bytes head;
   flag_thresholds = option_map (part bytes) head.flag_thresholds;
   nickname = part bytes head.source.nickname;
   identity = head.source.identity;
@@ -45,12 +51,21 @@ facts_of bytes head = record {
   or_port = head.source.or_port;
   contact = option_map (part bytes) head.contact;
   certificate = cert_in bytes head.certificate;
-  certificate_bytes = whole_part bytes head.certificate;
   signature = signature_facts bytes head.signature;
 }
 
--- What a vote keeps beside its bytes and what was kept of its sections: its certificate and its signature as values.
-pub record IsKept (bytes : List ℕ) (head : Head) (certificate : Cert) (signature : SignatureFacts) : Type 0 where
+-- the vote of whose sections this was kept, in these bytes
+abbrev pub vote_in : List ℕ → Head → ReadVote
+vote_in bytes head = record {
+  whole = slice_range bytes head.begin head.end;
+  signed = slice_range bytes head.begin head.signed_end;
+  certificate_bytes = whole_part bytes head.certificate;
+  says = facts_of bytes head;
+}
+
+-- What a vote keeps beside its bytes and what was kept of its sections: its certificate, its signature and its flags as values.
+pub record IsKept (bytes : List ℕ) (head : Head) (certificate : Cert) (signature : SignatureFacts) (flags : List (List ℕ)) : Type 0 where
   pub short : length bytes < 2 ^ 62
   pub certificate_is : certificate ≡ cert_in bytes head.certificate
   pub signature_is : signature ≡ signature_facts bytes head.signature
+  pub flags_are : flags ≡ flags_of bytes head

@@ -2,12 +2,15 @@
 -- where one is not, its value is nothing.
 use Rattle.std.specs.Prelude.{ℕ, ◌+◌, ◌-◌, ◌^◌, min, List, Option, Some, None}
 use Rattle.frame_terms.specs.declared.keyword.Keyword.TheVariants.{NetworkStatusVersion, ConsensusMethods, Published, ValidAfter, FreshUntil, ValidUntil, VotingDelay, KnownFlags, FlagThresholds, DirSource as DirSourceLine, Contact, DirectorySignature}
-use Rattle.frame_terms.specs.declared.section.SectionName.{SectionName}
-use Rattle.frame_terms.specs.declared.section.SectionName.TheVariants.{Preamble, Authority, Certificate, Entry, Footer}
-use Rattle.frame_terms.specs.declared.value.Taken.{Taken}
+use Rattle.frame_terms.specs.declared.document.Taken.{Taken}
+use Rattle.frame_values.specs.declared.values.Value.{Value}
 use Rattle.authority_certs.specs.Heads as cert
 use Rattle.vote_doc.specs.declared.head.Head.{Head}
-use Rattle.frame_values.specs.Values.{item_at, place_in, nowhere, number_in, text_if, text_in, delays_in, no_source, source_in, no_signature, signature_in}
+use Rattle.frame_values.specs.Values.{item_at, place_in, after_in, nowhere, number_in, text_if, text_in}
+use Rattle.vote_doc.specs.declared.frame.VoteSection.{VoteSection}
+use Rattle.vote_doc.specs.declared.frame.VoteSection.TheVariants.{Preamble, Authority, Certificate, Entry, Footer}
+use Rattle.vote_doc.specs.declared.frame.VoteValue.{VoteValue}
+use Rattle.vote_doc.specs.Saying.{delays_in, no_source, source_in, no_signature, signature_in}
 
 -- what is kept where nothing was read
 abbrev pub no_head : Head
@@ -31,7 +34,7 @@ no_head = record {
 }
 
 -- what is kept after a preamble
-abbrev pub with_preamble : Head → List Taken → Head
+abbrev pub with_preamble : Head → List (Taken (Value VoteValue)) → Head
 with_preamble head taken = record head {
   begin = place_in (item_at taken NetworkStatusVersion);
   methods = text_if (item_at taken ConsensusMethods);
@@ -46,29 +49,29 @@ with_preamble head taken = record head {
 }
 
 -- what is kept after the section of the authority
-abbrev pub with_authority : Head → List Taken → Head
+abbrev pub with_authority : Head → List (Taken (Value VoteValue)) → Head
 with_authority head taken = record head { source = source_in (item_at taken DirSourceLine); contact = text_if (item_at taken Contact) }
 
 -- what is kept after a certificate
-abbrev pub with_certificate : Head → List Taken → Head
+abbrev pub with_certificate : Head → List (Taken (Value VoteValue)) → Head
 with_certificate head taken = record head { certificate = cert.head_of taken }
 
--- The places after the signed part and after the vote. The signed part ends with `directory-signature ` and thus twenty
--- bytes into the item, the vote with the object (dir-spec, "Vote and consensus status document formats").
-abbrev pub ends_in : Option Taken → ℕ × ℕ
-ends_in None = (0, 0)
-ends_in (Some one) = (min (one.place + 20) (2 ^ 64 - 1), one.after)
+-- The place after the signed part, which ends with the byte after the word `directory-signature` (dir-spec, "Vote and consensus
+-- status document formats").
+abbrev pub signed_to : Option (Taken (Value VoteValue)) → ℕ
+signed_to None = 0
+signed_to (Some one) = min (one.separator + 1) (2 ^ 64 - 1)
 
 -- what is kept after a footer
-abbrev pub with_footer : Head → List Taken → Head
+abbrev pub with_footer : Head → List (Taken (Value VoteValue)) → Head
 with_footer head taken = record head {
   signature = signature_in (item_at taken DirectorySignature);
-  signed_end = (ends_in (item_at taken DirectorySignature)).0;
-  end = (ends_in (item_at taken DirectorySignature)).1;
+  signed_end = signed_to (item_at taken DirectorySignature);
+  end = after_in (item_at taken DirectorySignature);
 }
 
 -- what is kept after one more section
-abbrev pub head_with : Head → SectionName → List Taken → Head
+abbrev pub head_with : Head → VoteSection → List (Taken (Value VoteValue)) → Head
 head_with head Preamble taken = with_preamble head taken
 head_with head Authority taken = with_authority head taken
 head_with head Certificate taken = with_certificate head taken

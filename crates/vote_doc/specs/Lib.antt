@@ -1,7 +1,8 @@
+pub mod Tables
+pub mod Saying
 pub mod Heads
 pub mod Facts
 pub mod Checks
 pub mod Holdings
 pub mod Lending
 pub mod Reading
-pub mod Again

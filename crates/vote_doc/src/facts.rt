@@ -1,59 +1,38 @@
 // What a vote says, in values of its own.
 ghost use Rattle.std.specs.Prelude.{◌≡◌, ◌<◌, ◌^◌, IfOk, length, option_map};
-ghost use Rattle.dir_values.specs.Arguments.{words_in};
+ghost use Rattle.item_terms.specs.Words.{words_of};
 ghost use Rattle.dir_values.specs.FlagSets.{as_set};
-ghost use Rattle.vote_terms.specs.Facts.{number_in, numbers_in, said};
+ghost use Rattle.dir_values.specs.Numbers.{numbers_in};
 ghost use Rattle.frame_values.specs.Parts as parts;
 ghost use Rattle.vote_doc.specs.Facts as facts;
 
 use crate::head::Head;
 use crate::vote::Vote;
 use authority_certs::cert_at;
-use dir_bytes::{Memory, Seq, read_u32};
-use dir_values::{Algorithm, Arguments, FlagSet};
-use frame_terms::{Span, VoteSignature};
-use frame_values::{copy_part, copy_part_if, decode_part, moment, part};
+use dir_bytes::{Memory, Seq};
+use dir_values::{Algorithm, FlagSet, numbers_in};
+use frame_values::{Span, VoteSignature, copy_part, copy_part_if, decode_part, moment, part};
 use std::alloc::Global;
 use vote_terms::{SignatureFacts, VoteFacts};
 
-// The number that a word spells.
-fn number(word: &[u8]) -> u32
-    ensures { result ≡ number_in word.now }
-{
-    match read_u32(word) {
-        Ok(number) => number,
-        Err(_) => 0,
-    }
-}
-
-// The numbers that the words of a text spell.
-fn numbers(alloc: Global, text: &[u8]) -> Result<Seq<u32>, Memory>
-    requires { length text.now < 2 ^ 62 }
-    ensures { IfOk result (λ numbers. numbers ≡ numbers_in text.now) }
-{
-    let mut numbers = Seq::new(Vec::new(alloc));
-    let mut words = Arguments::at(0, text);
-    'words: while let Some(word) = words.next() {
-        numbers.push(number(word.text))?;
-    }
-    Ok(numbers)
-}
-
-// The same, where there is a text.
+/// The numbers of a text, where there is one.
 fn numbers_if(alloc: Global, bytes: &[u8], span: Option<Span>) -> Result<Option<Seq<u32>>, Memory>
     requires { length bytes.now < 2 ^ 62 }
     ensures { IfOk result (λ numbers. numbers ≡ option_map numbers_in (option_map (parts.part bytes.now) span)) }
 {
     match span {
-        Some(span) => Ok(Some(numbers(alloc, part(bytes, span))?)),
+        Some(span) => Ok(Some(numbers_in(alloc, part(bytes, span))?)),
         None => Ok(None),
     }
 }
 
-// The set of the words of a text.
-fn set(alloc: Global, text: &[u8]) -> Result<FlagSet, Memory>
+/// The set of the words of a text.
+///
+/// # Errors
+/// `Memory` is want of memory.
+pub(crate) fn set(alloc: Global, text: &[u8]) -> Result<FlagSet, Memory>
     requires { length text.now < 2 ^ 62 }
-    ensures { IfOk result (λ set. set ≡ as_set (words_in text.now)) }
+    ensures { IfOk result (λ set. set ≡ as_set (words_of text.now)) }
 {
     let mut set = FlagSet::new(alloc);
     set.insert_words(alloc, text)?;
@@ -92,7 +71,7 @@ pub(crate) fn signature(
 // What the vote says of whose sections this was kept.
 fn facts_of(alloc: Global, bytes: &[u8], head: &Head) -> Result<VoteFacts, Memory>
     requires { length bytes.now < 2 ^ 62 }
-    ensures { IfOk result (λ found. found ≡ said (facts.facts_of bytes.now head.now)) }
+    ensures { IfOk result (λ found. found ≡ facts.facts_of bytes.now head.now) }
 {
     Ok(VoteFacts {
         methods: numbers_if(alloc, bytes, head.methods)?,
@@ -122,7 +101,7 @@ impl Vote {
     /// # Errors
     /// `Memory` is want of memory.
     pub fn facts(&self, alloc: Global) -> Result<VoteFacts, Memory>
-        ensures { IfOk result (λ found. found ≡ said self.now) }
+        ensures { IfOk result (λ found. found ≡ self.now.says) }
     {
         facts_of(alloc, &self.bytes, &self.head)
     }

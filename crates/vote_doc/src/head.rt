@@ -3,11 +3,13 @@ ghost use Rattle.std.specs.Prelude.{◌≡◌};
 ghost use Rattle.frame_values.specs.Values as values;
 ghost use Rattle.vote_doc.specs.Heads as heads;
 
+use crate::frame::{VoteSection, VoteValue};
+use crate::says::{delays_at, no_signature, no_source, signature_at, source_at};
 use authority_certs::{CertHead, head_of, no_head};
-use frame_terms::{DirSource, Keyword, SectionName, Span, Taken, VoteSignature};
+use frame_terms::{Keyword, Taken};
 use frame_values::{
-    delays_at, item_at, no_signature, no_source, nowhere, number_at, place_at, signature_at,
-    source_at, text_at, text_if,
+    DirSource, Span, Value, VoteSignature, after_at, item_at, nowhere, number_at, place_at,
+    text_at, text_if,
 };
 
 /// What a vote's items say, and where its texts stand in its bytes. Moments are seconds since 1970-01-01 00:00:00 UTC.
@@ -72,7 +74,7 @@ pub(crate) fn empty_head() -> Head
 }
 
 // What is kept after a preamble.
-fn with_preamble(head: Head, taken: &[Taken]) -> Head
+fn with_preamble(head: Head, taken: &[Taken<Value<VoteValue>>]) -> Head
     ensures { result ≡ heads.with_preamble head taken.now }
 {
     let (vote_seconds, dist_seconds) = delays_at(taken);
@@ -92,7 +94,7 @@ fn with_preamble(head: Head, taken: &[Taken]) -> Head
 }
 
 // What is kept after the section of the authority.
-fn with_authority(head: Head, taken: &[Taken]) -> Head
+fn with_authority(head: Head, taken: &[Taken<Value<VoteValue>>]) -> Head
     ensures { result ≡ heads.with_authority head taken.now }
 {
     Head {
@@ -103,7 +105,7 @@ fn with_authority(head: Head, taken: &[Taken]) -> Head
 }
 
 // What is kept after a certificate.
-fn with_certificate(head: Head, taken: &[Taken]) -> Head
+fn with_certificate(head: Head, taken: &[Taken<Value<VoteValue>>]) -> Head
     ensures { result ≡ heads.with_certificate head taken.now }
 {
     Head {
@@ -112,38 +114,41 @@ fn with_certificate(head: Head, taken: &[Taken]) -> Head
     }
 }
 
-// The places after the part that is signed, and after the vote.
-fn signed_to(taken: &[Taken]) -> (u64, u64)
-    ensures { result ≡ heads.ends_in (values.item_at taken.now Keyword.DirectorySignature) }
+// The place after the part that is signed.
+fn signed_to(taken: &[Taken<Value<VoteValue>>]) -> u64
+    ensures { result ≡ heads.signed_to (values.item_at taken.now Keyword.DirectorySignature) }
 {
     match item_at(taken, Keyword::DirectorySignature) {
-        Some(one) => (one.place.saturating_add(20), one.after),
-        None => (0, 0),
+        Some(one) => one.separator.saturating_add(1),
+        None => 0,
     }
 }
 
 // What is kept after a footer.
-fn with_footer(head: Head, taken: &[Taken]) -> Head
+fn with_footer(head: Head, taken: &[Taken<Value<VoteValue>>]) -> Head
     ensures { result ≡ heads.with_footer head taken.now }
 {
-    let (signed_end, end) = signed_to(taken);
     Head {
         signature: signature_at(taken),
-        signed_end,
-        end,
+        signed_end: signed_to(taken),
+        end: after_at(taken, Keyword::DirectorySignature),
         ..head
     }
 }
 
 /// What is kept after one more section.
-pub(crate) fn with_section(head: Head, section: SectionName, taken: &[Taken]) -> Head
+pub(crate) fn with_section(
+    head: Head,
+    section: VoteSection,
+    taken: &[Taken<Value<VoteValue>>],
+) -> Head
     ensures { result ≡ heads.head_with head section taken.now }
 {
     match section {
-        SectionName::Preamble => with_preamble(head, taken),
-        SectionName::Authority => with_authority(head, taken),
-        SectionName::Certificate => with_certificate(head, taken),
-        SectionName::Entry => head,
-        SectionName::Footer => with_footer(head, taken),
+        VoteSection::Preamble => with_preamble(head, taken),
+        VoteSection::Authority => with_authority(head, taken),
+        VoteSection::Certificate => with_certificate(head, taken),
+        VoteSection::Entry => head,
+        VoteSection::Footer => with_footer(head, taken),
     }
 }

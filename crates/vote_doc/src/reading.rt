@@ -1,29 +1,32 @@
 // Reading a vote.
 ghost use Rattle.std.specs.Prelude.{◌≡◌, ◌<◌, ◌^◌, length, List, OnOk, IfOk};
-ghost use Rattle.frame_terms.specs.declared.section.SectionName.{SectionName};
-ghost use Rattle.frame_terms.specs.declared.value.Taken.{Taken};
-ghost use Rattle.vote_doc.specs.Facts.{facts_of};
+ghost use Rattle.vote_doc.specs.Facts.{vote_in};
 ghost use Rattle.vote_doc.specs.Heads.{head_with};
 ghost use Rattle.vote_doc.specs.Reading.{ReadsVote};
 
-use crate::facts::signature;
+use crate::facts::{set, signature};
+use crate::frame::{VoteFrame, VoteSection, VoteValue};
 use crate::head::{Head, empty_head, with_section};
 use crate::vote::Vote;
 use authority_certs::cert_at;
 use dir_bytes::Memory;
 use dirdoc_grammar::Items;
 use frame_reader::{Facts, read_document};
-use frame_terms::{DocKind, ReadRefusal, SectionName, Taken};
-use frame_values::between;
+use frame_terms::{ReadRefusal, Taken};
+use frame_values::{Value, between, part};
 use std::alloc::{AllocError, Global};
 
 /// How many bytes a vote may have.
 const MAX_VOTE: u64 = 16_777_216;
 
-impl Facts for Head {
+impl Facts<VoteFrame> for Head {
     ghost with = { head_with };
 
-    fn close(&mut self, section: SectionName, taken: &[Taken]) -> Result<(), AllocError> {
+    fn close(
+        &mut self,
+        section: VoteSection,
+        taken: &[Taken<Value<VoteValue>>],
+    ) -> Result<(), AllocError> {
         *self = with_section(*self, section, taken);
         Ok(())
     }
@@ -32,12 +35,13 @@ impl Facts for Head {
 // The vote of these bytes, of whose sections this was kept.
 fn kept(alloc: Global, bytes: &[u8], head: Head) -> Result<Vote, Memory>
     requires { length bytes.now < 2 ^ 62 }
-    ensures { IfOk result (λ vote. vote ≡ facts_of bytes.now head) }
+    ensures { IfOk result (λ vote. vote ≡ vote_in bytes.now head) }
 {
     let certificate = cert_at(alloc, bytes, &head.certificate)?;
     let signature = signature(alloc, bytes, &head.signature)?;
+    let known_flags = set(alloc, part(bytes, head.known_flags))?;
     let owned = Vec::from_slice(alloc, bytes)?;
-    Ok(Vote::new(owned, head, certificate, signature))
+    Ok(Vote::new(owned, head, certificate, signature, known_flags))
 }
 
 /// The vote that the bytes begin with, behind blank lines if there are some, and how many bytes that are: it ends with
@@ -52,7 +56,7 @@ pub fn read(alloc: Global, bytes: &[u8]) -> Result<(Vote, usize), ReadRefusal>
     let mut items = Items::new(bytes, MAX_VOTE);
     let mut head = empty_head();
     let length = bytes.len() as u64;
-    let used = read_document(alloc, DocKind::Vote, &mut items, length, &mut head)?;
+    let used = read_document(alloc, VoteFrame, &mut items, length, &mut head)?;
     match kept(alloc, between(bytes, 0, used), head) {
         Ok(vote) => Ok((vote, used as usize)),
         Err(_) => Err(ReadRefusal::Memory),

@@ -6,7 +6,7 @@ ghost use Rattle.vote_doc.specs.Facts as facts;
 
 use crate::head::Head;
 use authority_certs::Cert;
-use dir_values::{Digest1, Digest2, Fingerprint};
+use dir_values::{Digest1, Digest2, Fingerprint, FlagSet};
 use frame_values::{between, moment, part, part_if};
 use sha1::Sha1;
 use sha2::{Digest, Sha256};
@@ -20,17 +20,18 @@ pub struct Vote {
     pub(crate) head: Head,
     certificate: Cert,
     signature: SignatureFacts,
+    known_flags: FlagSet,
 }
 
 impl Model for Vote {
     ghost use Rattle.vote_terms.specs.Votes.{ReadVote};
-    ghost use Rattle.vote_doc.specs.Facts.{IsKept, facts_of};
+    ghost use Rattle.vote_doc.specs.Facts.{IsKept, vote_in};
 
     ghost Value = { ReadVote };
 
-    ghost view = { λ v. facts_of v.bytes.items v.head };
+    ghost view = { λ v. vote_in v.bytes.items v.head };
 
-    ghost invariant = { λ v. IsKept v.bytes.items v.head v.certificate v.signature };
+    ghost invariant = { λ v. IsKept v.bytes.items v.head v.certificate v.signature v.known_flags };
 }
 
 impl Vote {
@@ -40,15 +41,17 @@ impl Vote {
         head: Head,
         certificate: Cert,
         signature: SignatureFacts,
+        known_flags: FlagSet,
     ) -> Vote
-        requires { facts.IsKept bytes.items head certificate signature }
-        ensures { result ≡ facts.facts_of bytes.items head }
+        requires { facts.IsKept bytes.items head certificate signature known_flags }
+        ensures { result ≡ facts.vote_in bytes.items head }
     {
         Vote {
             bytes,
             head,
             certificate,
             signature,
+            known_flags,
         }
     }
 
@@ -83,16 +86,9 @@ impl Vote {
         Digest1(Sha1::digest(self.signed_part()))
     }
 
-    /// The text of the `consensus-methods` line, where there is one.
-    pub fn consensus_methods(&self) -> Option<&[u8]>
-        ensures { option_map (λ text. text.now) result ≡ self.now.methods }
-    {
-        part_if(&self.bytes, self.head.methods)
-    }
-
     /// When the vote was published, in seconds since 1970-01-01 00:00:00 UTC.
     pub fn published(&self) -> u64
-        ensures value { result ≡ self.now.published }
+        ensures value { result ≡ self.now.says.published }
         ensures within { result ≤ last_moment }
     {
         moment(self.head.published)
@@ -100,7 +96,7 @@ impl Vote {
 
     /// When the period begins that the vote is for, in seconds since 1970-01-01 00:00:00 UTC.
     pub fn valid_after(&self) -> u64
-        ensures value { result ≡ self.now.valid_after }
+        ensures value { result ≡ self.now.says.valid_after }
         ensures within { result ≤ last_moment }
     {
         moment(self.head.valid_after)
@@ -108,7 +104,7 @@ impl Vote {
 
     /// Until when the consensus is to be fresh, in seconds since 1970-01-01 00:00:00 UTC.
     pub fn fresh_until(&self) -> u64
-        ensures value { result ≡ self.now.fresh_until }
+        ensures value { result ≡ self.now.says.fresh_until }
         ensures within { result ≤ last_moment }
     {
         moment(self.head.fresh_until)
@@ -116,7 +112,7 @@ impl Vote {
 
     /// Until when the consensus is to be valid, in seconds since 1970-01-01 00:00:00 UTC.
     pub fn valid_until(&self) -> u64
-        ensures value { result ≡ self.now.valid_until }
+        ensures value { result ≡ self.now.says.valid_until }
         ensures within { result ≤ last_moment }
     {
         moment(self.head.valid_until)
@@ -124,85 +120,84 @@ impl Vote {
 
     /// The seconds for exchanging votes.
     pub fn vote_seconds(&self) -> u32
-        ensures { result ≡ self.now.vote_seconds }
+        ensures { result ≡ self.now.says.vote_seconds }
     {
         self.head.vote_seconds
     }
 
     /// The seconds for exchanging signatures.
     pub fn dist_seconds(&self) -> u32
-        ensures { result ≡ self.now.dist_seconds }
+        ensures { result ≡ self.now.says.dist_seconds }
     {
         self.head.dist_seconds
     }
 
-    /// The text of the `known-flags` line.
-    pub fn known_flags(&self) -> &[u8]
-        ensures text { result.now ≡ self.now.known_flags }
-        ensures within { length result.now < 2 ^ 62 }
+    /// The flags that the vote knows.
+    pub fn known_flags(&self) -> &FlagSet
+        ensures { result.now ≡ self.now.says.known_flags }
     {
-        part(&self.bytes, self.head.known_flags)
+        &self.known_flags
     }
 
     /// The text of the `flag-thresholds` line, where there is one.
     pub fn flag_thresholds(&self) -> Option<&[u8]>
-        ensures { option_map (λ text. text.now) result ≡ self.now.flag_thresholds }
+        ensures { option_map (λ text. text.now) result ≡ self.now.says.flag_thresholds }
     {
         part_if(&self.bytes, self.head.flag_thresholds)
     }
 
     /// The authority's nickname.
     pub fn nickname(&self) -> &[u8]
-        ensures { result.now ≡ self.now.nickname }
+        ensures { result.now ≡ self.now.says.nickname }
     {
         part(&self.bytes, self.head.source.nickname)
     }
 
     /// The authority's identity.
     pub fn identity(&self) -> Fingerprint
-        ensures { result ≡ self.now.identity }
+        ensures { result ≡ self.now.says.identity }
     {
         self.head.source.identity
     }
 
     /// The name of the authority's host.
     pub fn address(&self) -> &[u8]
-        ensures { result.now ≡ self.now.address }
+        ensures { result.now ≡ self.now.says.address }
     {
         part(&self.bytes, self.head.source.address)
     }
 
     /// The authority's IPv4 address, its first byte highest.
     pub fn ip(&self) -> u32
-        ensures { result ≡ self.now.ip }
+        ensures { result ≡ self.now.says.ip }
     {
         self.head.source.ip
     }
 
     /// The authority's directory port.
     pub fn dir_port(&self) -> u16
-        ensures { result ≡ self.now.dir_port }
+        ensures { result ≡ self.now.says.dir_port }
     {
         self.head.source.dir_port
     }
 
     /// The authority's onion router port.
     pub fn or_port(&self) -> u16
-        ensures { result ≡ self.now.or_port }
+        ensures { result ≡ self.now.says.or_port }
     {
         self.head.source.or_port
     }
 
     /// The text of the `contact` line, where there is one.
     pub fn contact(&self) -> Option<&[u8]>
-        ensures { option_map (λ text. text.now) result ≡ self.now.contact }
+        ensures { option_map (λ text. text.now) result ≡ self.now.says.contact }
     {
         part_if(&self.bytes, self.head.contact)
     }
 
     /// The authority's certificate.
     pub fn certificate(&self) -> &Cert
-        ensures { result.now ≡ self.now.certificate }
+        ensures { result.now ≡ self.now.says.certificate }
     {
         &self.certificate
     }
@@ -217,7 +212,7 @@ impl Vote {
 
     /// The signature.
     pub fn signature(&self) -> &SignatureFacts
-        ensures { result.now ≡ self.now.signature }
+        ensures { result.now ≡ self.now.says.signature }
     {
         &self.signature
     }

@@ -11,16 +11,16 @@ use Rattle.vote_terms.proofs.Orders.{Below, below_trans, not_itself, not_both, o
 
 -- what putting a vote among others comes to at the first of them
 data Step (w : ReadVote) (ws : List ReadVote) (v : ReadVote) : Type 0 where
-  goes_on : Below w.identity v.identity → placed (w ∷ ws) v ≡ w ∷ placed ws v → Step w ws v
-  replaces : w.identity ≡ v.identity → outranks v w ≡ true → placed (w ∷ ws) v ≡ v ∷ ws → Step w ws v
-  stays : w.identity ≡ v.identity → outranks v w ≡ false → placed (w ∷ ws) v ≡ w ∷ ws → Step w ws v
-  stands_before : Below v.identity w.identity → placed (w ∷ ws) v ≡ v ∷ w ∷ ws → Step w ws v
+  goes_on : Below w.says.identity v.says.identity → placed (w ∷ ws) v ≡ w ∷ placed ws v → Step w ws v
+  replaces : w.says.identity ≡ v.says.identity → outranks v w ≡ true → placed (w ∷ ws) v ≡ v ∷ ws → Step w ws v
+  stays : w.says.identity ≡ v.says.identity → outranks v w ≡ false → placed (w ∷ ws) v ≡ w ∷ ws → Step w ws v
+  stands_before : Below v.says.identity w.says.identity → placed (w ∷ ws) v ≡ v ∷ w ∷ ws → Step w ws v
 
-step_by : (a b c : Bool) (w : ReadVote) (ws : List ReadVote) (v : ReadVote) → identity_below w.identity v.identity ≡ a → same_authority w v ≡ b → outranks v w ≡ c → Step w ws v
+step_by : (a b c : Bool) (w : ReadVote) (ws : List ReadVote) (v : ReadVote) → identity_below w.says.identity v.says.identity ≡ a → same_authority w v ≡ b → outranks v w ≡ c → Step w ws v
 step_by true b c w ws v e f o = goes_on e (rw e refl)
-step_by false true true w ws v e f o = replaces (same_one w.identity v.identity f) o (rw (e, f, o) refl)
-step_by false true false w ws v e f o = stays (same_one w.identity v.identity f) o (rw (e, f, o) refl)
-step_by false false c w ws v e f o = stands_before (other_way w.identity v.identity e f) (rw (e, f) refl)
+step_by false true true w ws v e f o = replaces (same_one w.says.identity v.says.identity f) o (rw (e, f, o) refl)
+step_by false true false w ws v e f o = stays (same_one w.says.identity v.says.identity f) o (rw (e, f, o) refl)
+step_by false false c w ws v e f o = stands_before (other_way w.says.identity v.says.identity e f) (rw (e, f) refl)
 
 step : (w : ReadVote) (ws : List ReadVote) (v : ReadVote) → Step w ws v
 step w ws v = step_by _ _ _ w ws v refl refl refl
@@ -44,7 +44,7 @@ in_to (y ∷ ys) x h = ⊎_elim (λ (e : x ≡ y). (0, omega arith, sym e)) (λ 
 
 abbrev pub Ascends : List ReadVote → Type 0
 Ascends [] = Unit {0}
-Ascends (w ∷ ws) = ((x : ReadVote) → In x ws → Below w.identity x.identity) × Ascends ws
+Ascends (w ∷ ws) = ((x : ReadVote) → In x ws → Below w.says.identity x.says.identity) × Ascends ws
 
 -- a fact of one identity is one of another that is the same
 along : (a b c : Fingerprint) → b ≡ c → Below a b → Below a c
@@ -64,7 +64,7 @@ only (w ∷ ws) v x h = elim (step w ws v) [
 ]
 
 -- a vote that was there is there still, or the new one outranks it
-pub kept : (ws : List ReadVote) (v x : ReadVote) → In x ws → In x (placed ws v) ⊎ ((x.identity ≡ v.identity) × (outranks v x ≡ true) × In v (placed ws v))
+pub kept : (ws : List ReadVote) (v x : ReadVote) → In x ws → In x (placed ws v) ⊎ ((x.says.identity ≡ v.says.identity) × (outranks v x ≡ true) × In v (placed ws v))
 kept [] v x h = absurd h
 kept (w ∷ ws) v x h = elim (step w ws v) [
   | goes_on lt e ↦ rw e (⊎_elim (λ (i : x ≡ w). inl (inl i)) (λ t. ⊎_elim (λ (i : In x (placed ws v)). inl (inr i)) (λ i. inr (i.0, i.1, inr i.2)) (kept ws v x t)) h)
@@ -77,7 +77,7 @@ kept (w ∷ ws) v x h = elim (step w ws v) [
 lost_to_itself : (v : ReadVote) → outranks v v ≡ false
 lost_to_itself v = above_itself (rank_of v)
 
-there : (ws : List ReadVote) (v : ReadVote) → (h : ReadVote) × In h (placed ws v) × (h.identity ≡ v.identity) × (outranks v h ≡ false)
+there : (ws : List ReadVote) (v : ReadVote) → (h : ReadVote) × In h (placed ws v) × (h.says.identity ≡ v.says.identity) × (outranks v h ≡ false)
 there [] v = (v, inl refl, refl, lost_to_itself v)
 there (w ∷ ws) v = elim (step w ws v) [
   | goes_on lt e ↦ let r = there ws v in (r.0, rw e (inr r.1), r.2, r.3)
@@ -90,9 +90,9 @@ ascends : (ws : List ReadVote) (v : ReadVote) → Ascends ws → Ascends (placed
 ascends [] v a = (λ x t. absurd t, tt)
 ascends (w ∷ ws) v a = elim (step w ws v) [
   | goes_on lt e ↦ rw e (λ x t. ⊎_elim (λ (i : In x ws). a.0 x i) (λ (i : x ≡ v). rw i lt) (only ws v x t), ascends ws v a.1)
-  | replaces q o e ↦ rw e (λ x t. before w.identity v.identity x.identity q (a.0 x t), a.1)
+  | replaces q o e ↦ rw e (λ x t. before w.says.identity v.says.identity x.says.identity q (a.0 x t), a.1)
   | stays q o e ↦ rw e a
-  | stands_before lt e ↦ rw e (λ x t. ⊎_elim (λ (i : x ≡ w). rw i lt) (λ (i : In x ws). below_trans v.identity w.identity x.identity lt (a.0 x i)) t, a)
+  | stands_before lt e ↦ rw e (λ x t. ⊎_elim (λ (i : x ≡ w). rw i lt) (λ (i : In x ws). below_trans v.says.identity w.says.identity x.says.identity lt (a.0 x i)) t, a)
 ]
 
 -- a vote that outranks one that outranks a third outranks the third
@@ -101,12 +101,12 @@ ranks a b c h k = above_trans (rank_of a) (rank_of b) (rank_of c) h k
 
 -- the votes stand for those that were seen
 pub record Stands (seen : ReadVote → Type 0) (votes : List ReadVote) : Type 0 where
-  pub each : (x : ReadVote) → seen x → (h : ReadVote) × In h votes × (h.identity ≡ x.identity) × (outranks x h ≡ false)
+  pub each : (x : ReadVote) → seen x → (h : ReadVote) × In h votes × (h.says.identity ≡ x.says.identity) × (outranks x h ≡ false)
   pub from : (h : ReadVote) → In h votes → seen h
   pub apart : Ascends votes
 
-one_of : (b : Bool) (seen : ReadVote → Type 0) (votes : List ReadVote) (v x h : ReadVote) → outranks x v ≡ b → In h votes → h.identity ≡ x.identity → outranks x h ≡ false
-    → (g : ReadVote) × In g (placed votes v) × (g.identity ≡ x.identity) × (outranks x g ≡ false)
+one_of : (b : Bool) (seen : ReadVote → Type 0) (votes : List ReadVote) (v x h : ReadVote) → outranks x v ≡ b → In h votes → h.says.identity ≡ x.says.identity → outranks x h ≡ false
+    → (g : ReadVote) × In g (placed votes v) × (g.says.identity ≡ x.says.identity) × (outranks x g ≡ false)
 one_of true seen votes v x h o i q r = ⊎_elim (λ (k : In h (placed votes v)). (h, k, q, r)) (λ k. absurd (false≢true (sym r ∙ ranks x v h o k.1))) (kept votes v h i)
 one_of false seen votes v x h o i q r = ⊎_elim (λ (k : In h (placed votes v)). (h, k, q, r)) (λ k. (v, k.2, sym k.0 ∙ q, o)) (kept votes v h i)
 
@@ -128,47 +128,47 @@ all (v ∷ list) seen votes s =
     (λ x i. ⊎_elim (λ (j : seen x). inl (inl j)) (λ j. ⊎_elim (λ (k : x ≡ v). inl (inr k)) (λ k. inr k) j) i)
     (all list (λ x. seen x ⊎ (x ≡ v)) (placed votes v) (one_more seen votes v s))
 
-single : (votes : List ReadVote) (g h : ReadVote) → Ascends votes → In g votes → In h votes → g.identity ≡ h.identity → g ≡ h
+single : (votes : List ReadVote) (g h : ReadVote) → Ascends votes → In g votes → In h votes → g.says.identity ≡ h.says.identity → g ≡ h
 single [] g h a i j q = absurd i
 single (w ∷ ws) g h a i j q =
-    ⊎_elim (λ (k : g ≡ w). ⊎_elim (λ (l : h ≡ w). k ∙ sym l) (λ l. absurd (not_itself w.identity (along w.identity h.identity w.identity (sym q ∙ ap (λ (x : ReadVote). x.identity) k) (a.0 h l)))) j)
-    (λ k. ⊎_elim (λ (l : h ≡ w). absurd (not_itself w.identity (along w.identity g.identity w.identity (q ∙ ap (λ (x : ReadVote). x.identity) l) (a.0 g k)))) (λ l. single ws g h a.1 k l q) j) i
+    ⊎_elim (λ (k : g ≡ w). ⊎_elim (λ (l : h ≡ w). k ∙ sym l) (λ l. absurd (not_itself w.says.identity (along w.says.identity h.says.identity w.says.identity (sym q ∙ ap (λ (x : ReadVote). x.says.identity) k) (a.0 h l)))) j)
+    (λ k. ⊎_elim (λ (l : h ≡ w). absurd (not_itself w.says.identity (along w.says.identity g.says.identity w.says.identity (q ∙ ap (λ (x : ReadVote). x.says.identity) l) (a.0 g k)))) (λ l. single ws g h a.1 k l q) j) i
 
 stands : (list : List ReadVote) → Stands (λ x. ⊥ ⊎ In x list) (held list)
 stands list = all list (λ _. ⊥) [] (record { each = λ x i. absurd i; from = λ h i. absurd i; apart = tt })
 
 -- what is new after a put outranks each vote of its authority that was there
 pub newer : (ws : List ReadVote) (v x : ReadVote) → Ascends ws → In x (placed ws v)
-    → In x ws ⊎ ((x ≡ v) × ((h : ReadVote) → In h ws → h.identity ≡ v.identity → outranks v h ≡ true))
+    → In x ws ⊎ ((x ≡ v) × ((h : ReadVote) → In h ws → h.says.identity ≡ v.says.identity → outranks v h ≡ true))
 newer [] v x a i = ⊎_elim (λ (e : x ≡ v). inr (e, λ h j q. absurd j)) (λ j. absurd j) i
 newer (w ∷ ws) v x a i = elim (step w ws v) [
   | goes_on lt e ↦
       ⊎_elim (λ (j : x ≡ w). inl (inl j))
       (λ j. ⊎_elim (λ (k : In x ws). inl (inr k))
-      (λ k. inr (k.0, λ h m q. ⊎_elim (λ (n : h ≡ w). absurd (not_itself v.identity (before w.identity v.identity v.identity (sym (ap (λ (y : ReadVote). y.identity) n) ∙ q) lt))) (λ n. k.1 h n q) m))
+      (λ k. inr (k.0, λ h m q. ⊎_elim (λ (n : h ≡ w). absurd (not_itself v.says.identity (before w.says.identity v.says.identity v.says.identity (sym (ap (λ (y : ReadVote). y.says.identity) n) ∙ q) lt))) (λ n. k.1 h n q) m))
       (newer ws v x a.1 j))
       (subst (λ l. In x l) e i)
   | replaces p o e ↦
-      ⊎_elim (λ (j : x ≡ v). inr (j, λ h m q. ⊎_elim (λ (n : h ≡ w). rw n o) (λ n. absurd (not_itself w.identity (along w.identity h.identity w.identity (q ∙ sym p) (a.0 h n)))) m))
+      ⊎_elim (λ (j : x ≡ v). inr (j, λ h m q. ⊎_elim (λ (n : h ≡ w). rw n o) (λ n. absurd (not_itself w.says.identity (along w.says.identity h.says.identity w.says.identity (q ∙ sym p) (a.0 h n)))) m))
       (λ j. inl (inr j)) (subst (λ l. In x l) e i)
   | stays p o e ↦ inl (subst (λ l. In x l) e i)
   | stands_before lt e ↦
       ⊎_elim (λ (j : x ≡ v). inr (
         j,
         λ h m q. ⊎_elim
-            (λ (n : h ≡ w). absurd (not_itself v.identity (along v.identity w.identity v.identity (sym (ap (λ (y : ReadVote). y.identity) n) ∙ q) lt)))
-            (λ n. absurd (not_itself v.identity (along v.identity h.identity v.identity q (below_trans v.identity w.identity h.identity lt (a.0 h n))))) m,
+            (λ (n : h ≡ w). absurd (not_itself v.says.identity (along v.says.identity w.says.identity v.says.identity (sym (ap (λ (y : ReadVote). y.says.identity) n) ∙ q) lt)))
+            (λ n. absurd (not_itself v.says.identity (along v.says.identity h.says.identity v.says.identity q (below_trans v.says.identity w.says.identity h.says.identity lt (a.0 h n))))) m,
       ))
       (λ j. inl j) (subst (λ l. In x l) e i)
 ]
 
 -- each held vote of an authority was among the first ones, or it outranks one of that authority
 abbrev Early : (ReadVote → Type 0) → ReadVote → List ReadVote → Type 0
-Early seen v votes = (g : ReadVote) → In g votes → g.identity ≡ v.identity → seen g ⊎ (outranks g v ≡ true)
+Early seen v votes = (g : ReadVote) → In g votes → g.says.identity ≡ v.says.identity → seen g ⊎ (outranks g v ≡ true)
 
 -- a vote stands there that this one does not outrank
 abbrev Met : ReadVote → List ReadVote → Type 0
-Met v votes = (h : ReadVote) × In h votes × (h.identity ≡ v.identity) × (outranks v h ≡ false)
+Met v votes = (h : ReadVote) × In h votes × (h.says.identity ≡ v.says.identity) × (outranks v h ≡ false)
 
 still_met : (votes : List ReadVote) (v w : ReadVote) → Met v votes → Met v (placed votes w)
 still_met votes v w m = one_of _ (λ _. ⊥) votes w v m.0 refl m.1 m.2 m.3
@@ -177,7 +177,7 @@ still_early : (seen : ReadVote → Type 0) (votes : List ReadVote) (v w : ReadVo
 still_early seen votes v w a m e g i q =
     ⊎_elim (λ (j : In g votes). e g j q)
     (λ j.
-    let same_name : m.0.identity ≡ w.identity = m.2 ∙ sym q ∙ ap (λ (y : ReadVote). y.identity) j.0 in
+    let same_name : m.0.says.identity ≡ w.says.identity = m.2 ∙ sym q ∙ ap (λ (y : ReadVote). y.says.identity) j.0 in
     let beats : outranks w v ≡ true = above_other (rank_of w) (rank_of m.0) (rank_of v) (j.1 m.0 m.1 same_name) m.3 in
     inr (rw j.0 beats))
     (newer votes w g a i)
@@ -191,7 +191,7 @@ fold_split [] ys start = refl
 fold_split (x ∷ xs) ys start = fold_split xs ys (placed start x)
 
 -- of votes of equal rank the first is held
-first_held : (before_it after_it : List ReadVote) (h v : ReadVote) → In h (held (before_it ++ v ∷ after_it)) → h.identity ≡ v.identity → outranks h v ≡ false → (h ≡ v) ⊎ In h before_it
+first_held : (before_it after_it : List ReadVote) (h v : ReadVote) → In h (held (before_it ++ v ∷ after_it)) → h.says.identity ≡ v.says.identity → outranks h v ≡ false → (h ≡ v) ⊎ In h before_it
 first_held before_it after_it h v i q o =
     let s = stands before_it in
     let start = held before_it in
@@ -227,11 +227,11 @@ equal_lists [] [] a b to back = refl
 equal_lists [] (y ∷ ys) a b to back = absurd (back y (inl refl))
 equal_lists (x ∷ xs) [] a b to back = absurd (to x (inl refl))
 equal_lists (x ∷ xs) (y ∷ ys) a b to back =
-    let first : x ≡ y = ⊎_elim (λ (i : x ≡ y). i) (λ i. ⊎_elim (λ (j : y ≡ x). sym j) (λ j. absurd (not_both x.identity y.identity (a.0 y j) (b.0 x i))) (back y (inl refl))) (to x (inl refl)) in
-    let same_place : x.identity ≡ y.identity = ap (λ (v : ReadVote). v.identity) first in
+    let first : x ≡ y = ⊎_elim (λ (i : x ≡ y). i) (λ i. ⊎_elim (λ (j : y ≡ x). sym j) (λ j. absurd (not_both x.says.identity y.says.identity (a.0 y j) (b.0 x i))) (back y (inl refl))) (to x (inl refl)) in
+    let same_place : x.says.identity ≡ y.says.identity = ap (λ (v : ReadVote). v.says.identity) first in
     let rest = equal_lists xs ys a.1 b.1
-    (λ z i. ⊎_elim (λ (j : z ≡ y). absurd (not_itself x.identity (along x.identity z.identity x.identity (ap (λ (v : ReadVote). v.identity) j ∙ sym same_place) (a.0 z i)))) (λ j. j) (to z (inr i)))
-    (λ z i. ⊎_elim (λ (j : z ≡ x). absurd (not_itself y.identity (along y.identity z.identity y.identity (ap (λ (v : ReadVote). v.identity) j ∙ same_place) (b.0 z i)))) (λ j. j) (back z (inr i))) in
+    (λ z i. ⊎_elim (λ (j : z ≡ y). absurd (not_itself x.says.identity (along x.says.identity z.says.identity x.says.identity (ap (λ (v : ReadVote). v.says.identity) j ∙ sym same_place) (a.0 z i)))) (λ j. j) (to z (inr i)))
+    (λ z i. ⊎_elim (λ (j : z ≡ x). absurd (not_itself y.says.identity (along y.says.identity z.says.identity y.says.identity (ap (λ (v : ReadVote). v.says.identity) j ∙ same_place) (b.0 z i)))) (λ j. j) (back z (inr i))) in
     ap (λ (v : ReadVote). v ∷ xs) first ∙ ap (λ (l : List ReadVote). y ∷ l) rest
 
 one_way : (l m : List ReadVote) → SameMembers l m → RanksApart l → (x : ReadVote) → In x (held l) → In x (held m)

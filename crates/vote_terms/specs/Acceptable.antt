@@ -25,34 +25,34 @@ digest_by Sha256 text = sha256 text
 
 -- what a vote's signature is made over: the digest of its signed part, by the algorithm that the signature names
 abbrev pub signed_digest : ReadVote → List ℕ
-signed_digest vote = digest_by vote.signature.algorithm vote.signed
+signed_digest vote = digest_by vote.says.signature.algorithm vote.signed
 
 -- whether the signature names the authority of the certificate and the certificate's signing key
 abbrev pub names_signer : ReadVote → Bool
 names_signer vote =
-    same_identity vote.signature.identity vote.certificate.fingerprint
-    && bytes_eq vote.signature.key_digest.0 (sha1 vote.certificate.signing_key)
+    same_identity vote.says.signature.identity vote.says.certificate.fingerprint
+    && bytes_eq vote.says.signature.key_digest.0 (sha1 vote.says.certificate.signing_key)
 
 -- whether a relation has the signing key's signature over the vote
 abbrev pub signs : Relation → ReadVote → Bool
-signs has vote = has kind.Signing vote.certificate.signing_key (signed_digest vote) vote.signature.signature
+signs has vote = has kind.Signing vote.says.certificate.signing_key (signed_digest vote) vote.says.signature.signature
 
 -- ---- the clauses
 
 -- the vote is for this period, and of an authority of the roster
 pub record IsWanted (roster : List Fingerprint) (period : ℕ) (vote : ReadVote) : Type 0 where
-  pub valid_after : vote.valid_after ≡ period
-  pub authority : has_member roster vote.identity ≡ true
+  pub valid_after : vote.says.valid_after ≡ period
+  pub authority : has_member roster vote.says.identity ≡ true
 
 -- whether the certificate's fingerprint is the vote's authority, and that of its identity key
 abbrev pub has_fingerprint : ReadVote → Bool
-has_fingerprint vote = same_identity vote.certificate.fingerprint vote.identity && names_its_key vote.certificate
+has_fingerprint vote = same_identity vote.says.certificate.fingerprint vote.says.identity && names_its_key vote.says.certificate
 
 -- The vote holds: its certificate is its authority's and holds when the period of the vote begins, and its signature is of the
 -- certificate's authority and signing key and may be accepted.
 pub record IsVerified (rules : Rules) (vote : ReadVote) : Type 0 where
-  pub authority : same_identity vote.certificate.fingerprint vote.identity ≡ true
-  pub certificate : IsCertified rules vote.valid_after vote.certificate
+  pub authority : same_identity vote.says.certificate.fingerprint vote.says.identity ≡ true
+  pub certificate : IsCertified rules vote.says.valid_after vote.says.certificate
   pub signer : names_signer vote ≡ true
   pub signature : signs rules.may_accept vote ≡ true
 
@@ -65,22 +65,22 @@ pub record IsAcceptable (rules : Rules) (roster : List Fingerprint) (period : �
 -- signed.
 pub record IsAsked (roster : List Fingerprint) (period : ℕ) (vote : ReadVote) : Type 0 where
   pub wanted : IsWanted roster period vote
-  pub authority : same_identity vote.certificate.fingerprint vote.identity ≡ true
-  pub current : IsCurrent period vote.certificate
+  pub authority : same_identity vote.says.certificate.fingerprint vote.says.identity ≡ true
+  pub current : IsCurrent period vote.says.certificate
 
 -- a clause fails, and those before it hold
 abbrev pub Refuses : Rules → List Fingerprint → ℕ → ReadVote → VoteWord → Type 0
-Refuses rules roster period vote word.ValidAfter = nat_eq vote.valid_after period ≡ false
-Refuses rules roster period vote word.Authority = (vote.valid_after ≡ period) × (has_member roster vote.identity ≡ false)
+Refuses rules roster period vote word.ValidAfter = nat_eq vote.says.valid_after period ≡ false
+Refuses rules roster period vote word.Authority = (vote.says.valid_after ≡ period) × (has_member roster vote.says.identity ≡ false)
 Refuses rules roster period vote word.Fingerprint = IsWanted roster period vote × (has_fingerprint vote ≡ false)
 Refuses rules roster period vote word.Expired =
-    IsWanted roster period vote × (has_fingerprint vote ≡ true) × (vote.certificate.expires ≤ period)
+    IsWanted roster period vote × (has_fingerprint vote ≡ true) × (vote.says.certificate.expires ≤ period)
 Refuses rules roster period vote word.Certification =
-    IsAsked roster period vote × (certifies rules.may_refuse vote.certificate ≡ true)
+    IsAsked roster period vote × (certifies rules.may_refuse vote.says.certificate ≡ true)
 Refuses rules roster period vote word.Crosscert =
-    IsAsked roster period vote × (certifies rules.may_accept vote.certificate ≡ true) × (crosscertifies rules.may_refuse vote.certificate ≡ true)
+    IsAsked roster period vote × (certifies rules.may_accept vote.says.certificate ≡ true) × (crosscertifies rules.may_refuse vote.says.certificate ≡ true)
 Refuses rules roster period vote word.Signature =
-    IsAsked roster period vote × (certifies rules.may_accept vote.certificate ≡ true) × (crosscertifies rules.may_accept vote.certificate ≡ true)
+    IsAsked roster period vote × (certifies rules.may_accept vote.says.certificate ≡ true) × (crosscertifies rules.may_accept vote.says.certificate ≡ true)
     × ((names_signer vote ≡ false) ⊎ (signs rules.may_refuse vote ≡ true))
 
 -- ---- among others
@@ -109,8 +109,8 @@ pub record AsksOf (rules : Rules) (roster : List Fingerprint) (period : ℕ) (vo
 
 -- none of the vote's three signatures may be refused
 pub record RefusesNone (rules : Rules) (vote : ReadVote) : Type 0 where
-  pub certification : certifies rules.may_refuse vote.certificate ≡ false
-  pub crosscert : crosscertifies rules.may_refuse vote.certificate ≡ false
+  pub certification : certifies rules.may_refuse vote.says.certificate ≡ false
+  pub crosscert : crosscertifies rules.may_refuse vote.says.certificate ≡ false
   pub signature : signs rules.may_refuse vote ≡ false
 
 -- Where each signature either may be accepted or may be refused, none of a vote that holds may be refused.

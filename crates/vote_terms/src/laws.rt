@@ -1,6 +1,5 @@
 // Laws of the definitions.
 ghost use Rattle.vote_terms.specs.Acceptable.{VerifiedAreNotRefused};
-ghost use Rattle.vote_terms.specs.Flags.{KnowsFlags};
 ghost use Rattle.vote_terms.specs.Held.{HeldIsHeld, RanksAgree, HeldAgree};
 
 /// What is held of a list of votes is, for each authority, its vote of the greatest rank, and of different votes of
@@ -18,12 +17,6 @@ pub fn ranks_agree()
 /// authority share a rank.
 pub fn held_agree()
     ensures { HeldAgree }
-{}
-
-/// A consensus knows exactly the flags that some vote lists, `NoEdConsensus`, and, where some vote lists `MiddleOnly`,
-/// `BadExit`.
-pub fn knows_flags()
-    ensures { KnowsFlags }
 {}
 
 /// Under a verifier that either accepts or refuses each signature, never both, none of the signatures of a vote that

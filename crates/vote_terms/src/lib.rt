@@ -1,16 +1,12 @@
-//! What votes and consensuses say: the plain records, and in `specs/` the definitions of computing a consensus.
+//! What a vote says: the plain records, and in `specs/` which votes are held of many, and when a vote is acceptable.
 #![tactic(auto)]
 
-mod consensus;
 mod facts;
 mod laws;
 mod rank;
 mod word;
 
-pub use consensus::{Consensus, SourceLine};
 pub use facts::{SignatureFacts, VoteFacts};
-pub use laws::{
-    held_agree, held_is_held, knows_flags, ranks_agree, verified_votes_are_not_refused,
-};
+pub use laws::{held_agree, held_is_held, ranks_agree, verified_votes_are_not_refused};
 pub use rank::Rank;
 pub use word::VoteWord;

@@ -1,11 +1,12 @@
 -- The canonical text of a vote: its items in the order of the tables, with single spaces (dir-spec, "Vote and consensus
 -- status document formats"; "Creating key certificates").
-use Rattle.std.specs.Prelude.{ℕ, List, [], ◌∷◌, ◌++◌, map, option_map, codes, decimal}
-use Rattle.std.specs.List.{join_with_byte}
+use Rattle.std.specs.Prelude.{ℕ, List, [], ◌∷◌, ◌++◌, option_map, codes, decimal}
 use Rattle.dir_bytes.specs.FieldTexts.{hex_text, address_text}
 use Rattle.dir_values.specs.declared.algorithm.Algorithm.{Algorithm}
 use Rattle.dir_values.specs.declared.algorithm.Algorithm.TheVariants.{Sha1, Sha256}
+use Rattle.item_terms.specs.Bytes.{space}
 use Rattle.dir_values.specs.FlagSets.{set_text}
+use Rattle.dir_values.specs.Numbers.{numbers_text}
 use Rattle.dirdoc_grammar.specs.Writing.{NewItem, items_text}
 use Rattle.frame_terms.specs.declared.keyword.Keyword.TheVariants as the
 use Rattle.authority_certs.specs.Texts.{cert_items}
@@ -15,25 +16,21 @@ use Rattle.frame_values.specs.Items.{bare, with_object, item_if, timed}
 
 -- ---- the rests of lines
 
--- numbers with single spaces between them
-abbrev pub numbers_text : List ℕ → List ℕ
-numbers_text numbers = join_with_byte 32 (map decimal numbers)
-
 -- the seconds for exchanging votes, and those for exchanging signatures
 abbrev pub delays_text : VoteFacts → List ℕ
-delays_text facts = decimal facts.vote_seconds ++ 32 ∷ decimal facts.dist_seconds
+delays_text facts = decimal facts.vote_seconds ++ space ∷ decimal facts.dist_seconds
 
 -- the authority's nickname, identity and host name
 abbrev pub names_text : VoteFacts → List ℕ
-names_text facts = facts.nickname ++ 32 ∷ hex_text facts.identity.0 ++ 32 ∷ facts.address
+names_text facts = facts.nickname ++ space ∷ hex_text facts.identity.0 ++ space ∷ facts.address
 
 -- its IPv4 address, directory port and onion routing port
 abbrev pub ports_text : VoteFacts → List ℕ
-ports_text facts = address_text facts.ip ++ 32 ∷ decimal facts.dir_port ++ 32 ∷ decimal facts.or_port
+ports_text facts = address_text facts.ip ++ space ∷ decimal facts.dir_port ++ space ∷ decimal facts.or_port
 
 -- who the authority is
 abbrev pub source_text : VoteFacts → List ℕ
-source_text facts = names_text facts ++ 32 ∷ ports_text facts
+source_text facts = names_text facts ++ space ∷ ports_text facts
 
 -- the name of an algorithm and a space; SHA-1 is not named
 abbrev pub algorithm_text : Algorithm → List ℕ
@@ -42,7 +39,7 @@ algorithm_text Sha256 = codes "sha256 "
 
 -- by whom a vote is signed, and with which key
 abbrev pub signer_text : SignatureFacts → List ℕ
-signer_text signature = algorithm_text signature.algorithm ++ hex_text signature.identity.0 ++ 32 ∷ hex_text signature.key_digest.0
+signer_text signature = algorithm_text signature.algorithm ++ hex_text signature.identity.0 ++ space ∷ hex_text signature.key_digest.0
 
 -- ---- sections
 

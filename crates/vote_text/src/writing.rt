@@ -1,36 +1,22 @@
 // Writing a vote.
 ghost use Rattle.std.specs.Prelude.{◌≡◌, ◌++◌, IfOk, OnOk, codes, option_map};
 ghost use Rattle.dirdoc_grammar.specs.Writing.{item_text, items_text};
+ghost use Rattle.dir_values.specs.Numbers.{numbers_text};
 ghost use Rattle.frame_values.specs.Items as items;
 ghost use Rattle.authority_certs.specs.Texts.{cert_text};
 ghost use Rattle.vote_text.specs.Texts as texts;
 
 use authority_certs::Cert;
 use dir_bytes::{Memory, push_address, push_decimal, push_hex_upper};
-use dir_values::Algorithm;
+use dir_values::{Algorithm, push_numbers};
 use frame_terms::Keyword;
 use frame_values::{push_bare, push_if, push_timed, push_with_object};
 use std::alloc::Global;
 use vote_terms::{SignatureFacts, VoteFacts};
 
-// Numbers with single spaces between them.
-fn push_numbers(out: &mut Vec<u8>, numbers: &[u32]) -> Result<(), Memory>
-    ensures { OnOk result (out.new.items ≡ out.old.items ++ texts.numbers_text numbers.now) }
-{
-    let Some((first, others)) = numbers.split_first() else {
-        return Ok(());
-    };
-    push_decimal(out, *first as u64)?;
-    'numbers: for number in others {
-        out.push(b' ')?;
-        push_decimal(out, *number as u64)?;
-    }
-    Ok(())
-}
-
 // The item of a vote's methods, where it names them.
 fn push_methods(out: &mut Vec<u8>, alloc: Global, facts: &VoteFacts) -> Result<(), Memory>
-    ensures { OnOk result (out.new.items ≡ out.old.items ++ items_text (items.item_if Keyword.ConsensusMethods (option_map texts.numbers_text facts.now.methods))) }
+    ensures { OnOk result (out.new.items ≡ out.old.items ++ items_text (items.item_if Keyword.ConsensusMethods (option_map numbers_text facts.now.methods))) }
 {
     let Some(methods) = &facts.methods else {
         return Ok(());

@@ -1,0 +1,123 @@
+-- The sections of a vote, their items, and what these say (dir-spec, "Vote and consensus status document formats").
+use Rattle.std.specs.Prelude.{ℕ, false, List, [], ◌∷◌, Some, None, Result, Ok, codes}
+use Rattle.std.specs.List.{list_any}
+use Rattle.item_terms.specs.Items.{Item}
+use Rattle.frame_terms.specs.declared.fault.FrameFault.{FrameFault}
+use Rattle.frame_terms.specs.declared.keyword.Keyword.{Keyword}
+use Rattle.frame_terms.specs.declared.keyword.Keyword.TheVariants as the
+use Rattle.frame_terms.specs.declared.row.Count.TheVariants.{One, Optional, Many}
+use Rattle.frame_terms.specs.declared.row.Limit.TheVariants as limit
+use Rattle.frame_terms.specs.declared.row.Row.{Row}
+use Rattle.frame_terms.specs.declared.section.Again.TheVariants as again
+use Rattle.frame_terms.specs.declared.section.Shape.{Shape}
+use Rattle.frame_terms.specs.Keywords.{same}
+use Rattle.frame_terms.specs.Rows.{row}
+use Rattle.frame_terms.specs.Tables.{Tables}
+use Rattle.frame_values.specs.declared.values.Value.{Value}
+use Rattle.frame_values.specs.declared.values.Value.TheVariants as value
+use Rattle.frame_values.specs.Faults.{at_place, too_many, unless_fault}
+use Rattle.frame_values.specs.Arguments.{next}
+use Rattle.frame_values.specs.Lines.{literal, numbers_of, time_of, delays_of, flags_of, rest_of, source_of}
+use Rattle.frame_values.specs.Signatures.{signature_of}
+use Rattle.authority_certs.specs.Tables.{cert_rows, cert_shape, cert_value}
+use Rattle.vote_doc.specs.declared.frame.VoteKind.{VoteKind}
+use Rattle.vote_doc.specs.declared.frame.VoteKind.TheVariants.{Version, Status, Methods, Time, Delays, KnownFlags, Rest, Source, Nothing, Signature, Certificate}
+use Rattle.vote_doc.specs.declared.frame.VoteSection.{VoteSection}
+use Rattle.vote_doc.specs.declared.frame.VoteSection.TheVariants.{Preamble, Authority, Certificate as CertificateSection, Entry, Footer}
+use Rattle.vote_doc.specs.declared.frame.VoteValue.{VoteValue}
+use Rattle.vote_doc.specs.declared.frame.VoteValue.TheVariants as own
+
+-- the items of a section; the first one opens it
+abbrev pub rows : VoteSection → List (Row VoteKind)
+rows Preamble =
+    row the.NetworkStatusVersion One Version
+    ∷ row the.VoteStatus One Status
+    ∷ row the.ConsensusMethods Optional Methods
+    ∷ row the.Published One Time
+    ∷ row the.ValidAfter One Time
+    ∷ row the.FreshUntil One Time
+    ∷ row the.ValidUntil One Time
+    ∷ row the.VotingDelay One Delays
+    ∷ row the.ClientVersions Optional Rest
+    ∷ row the.ServerVersions Optional Rest
+    ∷ row the.KnownFlags One KnownFlags
+    ∷ row the.FlagThresholds Optional Rest
+    ∷ row the.RecommendedClientProtocols Optional Rest
+    ∷ row the.RecommendedRelayProtocols Optional Rest
+    ∷ row the.RequiredClientProtocols Optional Rest
+    ∷ row the.RequiredRelayProtocols Optional Rest
+    ∷ row the.Params Optional Rest
+    ∷ []
+rows Authority =
+    row the.DirSource One Source
+    ∷ row the.Contact Optional Rest
+    ∷ row the.DirKeyCertificateVersion One Version
+    ∷ []
+rows CertificateSection = cert_rows Certificate
+rows Entry =
+    row the.R One Rest
+    ∷ row the.A Many Rest
+    ∷ row the.S One Rest
+    ∷ row the.V Optional Rest
+    ∷ row the.Pr Optional Rest
+    ∷ row the.W Optional Rest
+    ∷ row the.P Optional Rest
+    ∷ row the.M Many Rest
+    ∷ row the.Id Optional Rest
+    ∷ []
+rows Footer =
+    row the.DirectoryFooter One Nothing
+    ∷ row the.DirectorySignature One Signature
+    ∷ []
+
+-- a section that stands once, and ends where another begins
+abbrev pub plain : Keyword → Shape VoteSection
+plain opener = record { opener = opener; last = None; again = again.Nothing; inner = None; limit = None }
+
+-- how a section begins and ends, and what may stand inside it
+abbrev pub shape : VoteSection → Shape VoteSection
+shape Preamble = plain the.NetworkStatusVersion
+shape Authority = record (plain the.DirSource) { inner = Some CertificateSection }
+shape CertificateSection = cert_shape
+shape Entry = record (plain the.R) { again = again.Section }
+shape Footer = record (plain the.DirectoryFooter) { last = Some the.DirectorySignature }
+
+-- the keywords of items that are not built yet
+abbrev pub not_built : List Keyword
+not_built =
+    the.R ∷ the.ClientVersions ∷ the.ServerVersions ∷ the.RecommendedClientProtocols ∷ the.RecommendedRelayProtocols
+    ∷ the.RequiredClientProtocols ∷ the.RequiredRelayProtocols ∷ the.Params ∷ []
+
+-- what an item says, or the place of what is wrong
+abbrev pub value_at : VoteKind → Item → Result (Value VoteValue) ℕ
+value_at Version item = next (literal (codes "3") item) (λ _. Ok value.Nothing)
+value_at Status item = next (literal (codes "vote") item) (λ _. Ok value.Nothing)
+value_at Methods item = next (numbers_of item) (λ text. Ok (value.Text text))
+value_at Time item = next (time_of item) (λ number. Ok (value.Number number))
+value_at Delays item = next (delays_of item) (λ delays. Ok (value.Own (own.Delays delays.0 delays.1)))
+value_at KnownFlags item = next (flags_of item) (λ text. Ok (value.Text text))
+value_at Rest item = Ok (value.Text (rest_of item))
+value_at Source item = next (source_of item) (λ source. Ok (value.Own (own.Source source)))
+value_at Nothing item = Ok value.Nothing
+value_at Signature item = next (signature_of item) (λ signature. Ok (value.Own (own.Signature signature)))
+value_at (Certificate kind) item = cert_value kind item
+
+-- the fault of an item that has too many arguments for its kind
+abbrev pub over_limit : VoteKind → Item → Result (Unit {0}) FrameFault
+over_limit Methods item = too_many limit.Methods item
+over_limit KnownFlags item = too_many limit.KnownFlags item
+over_limit _ item = Ok tt
+
+-- the tables of a vote
+abbrev pub vote_tables : Tables VoteSection VoteKind (Value VoteValue) (Unit {0})
+vote_tables = record {
+  first = Preamble;
+  sections = Preamble ∷ Authority ∷ Entry ∷ Footer ∷ [];
+  shape = shape;
+  rows = rows;
+  is_not_built = λ keyword. list_any (λ other. same other keyword) not_built;
+  ignores = λ _ _. false;
+  value_of = λ _ kind item. unless_fault (over_limit kind item) (at_place (value_at kind item));
+  start = tt;
+  note = λ _ _. Ok tt;
+}

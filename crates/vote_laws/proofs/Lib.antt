@@ -1,0 +1,9 @@
+pub mod WrittenFlags
+pub mod WrittenSources
+pub mod WrittenValues
+pub mod VoteItems
+pub mod VoteRows
+pub mod VoteSays
+pub mod VoteRead
+pub mod VoteSigned
+pub mod VoteAgain

@@ -1,0 +1,175 @@
+-- A vote that was written is read again.
+use Rattle.std.proofs.Common.{◌≡◌, ℕ, ◌-◌, ◌≤◌, false, List, [], ◌∷◌, ◌++◌, length, take, drop, refl, sym, ap, subst}
+use Rattle.std.proofs.Common.{◌∙◌, append_assoc, append-nil, arith}
+use Rattle.std.specs.Prelude.{◌&&◌, map, slice_range}
+use Rattle.std.proofs.Math.Seq.{take-length}
+use Rattle.std.proofs.lemmas.List.{map-append}
+use Rattle.item_terms.specs.Words.{begins_dash}
+use Rattle.dirdoc_grammar.specs.Writing.{AreWritable, NewItem, is_open, items_text}
+use Rattle.frame_terms.specs.Keywords.{same}
+use Rattle.frame_terms.specs.declared.keyword.Keyword.TheVariants as the
+use Rattle.frame_values.proofs.ItemsTexts.{sections}
+use Rattle.frame_laws.proofs.Ends.{entries_to}
+use Rattle.frame_laws.proofs.Entries.{item_of}
+use Rattle.frame_laws.proofs.LastRows.{section_to_is_read}
+use Rattle.frame_laws.proofs.Places.{after_all-append}
+use Rattle.frame_laws.proofs.ReadRows.{Stand, both_stand, row_read}
+use Rattle.frame_laws.proofs.RowValues.{moment_said, text_if_said}
+use Rattle.frame_laws.proofs.SaidRows.{entries_of}
+use Rattle.frame_laws.proofs.Sections.{entries_in, section_is_read}
+use Rattle.frame_laws.proofs.StandingParts.{between_stands}
+use Rattle.frame_laws.proofs.WrittenRows.{ends_with_text, stand_written, text_of_entries}
+use Rattle.authority_certs.specs.Texts.{cert_text}
+use Rattle.certificate_laws.proofs.CertRows.{certificate_rows, certificate_same, certificate_version, certification}
+use Rattle.certificate_laws.proofs.CertSays.{certificate_says, whole_is}
+use Rattle.vote_terms.specs.declared.facts.VoteFacts.{VoteFacts}
+use Rattle.vote_text.specs.Texts.{vote_text}
+use Rattle.vote_doc.specs.Facts.{facts_of, vote_in}
+use Rattle.vote_doc.specs.Reading.{max_vote}
+use Rattle.vote_doc.specs.Tables.{vote_tables}
+use Rattle.vote_doc.specs.declared.frame.VoteKind.TheVariants as kind
+use Rattle.vote_doc.specs.declared.frame.VoteSection.TheVariants.{Certificate}
+use Rattle.vote_doc.specs.declared.frame.VoteValue.{VoteValue}
+use Rattle.vote_laws.specs.Again.{IsInRange, IsReadBack, VotesAreReadAgain, as_read}
+use Rattle.vote_laws.proofs.VoteItems.{VoteEntry, signature_entry}
+use Rattle.vote_laws.proofs.VoteRead.{authority_place, begins_at, certificate_place, closed, footer_place, vote_head}
+use Rattle.vote_laws.proofs.VoteRead.{used_of, vote_end, vote_read}
+use Rattle.vote_laws.proofs.VoteRows.{authority, authority_written, certificate_row, footer, footer_ended}
+use Rattle.vote_laws.proofs.VoteRows.{footer_entries, has_certificate, in_cert, preamble, preamble_written}
+use Rattle.vote_laws.proofs.VoteRows.{signature_row, vote_entries, vote_same}
+use Rattle.vote_laws.proofs.VoteSigned.{signed_is}
+use Rattle.vote_laws.proofs.VoteSays.{delays_said, flags_said, methods_said, signature_said, source_said}
+
+-- the items of a vote stand in its text
+all_stand : (facts : VoteFacts) → IsInRange facts → Stand max_vote (vote_text facts) 0 (vote_entries facts)
+all_stand facts are =
+    let same_items = vote_same facts in
+    subst (λ (l : List ℕ). Stand max_vote l 0 (vote_entries facts))
+    (append-nil (text_of_entries (vote_entries facts)) ∙ ap items_text (sym same_items))
+    (stand_written max_vote (vote_entries facts) []
+    (subst (λ (l : List NewItem). AreWritable max_vote 0 l) same_items are.items)
+    (subst (λ (l : List NewItem). (is_open l && begins_dash []) ≡ false) same_items (closed facts [])))
+
+-- the certificate's text stands in the vote's where its section begins
+certificate_stands : (facts : VoteFacts)
+    → take (length (cert_text facts.certificate)) (drop (certificate_place facts) (vote_text facts))
+    ≡ cert_text facts.certificate
+certificate_stands facts =
+    let p = entries_in (preamble facts) in
+    let a = entries_in (authority facts) in
+    let c = in_cert facts in
+    let f = footer_entries facts in
+    let before = text_of_entries (p ++ a) in
+    let cert = cert_text facts.certificate in
+    let shape : vote_text facts ≡ before ++ (cert ++ text_of_entries f) =
+    ap items_text
+    (vote_same facts ∙ ap (map item_of) (sym (append_assoc p a (c ++ f))) ∙ map-append item_of (p ++ a) (c ++ f))
+    ∙ sections (map item_of (p ++ a)) (map item_of (c ++ f))
+    ∙ ap (λ (l : List ℕ). before ++ l)
+    (ap items_text (map-append item_of c f) ∙ sections (map item_of c) (map item_of f)
+    ∙ ap (λ (l : List NewItem). items_text l ++ text_of_entries f)
+    (sym (certificate_same VoteValue facts.certificate))) in
+    let place : certificate_place facts ≡ length before = sym (after_all-append 0 p a) ∙ ends_with_text (p ++ a) in
+    ap (λ (n : ℕ). take (length cert) (drop n (vote_text facts))) place
+    ∙ ap (λ (l : List ℕ). take (length cert) (drop (length before) l)) shape
+    ∙ between_stands before cert (text_of_entries f)
+
+-- what is kept says what the vote says
+kept_says : (facts : VoteFacts) → IsInRange facts → facts_of (vote_text facts) (vote_head facts) ≡ as_read facts
+unfolding same
+kept_says facts are =
+    let text = vote_text facts in
+    let p = entries_in (preamble facts) in
+    let a = entries_in (authority facts) in
+    let c = in_cert facts in
+    let f = footer_entries facts in
+    let one : VoteEntry = certificate_version in
+    let at_a = authority_place facts in
+    let from_p = both_stand max_vote text 0 p (a ++ (c ++ f)) (all_stand facts are) in
+    let from_a = both_stand max_vote text at_a a (c ++ f) from_p.back in
+    let from_c = both_stand max_vote text (certificate_place facts) c f from_a.back in
+    let rest : List VoteEntry =
+    entries_of (certificate_rows kind.Certificate facts.certificate) ++ certification facts.certificate ∷ [] in
+    let more = rest ++ f in
+    let to_one = (both_stand max_vote text at_a (entries_to (authority facts) one) more
+    (subst (λ (l : List VoteEntry). Stand max_vote text at_a l)
+    (sym (append_assoc a (one ∷ []) more)) from_p.back)).front in
+    let ended = footer_ended facts.signature are.signature in
+    let preamble_read =
+    section_is_read vote_tables max_vote text 0 (preamble facts) [] (preamble_written facts are) from_p.front in
+    let authority_read =
+    section_to_is_read vote_tables at_a (authority facts) certificate_row one
+    (authority_written facts are) refl max_vote text to_one in
+    let footer_read =
+    section_to_is_read vote_tables (footer_place facts) footer signature_row
+    (signature_entry facts.signature) ended.written refl max_vote text from_c.back in
+    let delays = delays_said facts (row_read the.VotingDelay preamble_read refl) in
+    let source = source_said facts (row_read the.DirSource authority_read refl) in
+    let certificate =
+    certificate_says vote_tables Certificate kind.Certificate has_certificate
+    (certificate_place facts) facts.certificate are.certificate.says
+    max_vote text from_c.front (certificate_stands facts) in
+    λ i. record {
+      methods = methods_said facts.methods are.methods (row_read the.ConsensusMethods preamble_read refl) i;
+      published = moment_said _ facts.published are.published (row_read the.Published preamble_read refl) i;
+      valid_after = moment_said _ facts.valid_after are.valid_after (row_read the.ValidAfter preamble_read refl) i;
+      fresh_until = moment_said _ facts.fresh_until are.fresh_until (row_read the.FreshUntil preamble_read refl) i;
+      valid_until = moment_said _ facts.valid_until are.valid_until (row_read the.ValidUntil preamble_read refl) i;
+      vote_seconds = (delays i).0;
+      dist_seconds = (delays i).1;
+      known_flags = flags_said facts.known_flags are.known_flags (row_read the.KnownFlags preamble_read refl) i;
+      flag_thresholds = text_if_said _ facts.flag_thresholds (row_read the.FlagThresholds preamble_read refl) i;
+      nickname = source.nickname i;
+      identity = source.identity i;
+      address = source.address i;
+      ip = source.ip i;
+      dir_port = source.dir_port i;
+      or_port = source.or_port i;
+      contact = text_if_said _ facts.contact (row_read the.Contact authority_read refl) i;
+      certificate = certificate i;
+      signature = signature_said facts.signature (row_read the.DirectorySignature footer_read refl) i;
+    }
+
+-- ---- its bytes
+
+-- the vote's bytes are its text
+whole_of : (text : List ℕ) (begin end : ℕ) → begin ≡ 0 → end ≡ length text → slice_range text begin end ≡ text
+whole_of text begin end first last =
+    let count : end - begin ≡ length text = omega (arith, first, last) in
+    ap (λ (k : ℕ). take k (drop begin text)) count ∙ ap (λ (k : ℕ). take (length text) (drop k text)) first
+    ∙ take-length text
+
+ends_at : (facts : VoteFacts) → (vote_head facts).end ≡ vote_end facts
+unfolding same
+ends_at facts = refl
+
+kept_whole : (facts : VoteFacts) → (vote_in (vote_text facts) (vote_head facts)).whole ≡ vote_text facts
+kept_whole facts =
+    whole_of (vote_text facts) (vote_head facts).begin (vote_head facts).end (begins_at facts)
+    (ends_at facts ∙ used_of facts)
+
+-- and are no more than a vote may have
+vote_fits : (facts : VoteFacts) → IsInRange facts → vote_end facts ≤ max_vote
+vote_fits facts are =
+    let p = entries_in (preamble facts) in
+    let a = entries_in (authority facts) in
+    let c = in_cert facts in
+    let f = footer_entries facts in
+    let from_a = both_stand max_vote (vote_text facts) 0 p (a ++ (c ++ f)) (all_stand facts are) in
+    let from_c = both_stand max_vote (vote_text facts) (authority_place facts) a (c ++ f) from_a.back in
+    let from_f = both_stand max_vote (vote_text facts) (certificate_place facts) c f from_c.back in
+    from_f.back.writable.1.0.within
+
+pub votes_again : VotesAreReadAgain
+votes_again facts rest are =
+    let vote = vote_in (vote_text facts) (vote_head facts) in
+    let back : IsReadBack facts vote = record {
+      says = kept_says facts are;
+      whole = kept_whole facts;
+      signed = signed_is facts are (vote_fits facts are);
+      certificate_bytes =
+          whole_is vote_tables Certificate kind.Certificate has_certificate
+          (certificate_place facts) facts.certificate are.certificate.says
+          (vote_text facts) (certificate_stands facts);
+    } in
+    (vote, vote_read facts rest are, back)

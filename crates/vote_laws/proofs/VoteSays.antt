@@ -1,0 +1,105 @@
+-- What is said by an item of a vote that was written and is read.
+use Rattle.std.proofs.Common.{◌≡◌, ℕ, List, Option, Some, None, refl, ap, ◌∙◌}
+use Rattle.std.specs.Prelude.{IfSome, option_map}
+use Rattle.item_terms.specs.Words.{words_of}
+use Rattle.dir_values.specs.FlagSets.{as_set, set_text}
+use Rattle.frame_terms.specs.Rows.{row}
+use Rattle.frame_terms.specs.declared.document.Taken.{Taken}
+use Rattle.frame_terms.specs.declared.keyword.Keyword.TheVariants as the
+use Rattle.frame_terms.specs.declared.row.Count.TheVariants.{One, Optional}
+use Rattle.frame_values.specs.Parts.{part}
+use Rattle.frame_values.specs.Values.{item_at, text_if, text_in}
+use Rattle.frame_values.specs.declared.values.Value.{Value}
+use Rattle.frame_laws.proofs.ReadRows.{IsRead, item_of_row}
+use Rattle.frame_laws.proofs.RowValues.{text_entry, text_if_said, text_said}
+use Rattle.frame_laws.proofs.SaidRows.{row_once}
+use Rattle.frame_laws.proofs.StandingParts.{rest_part, spelled}
+use Rattle.dir_values.specs.Numbers.{numbers_in, numbers_text}
+use Rattle.vote_terms.specs.declared.facts.SignatureFacts.{SignatureFacts}
+use Rattle.vote_terms.specs.declared.facts.VoteFacts.{VoteFacts}
+use Rattle.vote_doc.specs.Facts.{signature_facts}
+use Rattle.vote_doc.specs.Saying.{delays_in, signature_in, source_in}
+use Rattle.vote_doc.specs.declared.frame.VoteKind.TheVariants as kind
+use Rattle.vote_doc.specs.declared.frame.VoteValue.{VoteValue}
+use Rattle.vote_laws.specs.Again.{AreFlags, AreMethods}
+use Rattle.vote_laws.proofs.VoteItems.{delays_entry, signature_entry, source_entry}
+use Rattle.vote_laws.proofs.VoteRows.{methods_if, signature_row}
+use Rattle.vote_laws.proofs.WrittenSources.{address_part, nickname_part}
+use Rattle.vote_laws.proofs.WrittenValues.{algorithm_of-name, as_set-text, numbers_in-text}
+
+-- what was taken of a section
+abbrev VoteTaken : Type 0
+VoteTaken = Taken (Value VoteValue)
+
+-- what is said by the item of an authority
+pub record SourceSays (bytes : List ℕ) (taken : List (Taken (Value VoteValue))) (facts : VoteFacts) : Type 0 where
+  pub nickname : part bytes (source_in (item_at taken the.DirSource)).nickname ≡ facts.nickname
+  pub identity : (source_in (item_at taken the.DirSource)).identity ≡ facts.identity
+  pub address : part bytes (source_in (item_at taken the.DirSource)).address ≡ facts.address
+  pub ip : (source_in (item_at taken the.DirSource)).ip ≡ facts.ip
+  pub dir_port : (source_in (item_at taken the.DirSource)).dir_port ≡ facts.dir_port
+  pub or_port : (source_in (item_at taken the.DirSource)).or_port ≡ facts.or_port
+
+-- the methods
+methods_back : (methods : Option (List ℕ)) → IfSome methods AreMethods
+    → option_map numbers_in (option_map numbers_text methods) ≡ methods
+methods_back None are = refl
+methods_back (Some methods) are = ap (λ (numbers : List ℕ). Some numbers) (numbers_in-text methods are.each)
+
+module _ {limit : ℕ} {bytes : List ℕ} {taken : List (Taken (Value VoteValue))} {place : ℕ} where
+  pub methods_said : (methods : Option (List ℕ)) → IfSome methods AreMethods
+      → IsRead limit bytes taken place (methods_if methods)
+      → option_map numbers_in (option_map (part bytes) (text_if (item_at taken the.ConsensusMethods))) ≡ methods
+  methods_said methods are read =
+      ap (option_map numbers_in)
+      (text_if_said (row the.ConsensusMethods Optional kind.Methods) (option_map numbers_text methods) read)
+      ∙ methods_back methods are
+
+  -- the flags
+  pub flags_said : (flags : List (List ℕ)) → AreFlags flags
+      → IsRead limit bytes taken place
+      (row_once (row the.KnownFlags One kind.KnownFlags) (text_entry the.KnownFlags (set_text flags)))
+      → as_set (words_of (part bytes (text_in (text_if (item_at taken the.KnownFlags))))) ≡ flags
+  flags_said flags are read =
+      ap (λ (l : List ℕ). as_set (words_of l))
+      (text_said (row the.KnownFlags One kind.KnownFlags) (set_text flags) read)
+      ∙ as_set-text flags are.ascend are.each
+
+  -- the two delays
+  pub delays_said : (facts : VoteFacts)
+      → IsRead limit bytes taken place (row_once (row the.VotingDelay One kind.Delays) (delays_entry facts))
+      → delays_in (item_at taken the.VotingDelay) ≡ (facts.vote_seconds, facts.dist_seconds)
+  delays_said facts read = ap delays_in (item_of_row read)
+
+  -- the authority
+  pub source_said : (facts : VoteFacts)
+      → IsRead limit bytes taken place (row_once (row the.DirSource One kind.Source) (source_entry facts))
+      → SourceSays bytes taken facts
+  source_said facts read =
+      let item = item_of_row read in
+      let there = rest_part read.stand.in_place.0 in
+      record {
+        nickname =
+            ap (λ (o : Option VoteTaken). part bytes (source_in o).nickname) item ∙ nickname_part bytes _ facts there;
+        identity = ap (λ (o : Option VoteTaken). (source_in o).identity) item;
+        address =
+            ap (λ (o : Option VoteTaken). part bytes (source_in o).address) item ∙ address_part bytes _ facts there;
+        ip = ap (λ (o : Option VoteTaken). (source_in o).ip) item;
+        dir_port = ap (λ (o : Option VoteTaken). (source_in o).dir_port) item;
+        or_port = ap (λ (o : Option VoteTaken). (source_in o).or_port) item;
+      }
+
+  -- the signature
+  pub signature_said : (facts : SignatureFacts)
+      → IsRead limit bytes taken place (row_once signature_row (signature_entry facts))
+      → signature_facts bytes (signature_in (item_at taken the.DirectorySignature)) ≡ facts
+  signature_said facts read =
+      let algorithm = algorithm_of-name facts.algorithm in
+      let signature = spelled facts.signature read.stand.writable.0.object.bytes read.stand.in_place.0 refl in
+      ap (λ (o : Option VoteTaken). signature_facts bytes (signature_in o)) (item_of_row read)
+      ∙ (λ i. record {
+        algorithm = algorithm i;
+        identity = facts.identity;
+        key_digest = facts.key_digest;
+        signature = signature i;
+      })

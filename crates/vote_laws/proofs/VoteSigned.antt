@@ -1,0 +1,139 @@
+-- Of a vote that was written and is read, the signed part is that of its text.
+use Rattle.std.proofs.Common.{◌≡◌, ℕ, ◌+◌, ◌-◌, ◌^◌, ◌<◌, ◌≤◌, List, [], ◌∷◌, ◌++◌, length, take, refl, sym, ap, ◌∙◌}
+use Rattle.std.proofs.Common.{append_assoc, arith}
+use Rattle.std.specs.Prelude.{codes, map, min}
+use Rattle.std.proofs.lemmas.List.{length-append, map-append, take_at}
+use Rattle.dir_bytes.specs.FieldTexts.{hex_text}
+use Rattle.dirdoc_grammar.specs.Bodies.{object_text}
+use Rattle.dirdoc_grammar.specs.Writing.{NewItem, item_text, items_text, tail}
+use Rattle.frame_terms.specs.Keywords.{text_of}
+use Rattle.frame_terms.specs.declared.keyword.Keyword.TheVariants as the
+use Rattle.frame_values.proofs.ItemsTexts.{sections}
+use Rattle.frame_laws.proofs.Entries.{item_of}
+use Rattle.frame_laws.proofs.LastRows.{last_item}
+use Rattle.frame_laws.proofs.Places.{after_all-append}
+use Rattle.frame_laws.proofs.Sections.{end_of, entries_in}
+use Rattle.frame_laws.proofs.WrittenRows.{ends_with_text, from_place}
+use Rattle.vote_terms.specs.declared.facts.SignatureFacts.{SignatureFacts}
+use Rattle.vote_terms.specs.declared.facts.VoteFacts.{VoteFacts}
+use Rattle.vote_text.specs.Texts.{algorithm_text, signer_text, vote_text}
+use Rattle.vote_doc.specs.Facts.{vote_in}
+use Rattle.vote_doc.specs.Heads.{signed_to}
+use Rattle.vote_doc.specs.Reading.{max_vote}
+use Rattle.vote_doc.specs.Tables.{vote_tables}
+use Rattle.vote_laws.specs.Again.{IsInRange, signed_text, unsigned_items}
+use Rattle.vote_laws.proofs.VoteItems.{VoteEntry, signature_entry}
+use Rattle.vote_laws.proofs.VoteRead.{authority_place, begins_at, certificate_place, footer_place, vote_head, used_of}
+use Rattle.vote_laws.proofs.VoteRead.{vote_end}
+use Rattle.vote_laws.proofs.VoteRows.{authority, footer, footer_ended, in_cert, preamble, signature_row, unsigned_same}
+use Rattle.vote_laws.proofs.VoteRows.{vote_same}
+
+-- the items before the signature
+abbrev unsigned_entries : VoteFacts → List VoteEntry
+unsigned_entries facts =
+    entries_in (preamble facts) ++ (entries_in (authority facts) ++ (in_cert facts ++ entries_in footer))
+
+-- a text that goes on after a keyword goes on with a space
+tail_some : (text : List ℕ) → 0 < length text → tail text ≡ 32 ∷ text
+tail_some [] some = absurd (omega (arith, some))
+tail_some (b ∷ text) some = refl
+
+signer_some : (s : SignatureFacts) → 0 < length (signer_text s)
+signer_some s = some (algorithm_text s.algorithm) (hex_text s.identity.0) (hex_text s.key_digest.0)
+  where
+    some : (a b c : List ℕ) → 0 < length (a ++ b ++ 32 ∷ c)
+    some a b c = omega (arith, length-append (a ++ b) (32 ∷ c))
+
+-- what follows the signed part
+abbrev after_signed : SignatureFacts → List ℕ
+after_signed s = signer_text s ++ 10 ∷ object_text (codes "SIGNATURE") s.signature
+
+-- the signature's item begins with the end of the signed part
+signature_text : (s : SignatureFacts)
+    → item_text (item_of (signature_entry s)) ≡ codes "directory-signature " ++ after_signed s
+signature_text s =
+    ap (λ (l : List ℕ). (text_of the.DirectorySignature ++ l) ++ 10 ∷ object_text (codes "SIGNATURE") s.signature)
+    (tail_some (signer_text s) (signer_some s))
+    ∙ split (signer_text s) (object_text (codes "SIGNATURE") s.signature)
+  where
+    split : (signer object : List ℕ)
+        → (text_of the.DirectorySignature ++ 32 ∷ signer) ++ 10 ∷ object
+        ≡ codes "directory-signature " ++ (signer ++ 10 ∷ object)
+    split signer object = refl
+
+-- the vote's text begins with the signed part
+text_parts : (facts : VoteFacts) → vote_text facts ≡ signed_text facts ++ (after_signed facts.signature ++ [])
+text_parts facts =
+    let before = map item_of (unsigned_entries facts) in
+    let p = entries_in (preamble facts) in
+    let a = entries_in (authority facts) in
+    let c = in_cert facts in
+    let f = entries_in footer in
+    let last = signature_entry facts.signature in
+    ap items_text
+    (vote_same facts ∙ ap (map item_of) (joined p a c f (last ∷ []))
+    ∙ map-append item_of (unsigned_entries facts) (last ∷ []))
+    ∙ sections before (item_of last ∷ [])
+    ∙ ap (λ (l : List NewItem). items_text l ++ (item_text (item_of last) ++ [])) (sym (unsigned_same facts))
+    ∙ ap (λ (l : List ℕ). items_text (unsigned_items facts) ++ (l ++ [])) (signature_text facts.signature)
+    ∙ moved (items_text (unsigned_items facts)) (codes "directory-signature ") (after_signed facts.signature)
+  where
+    joined : (p a c f l : List VoteEntry) → p ++ (a ++ (c ++ (f ++ l))) ≡ (p ++ (a ++ (c ++ f))) ++ l
+    joined p a c f l = simp append_assoc refl
+
+    moved : (front word back : List ℕ) → front ++ ((word ++ back) ++ []) ≡ (front ++ word) ++ (back ++ [])
+    moved front word back = simp append_assoc refl
+
+-- ---- where it ends
+
+-- the signature begins where the text of the items before it ends
+signature_place : (facts : VoteFacts)
+    → end_of (footer_place facts) footer ≡ length (items_text (unsigned_items facts))
+signature_place facts =
+    let p = entries_in (preamble facts) in
+    let a = entries_in (authority facts) in
+    let c = in_cert facts in
+    let f = entries_in footer in
+    sym (after_all-append 0 p (a ++ (c ++ f)) ∙ after_all-append (authority_place facts) a (c ++ f)
+    ∙ after_all-append (certificate_place facts) c f)
+    ∙ ends_with_text (unsigned_entries facts)
+    ∙ ap (λ (l : List NewItem). length (items_text l)) (sym (unsigned_same facts))
+
+-- the signed part is no longer than a vote may be
+fits : (facts : VoteFacts) → vote_end facts ≤ max_vote → length (signed_text facts) ≤ 16777216
+fits facts within =
+    short (length (signed_text facts)) (length (after_signed facts.signature ++ [])) (vote_end facts) total within
+  where
+    total : vote_end facts ≡ length (signed_text facts) + length (after_signed facts.signature ++ [])
+    total =
+        used_of facts ∙ ap (λ (l : List ℕ). length l) (text_parts facts)
+        ∙ length-append (signed_text facts) (after_signed facts.signature ++ [])
+
+    short : (n m all : ℕ) → all ≡ n + m → all ≤ 16777216 → n ≤ 16777216
+    short n m all sum within = omega (arith, sum, within)
+
+ends_signed : (facts : VoteFacts) → IsInRange facts → vote_end facts ≤ max_vote
+    → (vote_head facts).signed_end ≡ 0 + length (signed_text facts)
+ends_signed facts are within =
+    let ended = footer_ended facts.signature are.signature in
+    let word = codes "directory-signature" in
+    ap signed_to
+    (last_item vote_tables (footer_place facts) footer signature_row
+    (signature_entry facts.signature) ended.written refl)
+    ∙ sums (end_of (footer_place facts) footer) (length (items_text (unsigned_items facts)))
+    (length (signed_text facts)) (signature_place facts)
+    (length-append (items_text (unsigned_items facts)) (codes "directory-signature ")) (fits facts within)
+  where
+    sums : (end front all : ℕ) → end ≡ front → all ≡ front + 20 → all ≤ 16777216
+        → min (end + 19 + 1) (2 ^ 64 - 1) ≡ 0 + all
+    sums end front all there sum within = omega (arith, there, sum, within)
+
+-- The signed part of the vote that is read is that of its text.
+pub signed_is : (facts : VoteFacts) → IsInRange facts → vote_end facts ≤ max_vote
+    → (vote_in (vote_text facts) (vote_head facts)).signed ≡ signed_text facts
+signed_is facts are within =
+    let signed = signed_text facts in
+    let back = after_signed facts.signature ++ [] in
+    from_place (vote_text facts) (vote_head facts).begin (vote_head facts).signed_end 0 signed (begins_at facts)
+    (ends_signed facts are within)
+    (ap (λ (l : List ℕ). take (length signed) l) (text_parts facts) ∙ take_at signed back (length signed) refl)

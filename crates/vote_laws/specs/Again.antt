@@ -1,0 +1,90 @@
+-- A vote that was written is read again (dir-spec, "Vote and consensus status document formats").
+use Rattle.std.specs.Prelude.{◌≡◌, ℕ, ◌≤◌, ◌<◌, ◌^◌, true, List, [], ◌∷◌, ◌++◌, length, All, IfSome, Ok, codes}
+use Rattle.dir_bytes.specs.Causes.{last_moment}
+use Rattle.dir_values.specs.FlagSets.{Ascend, is_name}
+use Rattle.dirdoc_grammar.specs.Writers.{is_argument}
+use Rattle.dirdoc_grammar.specs.Writing.{AreWritable, NewItem, items_text}
+use Rattle.frame_terms.specs.declared.keyword.Keyword.TheVariants as the
+use Rattle.frame_values.specs.Items.{bare}
+use Rattle.dir_values.specs.Names.{is_nickname}
+use Rattle.frame_values.specs.Ranges.{AreTwenty}
+use Rattle.certificate_laws.specs.Again.{SaysInRange, as_written}
+use Rattle.authority_certs.specs.Texts.{cert_items, cert_text}
+use Rattle.authority_certs.specs.declared.cert.Cert.{Cert}
+use Rattle.vote_terms.specs.Votes.{ReadVote}
+use Rattle.vote_terms.specs.declared.facts.SignatureFacts.{SignatureFacts}
+use Rattle.vote_terms.specs.declared.facts.VoteFacts.{VoteFacts}
+use Rattle.vote_text.specs.Texts.{authority_items, flag_items, kind_items, time_items, vote_items, vote_text}
+use Rattle.vote_doc.specs.Reading.{max_vote, vote_of}
+
+-- the consensus methods are at most 64 numbers of 32 bits
+pub record AreMethods (methods : List ℕ) : Type 0 where
+  pub count : length methods ≤ 64
+  pub each : All (λ method. method ≤ 4294967295) methods
+
+-- the flags are at most 64 names, ascending
+pub record AreFlags (flags : List (List ℕ)) : Type 0 where
+  pub count : length flags ≤ 64
+  pub ascend : Ascend flags
+  pub each : All (λ flag. is_name flag ≡ true) flags
+
+-- the certificate says what can be read, and its text does not pass its limit
+pub record IsCertificateInRange (cert : Cert) : Type 0 where
+  pub says : SaysInRange cert
+  pub fits : length (cert_text cert) ≤ 65536
+
+-- the signature says what can be read
+pub record IsSignatureInRange (signature : SignatureFacts) : Type 0 where
+  pub identity : AreTwenty signature.identity.0
+  pub key_digest : AreTwenty signature.key_digest.0
+
+-- The vote says what can be read: each number, text and list is one that an item may have. Its items may be written:
+-- those of its texts that fill a line are such, its objects are bytes, and no line, no object and not the whole
+-- passes its limit.
+pub record IsInRange (facts : VoteFacts) : Type 0 where
+  pub methods : IfSome facts.methods AreMethods
+  pub published : facts.published ≤ last_moment
+  pub valid_after : facts.valid_after ≤ last_moment
+  pub fresh_until : facts.fresh_until ≤ last_moment
+  pub valid_until : facts.valid_until ≤ last_moment
+  pub vote_seconds : facts.vote_seconds ≤ 4294967295
+  pub dist_seconds : facts.dist_seconds ≤ 4294967295
+  pub known_flags : AreFlags facts.known_flags
+  pub nickname : is_nickname facts.nickname ≡ true
+  pub identity : AreTwenty facts.identity.0
+  pub address : is_argument facts.address ≡ true
+  pub ip : facts.ip < 2 ^ 32
+  pub dir_port : facts.dir_port ≤ 65535
+  pub or_port : facts.or_port ≤ 65535
+  pub certificate : IsCertificateInRange facts.certificate
+  pub signature : IsSignatureInRange facts.signature
+  pub items : AreWritable max_vote 0 (vote_items facts)
+
+-- what a vote says that was written: its certificate's covered digest is that of the text written
+abbrev pub as_read : VoteFacts → VoteFacts
+as_read facts = record facts { certificate = as_written facts.certificate }
+
+-- the items before the signature
+abbrev pub unsigned_items : VoteFacts → List NewItem
+unsigned_items facts =
+    kind_items facts ++ time_items facts ++ flag_items facts ++ authority_items facts ++ cert_items facts.certificate
+    ++ bare the.DirectoryFooter [] ∷ []
+
+-- the text that is signed: through the one space after `directory-signature`
+abbrev pub signed_text : VoteFacts → List ℕ
+signed_text facts = items_text (unsigned_items facts) ++ codes "directory-signature "
+
+-- The vote that is read of a vote's text says the same, has the text's bytes, of which the same part is signed, and
+-- has the bytes of its certificate's text.
+pub record IsReadBack (facts : VoteFacts) (vote : ReadVote) : Type 0 where
+  pub says : vote.says ≡ as_read facts
+  pub whole : vote.whole ≡ vote_text facts
+  pub signed : vote.signed ≡ signed_text facts
+  pub certificate_bytes : vote.certificate_bytes ≡ cert_text facts.certificate
+
+-- A vote that was written is read again, whatever follows: what is read says the same, has the text's bytes, and ends
+-- with it.
+abbrev pub VotesAreReadAgain : Type 0
+VotesAreReadAgain = (facts : VoteFacts) (rest : List ℕ) → IsInRange facts
+    → (vote : ReadVote)
+    × (vote_of (vote_text facts ++ rest) ≡ Ok (vote, length (vote_text facts))) × IsReadBack facts vote

@@ -1,0 +1,7 @@
+//! Laws of votes: what is written is read again (dir-spec, "Vote and consensus status document
+//! formats"). No functions; a crate of its own, so that a law more proves nothing else again.
+#![tactic(auto)]
+
+mod laws;
+
+pub use laws::votes_are_read_again;
