@@ -4,7 +4,7 @@ use Rattle.std.specs.Prelude.{codes}
 use Rattle.std.proofs.lemmas.List.Sums.{fold-append}
 use Rattle.dir_values.specs.FlagSets.{has_flag, with_flag, as_set}
 use Rattle.dir_values.proofs.Flags.{has_flag-as_set}
-use Rattle.vote_terms.specs.Flags.{with_own_flags}
+use Rattle.compute_terms.specs.Flags.{with_own_flags}
 use Rattle.consensus_calc.specs.Knowing.{with_own}
 
 own_by : (middle_only : Bool) (flags : List (List ℕ))

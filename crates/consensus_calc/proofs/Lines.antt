@@ -4,7 +4,7 @@ use Rattle.std.specs.Prelude.{slice_get}
 use Rattle.std.specs.List.{flat_map}
 use Rattle.std.proofs.lemmas.List.{append-nil, take_more, flat_map_more}
 use Rattle.std.proofs.lemmas.Option.{get_or_from_slice_get, slice_get_within}
-use Rattle.vote_terms.specs.Texts.{behind_space, line}
+use Rattle.consensus_terms.specs.Texts.{behind_space, line}
 
 pub ruleset lines = (append_assoc, append-nil)
 

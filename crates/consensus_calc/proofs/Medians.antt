@@ -4,7 +4,7 @@ use Rattle.std.specs.Prelude.{All, unwrap_or, cond}
 use Rattle.std.specs.List.{find}
 use Rattle.std.proofs.lemmas.List.Elements.{All-head, All-tail}
 use Rattle.std.proofs.lemmas.Bool.Decides.{nat_tests}
-use Rattle.vote_terms.specs.Counts.{is_low_median, low_median}
+use Rattle.count_terms.specs.Counts.{low_median, member_at, middle, stands_at}
 
 -- a half below a count, rounded down, is a whole below its double
 pub more_than_half : (n k : ℕ) → ltb (n / 2) k ≡ ltb n (2 * k)
@@ -19,7 +19,8 @@ find-within p bound (v ∷ values) all =
     elim (p v) as (λ b. unwrap_or (cond b (Some v) (find p values)) 0 ≤ bound) [ true ↦ here | false ↦ later ]
 
 pub low_median-within : (bound : ℕ) (values : List ℕ) → All (λ v. v ≤ bound) values → low_median values ≤ bound
-low_median-within bound values all = find-within (is_low_median values) bound values all
+unfolding member_at
+low_median-within bound values all = find-within (stands_at (middle values) values) bound values all
 
 -- the same, of a median of values that are shown
 pub median-within : (median bound : ℕ) (shown values : List ℕ) → median ≡ low_median shown → shown ≡ values → All (λ v. v ≤ bound) values → median ≤ bound

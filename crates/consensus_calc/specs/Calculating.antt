@@ -2,9 +2,9 @@
 use Rattle.std.specs.Prelude.{◌≡◌, ◌≤◌, ℕ, true, false, List, length, Result, Ok, Err}
 use Rattle.dir_bytes.specs.Causes.{last_moment}
 use Rattle.vote_terms.specs.Votes.{ReadVote}
-use Rattle.vote_terms.specs.Counts.{over}
-use Rattle.vote_terms.specs.Consensuses.{consensus}
-use Rattle.vote_terms.specs.declared.consensus.Consensus.{Consensus}
+use Rattle.count_terms.specs.Counts.{over}
+use Rattle.compute_terms.specs.Consensuses.{consensus}
+use Rattle.consensus_terms.specs.declared.consensus.Consensus.{Consensus}
 use Rattle.consensus_calc.specs.declared.record.CalcFault.{CalcFault}
 use Rattle.consensus_calc.specs.declared.record.CalcFault.TheVariants.{TooFew, Memory}
 

@@ -1,9 +1,9 @@
 -- The parts of a consensus's text.
 use Rattle.std.specs.Prelude.{ℕ, List, [], ◌∷◌, ◌++◌, Some, codes, decimal}
 use Rattle.dir_bytes.specs.FieldTexts.{moment_text, hex_text, address_text}
-use Rattle.vote_terms.specs.Texts.{line, contact_line}
-use Rattle.vote_terms.specs.declared.consensus.Consensus.{Consensus}
-use Rattle.vote_terms.specs.declared.consensus.SourceLine.{SourceLine}
+use Rattle.consensus_terms.specs.Texts.{line, contact_line}
+use Rattle.consensus_terms.specs.declared.consensus.Consensus.{Consensus}
+use Rattle.consensus_terms.specs.declared.consensus.SourceLine.{SourceLine}
 
 -- what the document is, and the method
 abbrev pub kind_lines : ℕ → List ℕ

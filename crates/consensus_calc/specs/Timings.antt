@@ -7,11 +7,11 @@ use Rattle.consensus_calc.specs.declared.timing.Timing.TheVariants.{ValidAfter, 
 
 -- what a vote says
 abbrev pub said : Timing → ReadVote → ℕ
-said ValidAfter vote = vote.valid_after
-said FreshUntil vote = vote.fresh_until
-said ValidUntil vote = vote.valid_until
-said VoteSeconds vote = vote.vote_seconds
-said DistSeconds vote = vote.dist_seconds
+said ValidAfter vote = vote.says.valid_after
+said FreshUntil vote = vote.says.fresh_until
+said ValidUntil vote = vote.says.valid_until
+said VoteSeconds vote = vote.says.vote_seconds
+said DistSeconds vote = vote.says.dist_seconds
 
 -- the most that it may say
 abbrev pub most : Timing → ℕ

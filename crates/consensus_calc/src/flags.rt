@@ -1,7 +1,8 @@
 // The flags that a consensus knows.
 ghost use Rattle.std.specs.Prelude.{◌≡◌, IfOk, OnOk};
-ghost use Rattle.dir_values.specs.FlagSets.{as_set};
-ghost use Rattle.vote_terms.specs.Flags.{listed_flags, known_flags};
+ghost use Rattle.std.specs.List.{fold};
+ghost use Rattle.dir_values.specs.FlagSets.{as_set, with_flag};
+ghost use Rattle.compute_terms.specs.Flags.{listed_flags, known_flags};
 ghost use Rattle.consensus_calc.specs.Knowing.{with_own};
 
 use dir_bytes::Memory;
@@ -18,13 +19,23 @@ pub fn known_flags(alloc: Global, votes: &Accepted) -> Result<FlagSet, Memory>
     Ok(set)
 }
 
+// Puts the flags of a set into another.
+fn insert_all(alloc: Global, set: &mut FlagSet, flags: &FlagSet) -> Result<(), Memory>
+    ensures { OnOk result (set.new ≡ fold with_flag set.old flags.now) }
+{
+    'flags: for i in 0..flags.len() {
+        set.insert(alloc, flags.flag(i))?;
+    }
+    Ok(())
+}
+
 // The flags that votes list.
 fn listed(alloc: Global, votes: &Accepted) -> Result<FlagSet, Memory>
     ensures { IfOk result (λ set. set ≡ as_set (listed_flags votes.now.votes)) }
 {
     let mut set = FlagSet::new(alloc);
     'votes: for i in 0..votes.len() {
-        set.insert_words(alloc, votes.vote(i).vote().known_flags())?;
+        insert_all(alloc, &mut set, votes.vote(i).vote().known_flags())?;
     }
     Ok(set)
 }

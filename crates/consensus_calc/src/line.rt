@@ -2,7 +2,7 @@
 ghost use Rattle.std.specs.Prelude.{◌≡◌, ◌≤◌, ◌++◌, ◌∷◌, [], OnOk, decimal};
 ghost use Rattle.dir_bytes.specs.Causes.{last_moment};
 ghost use Rattle.dir_bytes.specs.FieldTexts.{moment_text, hex_text, address_text};
-ghost use Rattle.vote_terms.specs.Texts.{behind_space, line};
+ghost use Rattle.consensus_terms.specs.Texts.{behind_space, line};
 
 use dir_bytes::{Memory, push_address, push_decimal, push_hex_upper, push_time};
 

@@ -1,15 +1,15 @@
 // Computing a consensus.
 ghost use Rattle.std.specs.Prelude.{◌≡◌, ℕ, IfOk, map};
-ghost use Rattle.vote_terms.specs.Consensuses as terms;
+ghost use Rattle.compute_terms.specs.Consensuses as terms;
 ghost use Rattle.consensus_calc.specs.Calculating.{Calculates, HasMoments};
 
 use crate::counts::over;
 use crate::flags::known_flags;
 use crate::timing::{Timing, median};
+use consensus_terms::{Consensus, SourceLine};
 use dir_bytes::{Memory, Seq, Text};
 use std::alloc::Global;
 use vote_doc::{Accepted, HeldVote, Vote};
-use vote_terms::{Consensus, SourceLine};
 
 /// Why there is no consensus.
 #[derive(Clone, Copy, Debug, PartialEq, Eq)]
@@ -89,7 +89,7 @@ fn source_of(alloc: Global, held: &HeldVote) -> Result<SourceLine, Memory>
 }
 
 fn contact_of(alloc: Global, vote: &Vote) -> Result<Option<Text>, Memory>
-    ensures { IfOk result (λ contact. contact ≡ vote.now.contact) }
+    ensures { IfOk result (λ contact. contact ≡ vote.now.says.contact) }
 {
     match vote.contact() {
         Some(text) => Ok(Some(Text::copy_of(alloc, text)?)),

@@ -1,12 +1,12 @@
 // A median, a consensus that too few votes make, and the text of one.
 use crate::counts::low_median;
 use crate::{CalcFault, compute, unsigned};
+use consensus_terms::{Consensus, SourceLine};
 use dir_bytes::{Seq, Text, read_hex};
 use dir_values::{Digest1, Fingerprint, FlagSet};
 use std::alloc::Global;
 use std::test::Fail;
 use vote_doc::Accepted;
-use vote_terms::{Consensus, SourceLine};
 
 #[test]
 fn the_low_median_is_the_lower_of_two(rt: HostRuntime) {

@@ -1,17 +1,17 @@
 // The text of a consensus without its signatures.
 ghost use Rattle.std.specs.Prelude.{◌≡◌, ◌++◌, ◌∷◌, IfOk, OnOk, codes, length};
 ghost use Rattle.std.specs.List.{flat_map};
-ghost use Rattle.vote_terms.specs.Texts as texts;
+ghost use Rattle.consensus_terms.specs.Texts as texts;
 ghost use Rattle.consensus_calc.specs.Calculating.{HasMoments};
 ghost use Rattle.consensus_calc.specs.Parts as parts;
 
 use crate::line::{
     push_hex, push_ip, push_moment_line, push_number, push_two_numbers_line, push_word,
 };
+use consensus_terms::{Consensus, SourceLine};
 use dir_bytes::{Memory, Text};
 use dir_values::FlagSet;
 use std::alloc::Global;
-use vote_terms::{Consensus, SourceLine};
 
 // The footer, whose weights are those of a network without relays.
 const FOOTER: &[u8] =

@@ -1,6 +1,6 @@
 // The times of a consensus.
 ghost use Rattle.std.specs.Prelude.{◌≡◌, ◌≤◌, IfOk, All, map};
-ghost use Rattle.vote_terms.specs.Preamble.{median_of};
+ghost use Rattle.compute_terms.specs.Times.{median_of};
 ghost use Rattle.consensus_calc.specs.Timings as timings;
 
 use crate::counts::low_median;

@@ -1,5 +1,5 @@
 use Rattle.std.proofs.Common.{List, ℕ, ap, ◌∙◌}
-use Rattle.vote_terms.specs.Flags.{listed_flags}
+use Rattle.compute_terms.specs.Flags.{listed_flags}
 use Rattle.consensus_calc.specs.Knowing.{with_own}
 use Rattle.consensus_calc.proofs.Known.{with_own-as_set}
 use Rattle.consensus_calc.proofs.flags.known_flags.Goals as goal

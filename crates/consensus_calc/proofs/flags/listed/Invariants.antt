@@ -1,7 +1,7 @@
 use Rattle.std.proofs.Common.{◌≡◌, drop}
 use Rattle.std.specs.List.{fold}
 use Rattle.dir_values.specs.FlagSets.{with_flag, as_set}
-use Rattle.vote_terms.specs.Flags.{listed_flags}
+use Rattle.compute_terms.specs.Flags.{listed_flags}
 use Rattle.consensus_calc.proofs.flags.listed.Given as goal
 
 abbrev pub invariant-votes : goal.invariant-votes

@@ -1,5 +1,5 @@
 use Rattle.std.proofs.Common.{◌≡◌, take, map}
-use Rattle.vote_terms.specs.Consensuses.{source_of}
+use Rattle.compute_terms.specs.Consensuses.{source_of}
 use Rattle.consensus_calc.proofs.record.sources.Given as goal
 
 abbrev pub invariant-votes : goal.invariant-votes

@@ -1,4 +1,4 @@
-use Rattle.vote_terms.specs.Texts.{behind_space}
+use Rattle.consensus_terms.specs.Texts.{behind_space}
 use Rattle.consensus_calc.proofs.Lines.{pieces_more_at}
 use Rattle.consensus_calc.proofs.text.push_flags.Goals as goal
 

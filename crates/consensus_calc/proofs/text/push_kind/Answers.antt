@@ -1,6 +1,6 @@
 use Rattle.std.proofs.Common.{[], ◌∷◌, ◌++◌}
 use Rattle.std.specs.Prelude.{codes, decimal}
-use Rattle.vote_terms.specs.Texts.{line}
+use Rattle.consensus_terms.specs.Texts.{line}
 use Rattle.consensus_calc.proofs.Lines.{line_of_one}
 use Rattle.consensus_calc.proofs.text.push_kind.Goals as goal
 

@@ -1,5 +1,5 @@
 use Rattle.std.proofs.Common.{rules}
-use Rattle.vote_terms.specs.Texts.{source_lines, contact_line}
+use Rattle.consensus_terms.specs.Texts.{source_lines, contact_line}
 use Rattle.consensus_calc.specs.Parts.{dir_source_line, vote_digest_line}
 use Rattle.consensus_calc.proofs.Lines.{pieces_more, three}
 use Rattle.consensus_calc.proofs.text.push_sources.Goals as goal

@@ -1,6 +1,6 @@
 use Rattle.std.proofs.Common.{◌≡◌, ◌++◌, take}
 use Rattle.std.specs.List.{flat_map}
-use Rattle.vote_terms.specs.Texts.{source_lines}
+use Rattle.consensus_terms.specs.Texts.{source_lines}
 use Rattle.consensus_calc.proofs.text.push_sources.Given as goal
 
 abbrev pub invariant-sources : goal.invariant-sources

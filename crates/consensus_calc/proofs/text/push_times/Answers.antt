@@ -1,7 +1,7 @@
 use Rattle.std.proofs.Common.{[], ◌∷◌}
 use Rattle.std.specs.Prelude.{codes, decimal}
 use Rattle.dir_bytes.specs.FieldTexts.{moment_text}
-use Rattle.vote_terms.specs.Texts.{line}
+use Rattle.consensus_terms.specs.Texts.{line}
 use Rattle.consensus_calc.proofs.Lines.{four}
 use Rattle.consensus_calc.proofs.text.push_times.Goals as goal
 

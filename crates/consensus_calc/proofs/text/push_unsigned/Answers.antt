@@ -2,8 +2,8 @@ use Rattle.std.proofs.Common.{List, [], ◌∷◌, ◌++◌, ap, ◌∙◌}
 use Rattle.std.specs.Prelude.{codes, decimal}
 use Rattle.std.specs.List.{flat_map}
 use Rattle.dir_bytes.specs.FieldTexts.{moment_text}
-use Rattle.vote_terms.specs.declared.consensus.SourceLine.{SourceLine}
-use Rattle.vote_terms.specs.Texts.{line, source_lines, footer}
+use Rattle.consensus_terms.specs.declared.consensus.SourceLine.{SourceLine}
+use Rattle.consensus_terms.specs.Texts.{line, source_lines, footer}
 use Rattle.consensus_calc.proofs.Lines.{whole}
 use Rattle.consensus_calc.proofs.text.push_unsigned.Goals as goal
 

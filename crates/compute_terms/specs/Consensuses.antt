@@ -1,0 +1,33 @@
+-- The consensus of held votes (dir-spec, "Computing a consensus from a set of votes").
+use Rattle.std.specs.Prelude.{ℕ, List, map}
+use Rattle.vote_terms.specs.Votes.{ReadVote, vote_digest}
+use Rattle.compute_terms.specs.Times.{median_of}
+use Rattle.compute_terms.specs.Flags.{known_flags}
+use Rattle.consensus_terms.specs.declared.consensus.Consensus.{Consensus}
+use Rattle.consensus_terms.specs.declared.consensus.SourceLine.{SourceLine}
+
+-- what a consensus says of a vote's authority
+abbrev pub source_of : ReadVote → SourceLine
+source_of vote = record {
+  nickname = vote.says.nickname;
+  identity = vote.says.identity;
+  address = vote.says.address;
+  ip = vote.says.ip;
+  dir_port = vote.says.dir_port;
+  or_port = vote.says.or_port;
+  contact = vote.says.contact;
+  vote_digest = vote_digest vote;
+}
+
+-- the consensus of the held votes, where the roster has so many authorities
+abbrev pub consensus : ℕ → List ReadVote → Consensus
+consensus roster votes = record {
+  method = 32;
+  valid_after = median_of (λ vote. vote.says.valid_after) votes;
+  fresh_until = median_of (λ vote. vote.says.fresh_until) votes;
+  valid_until = median_of (λ vote. vote.says.valid_until) votes;
+  vote_seconds = median_of (λ vote. vote.says.vote_seconds) votes;
+  dist_seconds = median_of (λ vote. vote.says.dist_seconds) votes;
+  known_flags = known_flags votes;
+  sources = map source_of votes;
+}

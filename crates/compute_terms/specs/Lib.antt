@@ -1,0 +1,3 @@
+pub mod Times
+pub mod Flags
+pub mod Consensuses
