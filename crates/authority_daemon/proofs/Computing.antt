@@ -3,12 +3,12 @@ use Rattle.std.proofs.Common.{◌≡◌, ℕ, true, List, length, Ok, sym, ap, �
 use Rattle.std.specs.Prelude.{All}
 use Rattle.key_port.specs.Answers.{Rules}
 use Rattle.vote_terms.specs.Votes.{ReadVote}
-use Rattle.vote_terms.specs.Counts.{over}
+use Rattle.count_terms.specs.Counts.{over}
 use Rattle.vote_terms.specs.Held.{held}
 use Rattle.vote_terms.specs.Acceptable.{IsAcceptable}
-use Rattle.vote_terms.specs.Consensuses.{consensus}
-use Rattle.vote_terms.specs.Texts.{unsigned}
-use Rattle.vote_terms.specs.declared.consensus.Consensus.{Consensus}
+use Rattle.compute_terms.specs.Consensuses.{consensus}
+use Rattle.consensus_terms.specs.Texts.{unsigned}
+use Rattle.consensus_terms.specs.declared.consensus.Consensus.{Consensus}
 use Rattle.daemon_words.specs.declared.command.Compute.{Compute}
 use Rattle.authority_daemon.specs.Votes.{votes_of}
 use Rattle.authority_daemon.specs.Compute.{Computes}

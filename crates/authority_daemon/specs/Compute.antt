@@ -1,16 +1,16 @@
 -- The command that computes a consensus.
 use Rattle.std.specs.Prelude.{◌≡◌, ℕ, true, false, List, length, All, Result, Ok, Err}
 use Rattle.frame_terms.specs.declared.fault.ReadRefusal.TheVariants.{Frame}
-use Rattle.frame_terms.specs.declared.section.DocKind.TheVariants.{Vote}
 use Rattle.key_port.specs.Answers.{Rules}
 use Rattle.vote_terms.specs.Votes.{ReadVote}
-use Rattle.vote_terms.specs.Counts.{over}
+use Rattle.count_terms.specs.Counts.{over}
 use Rattle.vote_terms.specs.Held.{held}
 use Rattle.vote_terms.specs.Acceptable.{AsksOf, IsAcceptable, IsFirstRefused, RefusesNone}
-use Rattle.vote_terms.specs.Consensuses.{consensus}
-use Rattle.vote_terms.specs.Texts.{unsigned}
+use Rattle.compute_terms.specs.Consensuses.{consensus}
+use Rattle.consensus_terms.specs.Texts.{unsigned}
 use Rattle.vote_terms.specs.declared.word.VoteWord.{VoteWord}
 use Rattle.daemon_words.specs.declared.command.Compute.{Compute}
+use Rattle.daemon_words.specs.declared.command.Kind.TheVariants.{Vote}
 use Rattle.authority_daemon.specs.declared.status.Refusal.{Refusal}
 use Rattle.authority_daemon.specs.declared.status.Refusal.TheVariants as refusal
 use Rattle.authority_daemon.specs.Votes.{votes_of}

@@ -3,14 +3,11 @@ use Rattle.std.specs.Prelude.{◌≡◌, ℕ, List, codes, ◌++◌, Option, Som
 use Rattle.frame_terms.specs.declared.fault.FrameReason.TheVariants.{Order}
 use Rattle.frame_terms.specs.declared.fault.ReadRefusal.{ReadRefusal}
 use Rattle.frame_terms.specs.declared.fault.ReadRefusal.TheVariants.{Frame}
-use Rattle.frame_terms.specs.declared.section.DocKind.{DocKind}
-use Rattle.frame_terms.specs.declared.section.DocKind.TheVariants as frame
 use Rattle.frame_terms.specs.Refusals.{refused}
 use Rattle.authority_certs.specs.declared.cert.Cert.{Cert}
 use Rattle.authority_certs.specs.Reading.{cert_of}
 use Rattle.authority_certs.specs.Texts.{cert_text}
 use Rattle.vote_terms.specs.Votes.{ReadVote}
-use Rattle.vote_terms.specs.Facts.{said as facts_in}
 use Rattle.vote_text.specs.Texts.{vote_text}
 use Rattle.vote_doc.specs.Reading.{vote_of}
 use Rattle.daemon_words.specs.declared.command.Kind.{Kind}
@@ -53,18 +50,13 @@ abbrev pub document_of : Kind → List ℕ → Result Document ReadRefusal
 document_of kind.Vote bytes = as_document vote (one_vote bytes)
 document_of kind.Cert bytes = as_document cert (one_cert bytes)
 
--- what a kind is called among the frames
-abbrev pub frame_of : Kind → DocKind
-frame_of kind.Vote = frame.Vote
-frame_of kind.Cert = frame.Certificate
-
 -- what `check` says of a document that is one
 abbrev pub said : Document → List ℕ
 said document = codes "ok" ++ end
 
 -- the canonical text of a document, a line for each kind
 abbrev pub shown : Document → List ℕ
-shown (vote read) = vote_text (facts_in read)
+shown (vote read) = vote_text read.says
 shown (cert read) = cert_text read
 
 -- The input is one document of this kind, and the text is that of it.
@@ -76,7 +68,7 @@ pub record Tells (text_of : Document → List ℕ) (kind : Kind) (bytes text : L
 -- what a command answers that tells something of a document: a text, or the first fault
 abbrev pub ReadAnswers : (Document → List ℕ) → Kind → List ℕ → Result (List ℕ) Refusal → Type 0
 ReadAnswers text_of kind bytes (Ok text) = Tells text_of kind bytes text
-ReadAnswers text_of kind bytes (Err (refusal.Document frame fault)) = (frame ≡ frame_of kind) × (document_of kind bytes ≡ Err (Frame fault))
+ReadAnswers text_of kind bytes (Err (refusal.Document other fault)) = (other ≡ kind) × (document_of kind bytes ≡ Err (Frame fault))
 ReadAnswers text_of kind bytes (Err (refusal.Vote number word)) = ⊥
 ReadAnswers text_of kind bytes (Err (refusal.TooFew count roster)) = ⊥
 ReadAnswers text_of kind bytes (Err refusal.Verifier) = ⊥

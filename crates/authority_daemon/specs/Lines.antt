@@ -3,14 +3,14 @@ use Rattle.std.specs.Prelude.{ℕ, List, [], ◌∷◌, codes, decimal}
 use Rattle.std.specs.List.{flat_map}
 use Rattle.item_terms.specs.declared.fault.DocReason.{DocReason}
 use Rattle.item_terms.specs.declared.fault.DocReason.TheVariants as doc
-use Rattle.frame_terms.specs.declared.section.DocKind.{DocKind}
-use Rattle.frame_terms.specs.declared.section.DocKind.TheVariants as kind
 use Rattle.frame_terms.specs.declared.fault.FrameReason.{FrameReason}
 use Rattle.frame_terms.specs.declared.fault.FrameReason.TheVariants as reason
 use Rattle.frame_terms.specs.Keywords.{text_of}
 use Rattle.frame_terms.specs.Rows.{limit_name, limit_number}
 use Rattle.vote_terms.specs.declared.word.VoteWord.{VoteWord}
 use Rattle.vote_terms.specs.declared.word.VoteWord.TheVariants as word
+use Rattle.daemon_words.specs.declared.command.Kind.{Kind}
+use Rattle.daemon_words.specs.declared.command.Kind.TheVariants as kind
 use Rattle.authority_daemon.specs.declared.status.Refusal.{Refusal}
 use Rattle.authority_daemon.specs.declared.status.Refusal.TheVariants as refusal
 use Rattle.authority_daemon.specs.declared.status.Status.{Status}
@@ -20,12 +20,12 @@ abbrev pub end : List ℕ
 end = 10 ∷ []
 
 -- the limit of a document of a kind, with its number
-abbrev pub document_limit : DocKind → List ℕ
+abbrev pub document_limit : Kind → List ℕ
 document_limit kind.Vote = codes "vote 16777216"
-document_limit kind.Certificate = codes "certificate 65536"
+document_limit kind.Cert = codes "certificate 65536"
 
 -- what is wrong with a line or an object of a document of a kind; a limit with its number
-abbrev pub doc_text : DocKind → DocReason → List ℕ
+abbrev pub doc_text : Kind → DocReason → List ℕ
 doc_text kind doc.Keyword = codes "keyword"
 doc_text kind doc.Nul = codes "nul"
 doc_text kind doc.Unterminated = codes "unterminated"
@@ -40,14 +40,14 @@ doc_text kind doc.ObjectTooLong = codes "object 65536"
 abbrev pub at_place : ℕ → List ℕ → List ℕ → List (List ℕ)
 at_place place what keyword = codes "document fault at " ∷ decimal place ∷ codes ": " ∷ what ∷ keyword ∷ end ∷ []
 
-abbrev pub doc_parts : DocKind → ℕ → DocReason → List (List ℕ)
+abbrev pub doc_parts : Kind → ℕ → DocReason → List (List ℕ)
 doc_parts kind place doc.LineTooLong = codes "limit " ∷ doc_text kind doc.LineTooLong ∷ end ∷ []
 doc_parts kind place doc.DocumentTooLong = codes "limit " ∷ doc_text kind doc.DocumentTooLong ∷ end ∷ []
 doc_parts kind place doc.ObjectTooLong = codes "limit " ∷ doc_text kind doc.ObjectTooLong ∷ end ∷ []
 doc_parts kind place other = at_place place (doc_text kind other) []
 
 -- what is wrong with an item of a document of a kind
-abbrev pub fault_parts : DocKind → ℕ → FrameReason → List (List ℕ)
+abbrev pub fault_parts : Kind → ℕ → FrameReason → List (List ℕ)
 fault_parts kind place (reason.Doc other) = doc_parts kind place other
 fault_parts kind place (reason.NotBuilt keyword) = codes "not built at " ∷ decimal place ∷ codes ": " ∷ text_of keyword ∷ end ∷ []
 fault_parts kind place (reason.Missing keyword) = at_place place (codes "missing ") (text_of keyword)

@@ -7,11 +7,11 @@ use Rattle.frame_terms.specs.declared.fault.FrameReason.TheVariants.{TooMany}
 use Rattle.frame_terms.specs.declared.fault.ReadRefusal.{ReadRefusal}
 use Rattle.frame_terms.specs.declared.fault.ReadRefusal.TheVariants.{Frame, Memory}
 use Rattle.frame_terms.specs.declared.row.Limit.TheVariants.{Votes}
-use Rattle.frame_terms.specs.declared.section.DocKind.TheVariants.{Vote}
 use Rattle.frame_terms.specs.Decisions.{first_fault}
 use Rattle.frame_terms.specs.Refusals.{of_doc}
 use Rattle.vote_terms.specs.Votes.{ReadVote}
 use Rattle.vote_doc.specs.Reading.{vote_of}
+use Rattle.vote_doc.specs.Tables.{vote_tables}
 
 -- more bytes than an input has
 abbrev pub no_limit : ℕ
@@ -38,7 +38,7 @@ vote_at place rest = at_place place (vote_of rest)
 
 -- why the first item of a vote too many is refused: it begins no vote, or there are too many
 abbrev pub item_too_many : Item → FrameFault
-item_too_many item = unwrap_or (first_fault Vote item) (record { place = item.place; reason = TooMany Votes })
+item_too_many item = unwrap_or (first_fault vote_tables item) (record { place = item.place; reason = TooMany Votes })
 
 abbrev pub by_first : List Item → Option DocFault → Option ReadRefusal
 by_first [] None = None

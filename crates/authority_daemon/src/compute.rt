@@ -10,8 +10,7 @@ ghost use Rattle.authority_daemon.specs.Compute.{ComputeAnswers};
 use crate::reading::votes_of;
 use crate::status::{Refusal, Stop, of_kind};
 use consensus_calc::unsigned;
-use daemon_words::Compute;
-use frame_terms::DocKind;
+use daemon_words::{Compute, Kind};
 use key_port::Verifier;
 use std::alloc::Global;
 use vote_doc::{Accepted, CertAnswer, Vote, VoteRefusal, VoteWord, check_vote};
@@ -28,7 +27,7 @@ pub fn compute<V: Verifier>(
     ensures answer { Answered (ComputeAnswers (rules V.may_accept V.may_refuse) wanted.now bytes.now) result }
     ensures fault { result ≡ Err (Stop.Refused Refusal.Verifier) → Rose (V.faults verifier.old) (V.faults verifier.new) }
 {
-    let votes = of_kind(DocKind::Vote, votes_of(alloc, bytes))?;
+    let votes = of_kind(Kind::Vote, votes_of(alloc, bytes))?;
     let accepted = accept(alloc, wanted, votes, verifier)?;
     let roster = wanted.roster.len() as u32;
     let consensus = consensus_calc::compute(alloc, roster, &accepted)?;

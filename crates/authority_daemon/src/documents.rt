@@ -1,6 +1,5 @@
 // The commands over one document.
 ghost use Rattle.std.specs.Prelude.{◌≡◌, ◌≤◌, ◌<◌, ◌^◌, IfOk, length};
-ghost use Rattle.vote_terms.specs.Facts.{said as facts_in};
 ghost use Rattle.vote_text.specs.Texts.{vote_text};
 ghost use Rattle.authority_daemon.specs.Blanks as blanks;
 ghost use Rattle.authority_daemon.specs.Commands.{Answered};
@@ -13,7 +12,7 @@ use crate::status::{Stop, of_kind};
 use authority_certs::Cert;
 use daemon_words::Kind;
 use dir_bytes::Memory;
-use frame_terms::{DocKind, FrameFault, FrameReason, ReadRefusal};
+use frame_terms::{FrameFault, FrameReason, ReadRefusal};
 use std::alloc::Global;
 use vote_doc::Vote;
 
@@ -28,12 +27,12 @@ pub fn check(alloc: Global, kind: Kind, bytes: &[u8]) -> Result<Vec<u8>, Stop>
 {
     match kind {
         Kind::Vote => {
-            let _vote = of_kind(DocKind::Vote, one_vote(alloc, bytes))?;
+            let _vote = of_kind(kind, one_vote(alloc, bytes))?;
             let text = Vec::from_slice(alloc, OK)?;
             Ok(text)
         }
         Kind::Cert => {
-            let _cert = of_kind(DocKind::Certificate, one_cert(alloc, bytes))?;
+            let _cert = of_kind(kind, one_cert(alloc, bytes))?;
             let text = Vec::from_slice(alloc, OK)?;
             Ok(text)
         }
@@ -48,12 +47,12 @@ pub fn show(alloc: Global, kind: Kind, bytes: &[u8]) -> Result<Vec<u8>, Stop>
 {
     match kind {
         Kind::Vote => {
-            let vote = of_kind(DocKind::Vote, one_vote(alloc, bytes))?;
+            let vote = of_kind(kind, one_vote(alloc, bytes))?;
             let text = canonical(alloc, &vote)?;
             Ok(text)
         }
         Kind::Cert => {
-            let cert = of_kind(DocKind::Certificate, one_cert(alloc, bytes))?;
+            let cert = of_kind(kind, one_cert(alloc, bytes))?;
             let text = authority_certs::write(alloc, &cert)?;
             Ok(text)
         }
@@ -62,7 +61,7 @@ pub fn show(alloc: Global, kind: Kind, bytes: &[u8]) -> Result<Vec<u8>, Stop>
 
 /// The canonical text of a vote.
 fn canonical(alloc: Global, vote: &Vote) -> Result<Vec<u8>, Memory>
-    ensures { IfOk result (λ text. text.items ≡ vote_text (facts_in vote.now)) }
+    ensures { IfOk result (λ text. text.items ≡ vote_text vote.now.says) }
 {
     let facts = vote.facts(alloc)?;
     vote_doc::write(alloc, &facts)

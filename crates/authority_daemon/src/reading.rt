@@ -5,9 +5,9 @@ ghost use Rattle.authority_daemon.specs.Reading.{ReadsAt, ReadsVotes};
 
 use dirdoc_grammar::Items;
 use frame_reader::first_fault;
-use frame_terms::{DocKind, FrameFault, FrameReason, Limit, ReadRefusal};
+use frame_terms::{FrameFault, FrameReason, Limit, ReadRefusal};
 use std::alloc::Global;
-use vote_doc::{Vote, read};
+use vote_doc::{Vote, VoteFrame, read};
 
 /// How many votes an input may have.
 const MOST_VOTES: usize = 64;
@@ -47,7 +47,7 @@ fn one_more(rest: &[u8]) -> Option<ReadRefusal>
     match Items::new(rest, NO_LIMIT).next() {
         Ok(None) => None,
         Err(fault) => Some(ReadRefusal::from(fault)),
-        Ok(Some(item)) => Some(ReadRefusal::Frame(match first_fault(DocKind::Vote, &item) {
+        Ok(Some(item)) => Some(ReadRefusal::Frame(match first_fault(VoteFrame, &item) {
             Some(fault) => fault,
             None => FrameFault {
                 place: item.place,

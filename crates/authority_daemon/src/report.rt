@@ -5,8 +5,9 @@ ghost use Rattle.authority_daemon.specs.Runs.{Reports};
 ghost use Rattle.authority_daemon.specs.Lines as lines;
 
 use crate::status::{Refusal, Status};
+use daemon_words::Kind;
 use dir_bytes::{Sink, WriteAll, write_all};
-use frame_terms::{DocKind, FrameReason};
+use frame_terms::FrameReason;
 use item_terms::DocReason;
 use vote_terms::VoteWord;
 
@@ -79,17 +80,17 @@ fn word_text(word: VoteWord) -> &'static [u8]
 }
 
 /// The limit of a document of a kind, with its number.
-fn document_limit(kind: DocKind) -> &'static [u8]
+fn document_limit(kind: Kind) -> &'static [u8]
     ensures { result.now ≡ lines.document_limit kind }
 {
     match kind {
-        DocKind::Vote => b"vote 16777216",
-        DocKind::Certificate => b"certificate 65536",
+        Kind::Vote => b"vote 16777216",
+        Kind::Cert => b"certificate 65536",
     }
 }
 
 /// What a line says of a fault of a document of a kind.
-fn doc_text(kind: DocKind, reason: DocReason) -> &'static [u8]
+fn doc_text(kind: Kind, reason: DocReason) -> &'static [u8]
     ensures { result.now ≡ lines.doc_text kind reason }
 {
     match reason {
@@ -105,7 +106,7 @@ fn doc_text(kind: DocKind, reason: DocReason) -> &'static [u8]
     }
 }
 
-fn report_doc<E: Sink>(errors: &mut E, kind: DocKind, place: u64, reason: DocReason)
+fn report_doc<E: Sink>(errors: &mut E, kind: Kind, place: u64, reason: DocReason)
     ensures { Reports (E.written errors.old) (E.written errors.new) (E.faults errors.old) (E.faults errors.new) (lines.joined (lines.doc_parts kind place reason)) }
 {
     match reason {
@@ -116,7 +117,7 @@ fn report_doc<E: Sink>(errors: &mut E, kind: DocKind, place: u64, reason: DocRea
     }
 }
 
-fn report_fault<E: Sink>(errors: &mut E, kind: DocKind, place: u64, reason: FrameReason)
+fn report_fault<E: Sink>(errors: &mut E, kind: Kind, place: u64, reason: FrameReason)
     ensures { Reports (E.written errors.old) (E.written errors.new) (E.faults errors.old) (E.faults errors.new) (lines.joined (lines.fault_parts kind place reason)) }
 {
     match reason {

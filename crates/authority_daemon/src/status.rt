@@ -6,8 +6,9 @@ ghost use Rattle.authority_daemon.specs.Stops as stops;
 ghost use Rattle.authority_daemon.specs.Stops.{of_calculation};
 
 use consensus_calc::CalcFault;
+use daemon_words::Kind;
 use dir_bytes::Memory;
-use frame_terms::{DocKind, FrameFault, FrameReason, ReadRefusal};
+use frame_terms::{FrameFault, FrameReason, ReadRefusal};
 use item_terms::DocReason;
 use std::alloc::{AllocError, AllocFailed};
 use vote_terms::VoteWord;
@@ -16,7 +17,7 @@ use vote_terms::VoteWord;
 #[derive(Clone, Copy, Debug, PartialEq, Eq)]
 pub enum Refusal {
     /// The input is no list of documents of the kind that the command reads. This is its first fault.
-    Document { kind: DocKind, fault: FrameFault },
+    Document { kind: Kind, fault: FrameFault },
     /// The vote with this number, from 1, is the first that is not acceptable, for this reason.
     Vote { number: u64, word: VoteWord },
     /// The authorities whose votes are held are not more than half of the roster.
@@ -128,7 +129,7 @@ impl From<Memory> for Stop {
 }
 
 /// What was read of documents of a kind, or why the command stops.
-pub fn of_kind<D: Drop>(kind: DocKind, read: Result<D, ReadRefusal>) -> Result<D, Stop>
+pub fn of_kind<D: Drop>(kind: Kind, read: Result<D, ReadRefusal>) -> Result<D, Stop>
     ensures { result ≡ stops.of_kind kind read }
 {
     match read {

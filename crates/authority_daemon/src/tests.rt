@@ -1,8 +1,9 @@
 // The line and the number of each status.
 use super::*;
 use crate::report::report;
+use daemon_words::Kind;
 use dir_bytes::MemorySink;
-use frame_terms::{DocKind, FrameFault, FrameReason};
+use frame_terms::{FrameFault, FrameReason};
 use item_terms::DocReason;
 use std::test::Fail;
 
@@ -18,10 +19,7 @@ fn other_statuses_have_lines(rt: HostRuntime) -> Result<(), Fail> {
             "limit vote 16777216\n",
         ),
         (
-            fault_of(
-                DocKind::Certificate,
-                FrameReason::Doc(DocReason::DocumentTooLong),
-            ),
+            fault_of(Kind::Cert, FrameReason::Doc(DocReason::DocumentTooLong)),
             9,
             "limit certificate 65536\n",
         ),
@@ -53,10 +51,10 @@ fn limit(reason: DocReason) -> Status {
 }
 
 fn fault(reason: FrameReason) -> Status {
-    fault_of(DocKind::Vote, reason)
+    fault_of(Kind::Vote, reason)
 }
 
-fn fault_of(kind: DocKind, reason: FrameReason) -> Status {
+fn fault_of(kind: Kind, reason: FrameReason) -> Status {
     let fault = FrameFault { place: 0, reason };
     Status::Refused(Refusal::Document { kind, fault })
 }

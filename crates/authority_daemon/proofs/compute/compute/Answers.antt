@@ -1,5 +1,5 @@
-use Rattle.frame_terms.specs.declared.section.DocKind.TheVariants.{Vote}
 use Rattle.key_port.specs.Answers.{rules}
+use Rattle.daemon_words.specs.declared.command.Kind.TheVariants.{Vote}
 use Rattle.authority_daemon.specs.Votes.{votes_of}
 use Rattle.authority_daemon.proofs.Computing.{computes}
 use Rattle.authority_daemon.proofs.WentOn.{votes_read}

@@ -1,11 +1,10 @@
-use Rattle.frame_terms.specs.declared.section.DocKind.TheVariants.{Vote, Certificate}
 use Rattle.authority_daemon.specs.Documents.{one_cert, one_vote, said}
 use Rattle.authority_daemon.proofs.WentOn.{one_read}
 use Rattle.authority_daemon.proofs.Telling.{of_cert, of_vote}
 use Rattle.authority_daemon.proofs.documents.check.Goals as goal
 
 pub returns-in_ok-text-in-Vote : goal.returns-in_ok-text-in-Vote
-returns-in_ok-text-in-Vote c = of_vote said c.args.kind c.args.bytes.now c.in_ok-text-in-Vote.text.items c.in_ok-_vote-in-Vote._vote c.in-Vote.is (one_read Vote (one_vote c.args.bytes.now) c.one_vote.result c.in_ok-_vote-in-Vote._vote c.one_vote.ensures c.in_ok-_vote-in-Vote.ensures) c.in_ok-text-in-Vote.ensures.items
+returns-in_ok-text-in-Vote c = of_vote said c.args.kind c.args.bytes.now c.in_ok-text-in-Vote.text.items c.in_ok-_vote-in-Vote._vote c.in-Vote.is (one_read c.args.kind (one_vote c.args.bytes.now) c.one_vote.result c.in_ok-_vote-in-Vote._vote c.one_vote.ensures c.in_ok-_vote-in-Vote.ensures) c.in_ok-text-in-Vote.ensures.items
 
 pub returns-in_ok-text-in-Cert : goal.returns-in_ok-text-in-Cert
-returns-in_ok-text-in-Cert c = of_cert said c.args.kind c.args.bytes.now c.in_ok-text-in-Cert.text.items c.in_ok-_cert-in-Cert._cert c.in-Cert.is (one_read Certificate (one_cert c.args.bytes.now) c.one_cert.result c.in_ok-_cert-in-Cert._cert c.one_cert.ensures c.in_ok-_cert-in-Cert.ensures) c.in_ok-text-in-Cert.ensures.items
+returns-in_ok-text-in-Cert c = of_cert said c.args.kind c.args.bytes.now c.in_ok-text-in-Cert.text.items c.in_ok-_cert-in-Cert._cert c.in-Cert.is (one_read c.args.kind (one_cert c.args.bytes.now) c.one_cert.result c.in_ok-_cert-in-Cert._cert c.one_cert.ensures c.in_ok-_cert-in-Cert.ensures) c.in_ok-text-in-Cert.ensures.items
