@@ -1,0 +1,9 @@
+pub mod Limits
+pub mod Relays
+pub mod Rulings
+pub mod Rules
+pub mod Standings
+pub mod Flags
+pub mod Names
+pub mod Laws
+pub mod Private
