@@ -1,0 +1,9 @@
+pub mod Sums
+pub mod Entries
+pub mod Views
+pub mod Turning
+pub mod Turns
+pub mod Parting
+pub mod Dealing
+pub mod Meeting
+pub mod Ending
