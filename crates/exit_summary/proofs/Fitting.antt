@@ -1,0 +1,87 @@
+-- The ranges that fit.
+use Rattle.std.proofs.Common.{◌≡◌, ℕ, suc, ◌+◌, ◌-◌, ◌<◌, ◌≤◌, true, false, List, [], ◌∷◌, ◌++◌, length, drop, get_or}
+use Rattle.std.proofs.Common.{refl, ap, ◌∙◌, arith, drop-cons, length-append}
+use Rattle.std.specs.Prelude.{nat_le, ◌==◌, if◌then◌else◌}
+use Rattle.std.specs.Fmt.{decimal}
+use Rattle.std.proofs.lemmas.Bool.{and_from, and_parts, le-leb, lt-leb}
+use Rattle.std.proofs.lemmas.Fmt.{length-decimal-le}
+use Rattle.item_terms.specs.Bytes.{hyphen}
+use Rattle.dir_values.specs.declared.port_range.PortRange.{PortRange}
+use Rattle.dir_values.specs.Ports.{last_port, are_apart, are_ranges, range_text}
+use Rattle.dir_values.proofs.Apart.{first_apart, apart_first}
+use Rattle.exit_summary.specs.Summaries.{most_behind_word, fitting}
+
+-- how many bytes a range takes, with the byte before it
+abbrev pub taken_by : PortRange → ℕ
+taken_by range = 1 + length (range_text range)
+
+-- ranges that fit are apart as they were
+fitting_apart : (room next : ℕ) (ranges : List PortRange) → are_apart next ranges ≡ true
+    → are_apart next (fitting room ranges) ≡ true
+fitting_apart room next [] apart = refl
+fitting_apart room next (range ∷ rest) apart =
+    let is = first_apart next range rest apart in
+    let left = room - taken_by range in
+    let more = fitting_apart left (range.high + 2) rest is.later in
+    elim (nat_le (taken_by range) room)
+    as (λ b. are_apart next (if b then range ∷ fitting left rest else []) ≡ true) [
+      | true ↦ apart_first next range (fitting left rest)
+          (record { from = is.from; up = is.up; last = is.last; later = more })
+      | false ↦ refl
+    ]
+
+-- a range has at most two numbers of five digits and a hyphen
+pub range_short : (range : PortRange) → range.low ≤ last_port → range.high ≤ last_port
+    → length (range_text range) ≤ 11
+unfolding range_text
+range_short range low high =
+    let a = length-decimal-le 5 range.low (omega arith) (omega (arith, low)) (omega (arith, low)) in
+    let b = length-decimal-le 5 range.high (omega arith) (omega (arith, high)) (omega (arith, high)) in
+    elim (range.low == range.high)
+    as (λ t. length (if t then decimal range.low else decimal range.low ++ hyphen ∷ decimal range.high) ≤ 11) [
+      | true ↦ omega (arith, a)
+      | false ↦ omega (arith, a, b, length-append (decimal range.low) (hyphen ∷ decimal range.high))
+    ]
+
+-- the first range fits
+pub fitting_ranges : (ranges : List PortRange) → are_ranges ranges ≡ true
+    → are_ranges (fitting most_behind_word ranges) ≡ true
+fitting_ranges [] are = absurd cc
+fitting_ranges (range ∷ rest) are =
+    let apart = (and_parts (nat_le 1 (length (range ∷ rest))) (are_apart 1 (range ∷ rest)) are).1 in
+    let is = first_apart 1 range rest apart in
+    let up = is.up in
+    let last = is.last in
+    let short = range_short range (omega (arith, up, last)) last in
+    let fits : nat_le (taken_by range) most_behind_word ≡ true =
+    le-leb (taken_by range) most_behind_word (omega (arith, short)) in
+    let some : fitting most_behind_word (range ∷ rest)
+    ≡ range ∷ fitting (most_behind_word - taken_by range) rest = rw fits refl in
+    let ranges = fitting most_behind_word (range ∷ rest) in
+    let one = le-leb 1 (length ranges) (omega (arith, ap (λ (l : List PortRange). length l) some)) in
+    and_from (nat_le 1 (length ranges)) (are_apart 1 ranges) one
+    (fitting_apart most_behind_word 1 (range ∷ rest) apart)
+
+-- a range that fits is taken
+pub one_more : (room : ℕ) (ranges : List PortRange) (i : ℕ) (d : PortRange) → i < length ranges
+    → taken_by (get_or ranges i d) ≤ room
+    → fitting room (drop i ranges)
+    ≡ get_or ranges i d ∷ fitting (room - taken_by (get_or ranges i d)) (drop (i + 1) ranges)
+one_more room ranges i d lt fits =
+    let range = get_or ranges i d in
+    let left = room - taken_by range in
+    let one : suc i ≡ i + 1 = omega arith in
+    let test : nat_le (taken_by range) room ≡ true = le-leb (taken_by range) room fits in
+    let taken : fitting room (range ∷ drop (suc i) ranges) ≡ range ∷ fitting left (drop (suc i) ranges) =
+    rw test refl in
+    ap (fitting room) (drop-cons ranges i d lt) ∙ taken
+    ∙ ap (λ (n : ℕ). range ∷ fitting left (drop n ranges)) one
+
+-- where one does not fit, none is taken
+pub no_more : (room : ℕ) (ranges : List PortRange) (i : ℕ) (d : PortRange) → i < length ranges
+    → room ≤ length (range_text (get_or ranges i d)) → fitting room (drop i ranges) ≡ []
+no_more room ranges i d lt long =
+    let range = get_or ranges i d in
+    let test : nat_le (taken_by range) room ≡ false = lt-leb (taken_by range) room (omega (arith, long)) in
+    let none : fitting room (range ∷ drop (suc i) ranges) ≡ [] = rw test refl in
+    ap (fitting room) (drop-cons ranges i d lt) ∙ none

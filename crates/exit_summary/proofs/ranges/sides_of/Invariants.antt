@@ -1,0 +1,15 @@
+use Rattle.std.proofs.Common.{◌≡◌, not, reverse}
+use Rattle.exit_summary.specs.Policies.{accepted}
+use Rattle.exit_summary.specs.PortRanges.{ranges_down}
+use Rattle.exit_summary.specs.Summaries.{accepted_ranges, rejected_ranges}
+use Rattle.exit_summary.proofs.ranges.sides_of.Given as goal
+
+abbrev pub invariant-stretches : goal.invariant-stretches
+invariant-stretches l = record {
+  accepting : ranges_down (accepted l.items) l.port (reverse l.accepted.items) ≡ accepted_ranges l.items;
+  rejecting : ranges_down (λ port. not (accepted l.items port)) l.port (reverse l.rejected.items)
+      ≡ rejected_ranges l.items;
+}
+
+abbrev pub decreases-stretches : goal.decreases-stretches
+decreases-stretches l = l.port
