@@ -1,0 +1,5 @@
+mod Balances
+mod Choices
+mod Numerators
+mod Rests
+mod Truncations

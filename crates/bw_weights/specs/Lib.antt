@@ -1,0 +1,6 @@
+pub mod Balance
+pub mod Cases
+pub mod Fractions
+pub mod Ranges
+pub mod Sums
+pub mod Weights

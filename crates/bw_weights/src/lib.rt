@@ -1,0 +1,16 @@
+//! How relays are weighted by position: the weights of a consensus's `bandwidth-weights` line.
+#![tactic(auto)]
+
+mod cases;
+mod fraction;
+mod position_weights;
+mod shares;
+mod sums;
+mod table;
+
+pub use position_weights::Weights;
+pub use sums::Sums;
+pub use table::weights;
+
+#[cfg(test)]
+mod tests;
