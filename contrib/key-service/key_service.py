@@ -10,13 +10,17 @@ lower case, `-` for an empty one.
 Any other request is answered `error <why>`, which dirauth counts as a fault. Why a signature is not right, or a request
 refused, is told on standard error.
 
+The service makes its socket at a path, or takes the one that systemd listens at for it (dirauth-keys.socket).
+
 `identity` and `signing` keys are RSA, as a PKCS#1 DER public key. Their message is a digest, and the signature is PKCS#1 v1.5
 with type 1 padding round the bare digest, without a DigestInfo. `ed25519` keys are the 32 bytes of the public key.
 """
 import argparse
 import os
 import pathlib
+import socket
 import socketserver
+import stat
 import sys
 
 from cryptography.exceptions import InvalidSignature, UnsupportedAlgorithm
@@ -27,6 +31,9 @@ from cryptography.hazmat.primitives.asymmetric import ed25519, padding, rsa
 LINE_LIMIT = 65_536
 
 KINDS = ("identity", "signing", "ed25519")
+
+# The descriptor of the first socket that systemd hands over.
+FIRST_HANDED = 3
 
 
 class Refused(Exception):
@@ -163,38 +170,81 @@ class Connection(socketserver.StreamRequestHandler):
 
 
 class Service(socketserver.ThreadingMixIn, socketserver.UnixStreamServer):
-    """The service: a thread for each connection."""
+    """The service over a socket that listens: a thread for each connection."""
 
     daemon_threads = True
 
-    def __init__(self, path, keys, quiet):
+    def __init__(self, listener, keys, quiet):
         self.keys = keys
         self.tell = (lambda text: None) if quiet else (lambda text: print(text, file=sys.stderr, flush=True))
-        super().__init__(path, Connection)
+        super().__init__(listener.getsockname(), Connection, bind_and_activate=False)
+        self.socket.close()
+        self.socket = listener
+
+
+def handed_listener():
+    """The socket at which systemd listens for the service, or None where it hands over none (sd_listen_fds(3))."""
+    if os.environ.get("LISTEN_PID") != str(os.getpid()):
+        return None
+    if os.environ.get("LISTEN_FDS") != "1":
+        raise SystemExit("systemd hands over other than one socket")
+    listener = socket.socket(fileno=FIRST_HANDED)
+    listens = listener.getsockopt(socket.SOL_SOCKET, socket.SO_ACCEPTCONN)
+    if (listener.family, listener.type) != (socket.AF_UNIX, socket.SOCK_STREAM) or not listens:
+        raise SystemExit("systemd hands over no Unix stream socket that listens")
+    return listener
+
+
+def remove_old_socket(path):
+    """Removes the socket that stands at a path; whatever else stands there, a link too, is left and refused."""
+    try:
+        mode = os.lstat(path).st_mode
+    except FileNotFoundError:
+        return
+    if not stat.S_ISSOCK(mode):
+        raise SystemExit(f"{path}: it is there and is no socket")
+    os.unlink(path)
+
+
+def new_listener(path):
+    """A new socket at a path, for its owner alone, in place of an old one."""
+    listener = socket.socket(socket.AF_UNIX, socket.SOCK_STREAM)
+    before = os.umask(0o177)
+    try:
+        remove_old_socket(path)
+        listener.bind(path)
+    except OSError as error:
+        raise SystemExit(f"{path}: {error.strerror or error}") from None
+    finally:
+        os.umask(before)
+    listener.listen()
+    return listener
 
 
 def main():
     """Serves until it is stopped."""
     parser = argparse.ArgumentParser(description="An example of a key service for dirauth.")
     parser.add_argument("--keys", required=True, help="the folder with the private keys, as NAME.pem without a password")
-    parser.add_argument("--socket", default="/run/dirauth-keys", help="the path of the socket (default: %(default)s)")
+    parser.add_argument(
+        "--socket",
+        default="/run/dirauth-keys",
+        help="the path of the socket, where systemd hands over none (default: %(default)s)",
+    )
     parser.add_argument("--quiet", action="store_true", help="tell nothing on standard error")
     given = parser.parse_args()
     keys = Keys(given.keys)
-    if os.path.exists(given.socket):
-        os.unlink(given.socket)
-    before = os.umask(0o177)
-    try:
-        service = Service(given.socket, keys, given.quiet)
-    finally:
-        os.umask(before)
-    service.tell(f"{len(keys.private)} private keys, listening on {given.socket}")
+    handed = handed_listener()
+    listener = new_listener(given.socket) if handed is None else handed
+    service = Service(listener, keys, given.quiet)
+    service.tell(f"{len(keys.private)} private keys, listening on {listener.getsockname()}")
     try:
         service.serve_forever()
     except KeyboardInterrupt:
         pass
     finally:
-        os.unlink(given.socket)
+        # The socket that systemd hands over is systemd's to remove.
+        if handed is None:
+            os.unlink(given.socket)
 
 
 if __name__ == "__main__":
