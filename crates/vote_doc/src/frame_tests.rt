@@ -144,6 +144,14 @@ fn certificates(rt: HostRuntime) {
     );
 }
 
+/// What a vote gives whose certificate has this behind its first line, and then a `contact` line.
+fn read_filled(alloc: Global, filling: &[u8]) -> Result<usize, ReadRefusal> {
+    let version: &[u8] = b"dir-key-certificate-version 3\n";
+    let contact: &[u8] = b"contact\n";
+    let pieces: [&[u8]; 7] = [HEAD, PUBLISHED, TIMES, SOURCE, version, filling, contact];
+    read_pieces(alloc, &pieces)
+}
+
 #[test]
 fn limits(rt: HostRuntime) -> Result<(), Fail> {
     let alloc = rt.alloc();
@@ -154,17 +162,13 @@ fn limits(rt: HostRuntime) -> Result<(), Fail> {
         long.push(b'a')?;
     }
     long.push(b'\n')?;
-    let version: &[u8] = b"dir-key-certificate-version 3\n";
-    let contact: &[u8] = b"contact\n";
-    let whole: [&[u8]; 7] = [HEAD, PUBLISHED, TIMES, SOURCE, version, &long, contact];
     assert_eq!(rt;
-        read_pieces(alloc, &whole),
+        read_filled(alloc, &long),
         fault(344 + 65_528, FrameReason::Order)
     );
     long.push(b'\n')?;
-    let beyond: [&[u8]; 7] = [HEAD, PUBLISHED, TIMES, SOURCE, version, &long, contact];
     assert_eq!(rt;
-        read_pieces(alloc, &beyond),
+        read_filled(alloc, &long),
         fault(344 + 65_536, FrameReason::TooMany(Limit::Certificate))
     );
     Ok(())
