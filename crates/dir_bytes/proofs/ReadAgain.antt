@@ -35,7 +35,7 @@ unfolding number
 number-numeral limit value text some digits is within = grind (arith, nat_tests)
 
 -- what a number is written with are digits
-decimal_digits : (n : ℕ) → n < 2 ^ 64 → all_ascii_digits (decimal n) ≡ true
+pub decimal_digits : (n : ℕ) → n < 2 ^ 64 → all_ascii_digits (decimal n) ≡ true
 decimal_digits n fits = (numerals_by_value _ tells_all_ascii_digits).from (decimal n) (decimal_is_IsNumeral n fits).0.1
 
 pub number-decimal : (limit n : ℕ) → n ≤ limit → n < 2 ^ 64 → number limit (decimal n) ≡ Some n

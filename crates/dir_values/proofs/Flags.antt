@@ -66,7 +66,8 @@ Ascend-with_flag (first ∷ rest) flag up =
     ] in
     by (bytes_below first flag) (bytes_eq first flag) refl refl
 
-fold_ascends : (flags set : List (List ℕ)) → Ascend set → Ascend (fold with_flag set flags)
+-- ascending flags with more of them ascend
+pub fold_ascends : (flags set : List (List ℕ)) → Ascend set → Ascend (fold with_flag set flags)
 fold_ascends [] set up = up
 fold_ascends (flag ∷ rest) set up = fold_ascends rest (with_flag set flag) (Ascend-with_flag set flag up)
 
@@ -92,7 +93,7 @@ or_there false false true h = absurd (let e : false ≡ true = h refl in cc)
 or_there false false false h = refl
 
 -- which flags there are once one more was put in
-has_flag-with_flag : (set : List (List ℕ)) (flag other : List ℕ) → has_flag (with_flag set flag) other ≡ (has_flag set other || bytes_eq flag other)
+pub has_flag-with_flag : (set : List (List ℕ)) (flag other : List ℕ) → has_flag (with_flag set flag) other ≡ (has_flag set other || bytes_eq flag other)
 has_flag-with_flag [] flag other = or_last false false (bytes_eq flag other)
 has_flag-with_flag (first ∷ rest) flag other =
     let known = bytes_eq first other in

@@ -1,6 +1,10 @@
 pub mod ArgumentSteps
+mod FirstBlank
 pub mod Orders
 pub mod Flags
+pub mod WordSets
+pub mod SetsAlone
+mod FlagPlaces
 pub mod Members
 pub mod SetTexts
 pub mod ArgumentWords
@@ -11,3 +15,4 @@ pub mod Apart
 pub mod RangeTexts
 pub mod PortEntries
 pub mod PortsAgain
+pub mod VersionOrders

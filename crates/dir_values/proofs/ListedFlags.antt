@@ -1,49 +1,93 @@
 -- The arguments of a list of flags, one after the other.
-use Rattle.std.proofs.Common.{◌≡◌, ℕ, suc, ◌+◌, ◌≤◌, Bool, true, false, cond, List, [], ◌∷◌, ◌++◌, length, take, refl, sym, ap, ◌∙◌, append_assoc, length-append, arith}
-use Rattle.std.specs.Prelude.{◌&&◌, not}
-use Rattle.item_terms.specs.Words.{is_blank, ends_or_blank}
-use Rattle.dir_values.specs.Arguments.{Argument, onto, arguments_at}
-use Rattle.dir_values.specs.FlagSets.{is_name, is_among, wrong_flag}
+use Rattle.std.proofs.Common.{◌≡◌, ℕ, Bool, true, false, List, [], ◌∷◌, ◌++◌, Some, None, refl, sym, ap, ap₂, ◌∙◌}
+use Rattle.std.specs.Prelude.{◌&&◌, ◌||◌, not, if◌then◌else◌}
+use Rattle.std.specs.Str.{bytes_eq}
+use Rattle.std.proofs.lemmas.List.Folds.{list_any-append}
+use Rattle.dir_values.specs.Arguments.{Argument}
+use Rattle.dir_values.specs.Digests.{bytes_below}
+use Rattle.dir_values.specs.FlagSets.{is_name, is_among, has_flag, with_flag, wrong_flag}
+use Rattle.dir_values.proofs.Flags.{has_flag-with_flag}
+use Rattle.dir_values.proofs.Orders.{below-trans, apart}
 
-take_more : (before rest : List Argument) (one : Argument) → take (length before + 1) (before ++ one ∷ rest) ≡ before ++ one ∷ []
-take_more [] rest one = refl
-take_more (first ∷ before) rest one =
-    let more : suc (length before) + 1 ≡ suc (length before + 1) = omega arith in
-    rw more (ap (λ (l : List Argument). first ∷ l) (take_more before rest one))
+-- some arguments were walked, in which nothing is wrong, and these are left
+pub record Walks (whole left : List Argument) : Type 0 where
+  pub before : List Argument
+  pub same : wrong_flag before left ≡ wrong_flag [] whole
 
--- the arguments up to one, and that one
-pub one_more : (all rest : List Argument) (one : Argument) (n : ℕ) → take n all ++ one ∷ rest ≡ all → n + length (one ∷ rest) ≡ length all
-    → take (n + 1) all ≡ take n all ++ one ∷ []
-one_more all rest one n parts counted =
-    let whole : length (take n all) + length (one ∷ rest) ≡ length all = sym (length-append (take n all) (one ∷ rest)) ∙ ap length parts in
-    let before : length (take n all) ≡ n = omega (arith, whole, counted) in
-    rw (parts, before) at (take_more (take n all) rest one)
+-- what a text that comes behind the last flag is not among
+pub record Ascends (whole left : List Argument) (last : List ℕ) : Type 0 where
+  pub walked : Walks whole left
+  pub new : (text : List ℕ) → bytes_below last text ≡ true → is_among text walked.before ≡ false
 
--- with those after it they are all
-pub still_all : (all rest : List Argument) (one : Argument) (n : ℕ) → take n all ++ one ∷ rest ≡ all → n + length (one ∷ rest) ≡ length all
-    → take (n + 1) all ++ rest ≡ all
-still_all all rest one n parts counted =
-    rw (one_more all rest one n parts counted) (append_assoc (take n all) (one ∷ []) rest ∙ parts)
+-- the flags that were walked are those of a set
+pub record Listed (whole left : List Argument) (set : List (List ℕ)) : Type 0 where
+  pub walked : Walks whole left
+  pub known : (text : List ℕ) → has_flag set text ≡ is_among text walked.before
 
--- a flag that is new is one of those before the next argument
-pub one_flag : (before rest : List Argument) (one : Argument) → (is_name one.text && not (is_among one.text before)) ≡ true
-    → wrong_flag before (one ∷ rest) ≡ wrong_flag (before ++ one ∷ []) rest
+-- at first nothing was walked
+pub ascends_first : (whole : List Argument) → Ascends whole whole []
+ascends_first whole = record { walked = record { before = []; same = refl }; new = λ text below. refl }
+
+pub listed_first : (whole : List Argument) → Listed whole whole []
+listed_first whole = record { walked = record { before = []; same = refl }; known = λ text. refl }
+
+wrong_by : (named among : Bool) (before rest : List Argument) (one : Argument) → is_name one.text ≡ named → is_among one.text before ≡ among
+    → wrong_flag before (one ∷ rest) ≡ (if named && not among then wrong_flag (before ++ one ∷ []) rest else Some one.place)
 unfolding wrong_flag
-one_flag before rest one new = rw new refl
+wrong_by named among before rest one is_named is_there = rw (is_named, is_there) refl
 
-at_most_one_more : (place b : ℕ) (arguments : List Argument) → length (onto place b arguments) ≤ suc (length arguments)
-at_most_one_more place b [] = omega arith
-at_most_one_more place b (one ∷ rest) = omega arith
+-- a text that is no name is wrong
+pub wrong_name : (whole rest : List Argument) (one : Argument) → Walks whole (one ∷ rest) → is_name one.text ≡ false → Some one.place ≡ wrong_flag [] whole
+wrong_name whole rest one walked no_name =
+    sym (wrong_by false (is_among one.text walked.before) walked.before rest one no_name refl) ∙ walked.same
 
-counts : (v w : Bool) (place b n : ℕ) (one : Argument) (rest : List Argument) → length rest ≤ n
-    → length (cond v rest (cond w (one ∷ rest) (onto place b rest))) ≤ suc n
-counts true w place b n one rest few = omega arith
-counts false true place b n one rest few = omega arith
-counts false false place b n one rest few = let more = at_most_one_more place b rest in omega (arith, more)
+-- a flag that stands before is wrong
+pub wrong_twice : (whole rest : List Argument) (one : Argument) (set : List (List ℕ)) → Listed whole (one ∷ rest) set → is_name one.text ≡ true
+    → has_flag set one.text ≡ true → Some one.place ≡ wrong_flag [] whole
+wrong_twice whole rest one set listed named there =
+    let before = listed.walked.before in
+    sym (wrong_by true true before rest one named (sym (listed.known one.text) ∙ there)) ∙ listed.walked.same
 
--- a text has at least as many bytes as arguments
-pub few : (place : ℕ) (text : List ℕ) → length (arguments_at place text) ≤ length text
-unfolding arguments_at
-few place [] = omega arith
-few place (b ∷ text) =
-    counts (is_blank b) (ends_or_blank text) place b (length text) (record { place = place; text = b ∷ [] }) (arguments_at (place + 1) text) (few (place + 1) text)
+-- where none is left nothing is wrong
+pub none_wrong : (whole : List Argument) → Walks whole [] → None ≡ wrong_flag [] whole
+unfolding wrong_flag
+none_wrong whole walked = walked.same
+
+-- a name that is new is walked
+walks_on : (whole rest : List Argument) (one : Argument) (walked : Walks whole (one ∷ rest)) → is_name one.text ≡ true → is_among one.text walked.before ≡ false
+    → wrong_flag (walked.before ++ one ∷ []) rest ≡ wrong_flag [] whole
+walks_on whole rest one walked named new = sym (wrong_by true false walked.before rest one named new) ∙ walked.same
+
+among_more : (before : List Argument) (one : Argument) (text : List ℕ) → is_among text (before ++ one ∷ []) ≡ (is_among text before || bytes_eq one.text text)
+among_more before one text =
+    list_any-append (λ (argument : Argument). bytes_eq argument.text text) before (one ∷ [])
+    ∙ ap (λ (b : Bool). is_among text before || b) (or_false (bytes_eq one.text text))
+  where
+    or_false : (b : Bool) → (b || false) ≡ b
+    or_false true = refl
+    or_false false = refl
+
+-- a flag that comes behind the last one
+pub ascends_next : (whole rest : List Argument) (one : Argument) (last : List ℕ) → Ascends whole (one ∷ rest) last → is_name one.text ≡ true
+    → bytes_below last one.text ≡ true → Ascends whole rest one.text
+ascends_next whole rest one last up named behind = record {
+  walked = record {
+    before = up.walked.before ++ one ∷ [];
+    same = walks_on whole rest one up.walked named (up.new one.text behind);
+  };
+  new = λ text below. among_more up.walked.before one text
+      ∙ ap₂ (λ (a b : Bool). a || b) (up.new text (below-trans last one.text text behind below)) (apart one.text text below);
+}
+
+-- a flag that is not in the set yet
+pub listed_next : (whole rest : List Argument) (one : Argument) (set : List (List ℕ)) → Listed whole (one ∷ rest) set → is_name one.text ≡ true
+    → has_flag set one.text ≡ false → Listed whole rest (with_flag set one.text)
+listed_next whole rest one set listed named new = record {
+  walked = record {
+    before = listed.walked.before ++ one ∷ [];
+    same = walks_on whole rest one listed.walked named (sym (listed.known one.text) ∙ new);
+  };
+  known = λ text. has_flag-with_flag set one.text text
+      ∙ ap (λ (b : Bool). b || bytes_eq one.text text) (listed.known text)
+      ∙ sym (among_more listed.walked.before one text);
+}

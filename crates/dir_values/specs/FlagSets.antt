@@ -53,10 +53,10 @@ wrong_flag before (argument ∷ rest) =
     if is_name argument.text && not (is_among argument.text before) then wrong_flag (before ++ argument ∷ []) rest
     else Some argument.place
 
--- a set, unless something is wrong at a place
-abbrev pub unless_wrong : Option ℕ → List (List ℕ) → Result (List (List ℕ)) ValueRefusal
-unless_wrong None flags = Ok flags
-unless_wrong (Some place) flags = Err (BadValue place)
+-- a value, unless something is wrong at a place
+abbrev pub unless_wrong : {A : Type 0} → Option ℕ → A → Result A ValueRefusal
+unless_wrong None value = Ok value
+unless_wrong (Some place) value = Err (BadValue place)
 
 -- the set of flags that a text spells
 abbrev pub flag_set : List ℕ → Result (List (List ℕ)) ValueRefusal

@@ -1,5 +1,5 @@
 -- What the private functions of this crate say.
-use Rattle.std.specs.Prelude.{ℕ, nat_le, Bool, false, not, ◌&&◌, List, [], ◌∷◌, ◌++◌, slice_get, decimal}
+use Rattle.std.specs.Prelude.{ℕ, ◌-◌, nat_le, Bool, true, false, not, List, [], ◌∷◌, ◌++◌, length, slice_get, decimal}
 use Rattle.std.specs.Prelude.{Option, Some, None, if◌then◌else◌}
 use Rattle.std.specs.Option.{option_map_or}
 use Rattle.std.specs.List.{list_all, prefix_len}
@@ -7,8 +7,7 @@ use Rattle.std.specs.Str.{bytes_eq}
 use Rattle.item_terms.specs.Bytes.{space}
 use Rattle.item_terms.specs.Words.{is_blank}
 use Rattle.dir_values.specs.Digests.{bytes_below}
-use Rattle.dir_values.specs.Arguments.{Argument}
-use Rattle.dir_values.specs.FlagSets.{is_name_byte, is_name, is_among}
+use Rattle.dir_values.specs.FlagSets.{is_name_byte}
 use Rattle.dir_values.specs.declared.port_range.PortRange.{PortRange}
 
 -- how many flags stand before the first that does not come before a flag
@@ -36,9 +35,9 @@ abbrev pub after_text : List (List ℕ) → List ℕ
 after_text [] = []
 after_text (flag ∷ rest) = space ∷ (flag ++ after_text rest)
 
--- whether a text is the name of a flag that is not among some arguments
-abbrev pub is_new_flag : List ℕ → List Argument → Bool
-is_new_flag text before = is_name text && not (is_among text before)
+-- whether each of some ascending flags comes before a flag
+abbrev pub comes_last : List (List ℕ) → List ℕ → Bool
+comes_last flags flag = option_map_or (λ last. bytes_below last flag) (slice_get flags (length flags - 1)) true
 
 -- numbers, each after a space
 abbrev pub after_numbers : List ℕ → List ℕ

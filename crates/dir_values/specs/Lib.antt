@@ -8,3 +8,5 @@ pub mod Taking
 pub mod Names
 pub mod Numbers
 pub mod Ports
+pub mod WordSets
+pub mod Versions

@@ -5,6 +5,7 @@ ghost use Rattle.dir_values.specs.Arguments.{ArgumentsAreWords};
 ghost use Rattle.dir_values.specs.Lending as lending;
 ghost use Rattle.item_terms.specs.Words as words;
 
+use memchr::memchr2;
 use std::marker::Model;
 
 /// An argument, and the place of its first byte.
@@ -80,7 +81,10 @@ fn word_len(text: &[u8]) -> usize
     ensures count { result ≡ lending.word_len text.now }
     ensures within { result ≤ length text.now }
 {
-    text.iter().take_while(|byte| !is_blank(**byte)).count()
+    match memchr2(b' ', b'\t', text) {
+        Some(count) => count,
+        None => text.len(),
+    }
 }
 
 /// A law: the arguments of a text are its words, with their places.

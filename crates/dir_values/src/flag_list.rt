@@ -1,56 +1,65 @@
 // Lists of flags in which something is wrong.
-ghost use Rattle.std.specs.Prelude.{◌≡◌, ◌+◌, ◌<◌, ◌^◌, [], length, take};
+ghost use Rattle.std.specs.Prelude.{◌≡◌, ◌+◌, ◌<◌, ◌^◌, [], IfOk, IfSome, length};
 ghost use Rattle.dir_values.specs.Arguments.{arguments_at};
 ghost use Rattle.dir_values.specs.FlagSets as flag_sets;
 ghost use Rattle.dir_values.specs.Lending as lending;
 
 use crate::arguments::Arguments;
+use crate::word_set::WordSet;
+use dir_bytes::Memory;
+use std::alloc::Global;
 
 /// The place of the first argument of a text, which begins at this place, that is no name of a flag, or that stands in the
-/// text before. None where the text is a list of flags.
-#[tactic(auto, unfolding(crate::specs::FlagSets::wrong_flag))]
-pub fn wrong_flag(place: u64, text: &[u8]) -> Option<u64>
-    requires { place + length text.now < 2 ^ 64 }
-    ensures { result ≡ flag_sets.wrong_flag [] (arguments_at place text.now) }
+/// text before. None where the text is a list of flags. Of flags that ascend it takes no memory.
+pub fn first_wrong_flag(alloc: Global, start: u64, text: &[u8]) -> Result<Option<u64>, Memory>
+    requires { start + length text.now < 2 ^ 64 }
+    ensures { IfOk result (λ wrong. wrong ≡ flag_sets.wrong_flag [] (arguments_at start text.now)) }
 {
-    let mut arguments = Arguments::at(place, text);
-    let mut count = 0u64;
+    match wrong_while_ascending(start, text) {
+        Some(wrong) => Ok(wrong),
+        None => wrong_in_any_order(alloc, start, text),
+    }
+}
+
+/// The same as far as the flags ascend. None where one does not come behind the one before it.
+fn wrong_while_ascending(start: u64, text: &[u8]) -> Option<Option<u64>>
+    requires { start + length text.now < 2 ^ 64 }
+    ensures { IfSome result (λ wrong. wrong ≡ flag_sets.wrong_flag [] (arguments_at start text.now)) }
+{
+    let mut arguments = Arguments::at(start, text);
+    let mut last: &[u8] = b"";
     'arguments: while let Some(argument) = arguments.next() {
-        if !is_new_flag(argument.text, count, place, text) {
-            return Some(argument.place);
+        if !is_name(argument.text) {
+            return Some(Some(argument.place));
         }
-        count += 1;
-    }
-    None
-}
-
-/// Whether a text is the name of a flag, and stands not among the first so many arguments of another, which begins at a place.
-fn is_new_flag(flag: &[u8], count: u64, place: u64, text: &[u8]) -> bool
-    requires { place + length text.now < 2 ^ 64 }
-    ensures { result ≡ lending.is_new_flag flag.now (take count (arguments_at place text.now)) }
-{
-    is_name(flag) && !is_among(flag, count, &mut Arguments::at(place, text))
-}
-
-/// Whether a text is one of the first so many arguments.
-fn is_among(flag: &[u8], count: u64, arguments: &mut Arguments<'_>) -> bool
-    ensures { result ≡ flag_sets.is_among flag.now (take count arguments.old) }
-{
-    let mut left = count;
-    'arguments: while left > 0 {
-        let Some(argument) = arguments.next() else {
-            return false;
-        };
-        if argument.text == flag {
-            return true;
+        if !last.cmp(argument.text).is_lt() {
+            return None;
         }
-        left -= 1;
+        last = argument.text;
     }
-    false
+    Some(None)
 }
 
-/// Whether a text is the name of a flag.
-fn is_name(text: &[u8]) -> bool
+/// The same, whatever the order of the flags.
+fn wrong_in_any_order(alloc: Global, start: u64, text: &[u8]) -> Result<Option<u64>, Memory>
+    requires { start + length text.now < 2 ^ 64 }
+    ensures { IfOk result (λ wrong. wrong ≡ flag_sets.wrong_flag [] (arguments_at start text.now)) }
+{
+    let mut arguments = Arguments::at(start, text);
+    let mut before = WordSet::new(alloc);
+    'arguments: while let Some(argument) = arguments.next() {
+        if !is_name(argument.text) {
+            return Ok(Some(argument.place));
+        }
+        if !before.insert(argument.text)? {
+            return Ok(Some(argument.place));
+        }
+    }
+    Ok(None)
+}
+
+/// Whether a text is the name of a flag: 1 to 64 letters, digits, `-` and `_`.
+pub fn is_name(text: &[u8]) -> bool
     ensures { result ≡ flag_sets.is_name text.now }
 {
     text.len() >= 1 && text.len() <= 64 && has_name_bytes(text)

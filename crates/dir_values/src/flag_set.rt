@@ -1,14 +1,16 @@
 // Sets of flags.
-ghost use Rattle.std.specs.Prelude.{◌≡◌, ◌==◌, ◌+◌, ◌<◌, ◌≤◌, ◌^◌, ◌++◌, [], Some, IsOk, OnOk, OnErr, length, slice_get, vec_len, vec_capacity, take};
+ghost use Rattle.std.specs.Prelude.{◌≡◌, ◌==◌, ◌+◌, ◌<◌, ◌≤◌, ◌^◌, ◌++◌, [], Some, IsOk, OnOk, OnErr, IfOk, length, slice_get, vec_len, vec_capacity, take};
 ghost use Rattle.std.specs.List.{fold};
 ghost use Rattle.dir_values.specs.FlagSets as flag_sets;
 ghost use Rattle.dir_values.specs.Lending as lending;
+ghost use Rattle.dir_values.specs.Arguments.{texts_of};
 ghost use Rattle.dir_values.specs.Refusals.{Reads};
 ghost use Rattle.item_terms.specs.Words.{words_of};
 
 use crate::arguments::Arguments;
-use crate::flag_list::wrong_flag;
+use crate::flag_list::first_wrong_flag;
 use crate::refusal::ValueRefusal;
+use crate::word_set::WordSet;
 use dir_bytes::{Memory, Text};
 use std::alloc::Global;
 use std::marker::Model;
@@ -67,7 +69,7 @@ impl FlagSet {
     pub fn contains(&self, flag: &[u8]) -> bool
         ensures { result ≡ flag_sets.has_flag self.now flag.now }
     {
-        self.flags.iter().any(|other| other.as_bytes() == flag)
+        is_at(&self.flags, place_of(&self.flags, flag), flag)
     }
 
     /// Puts a flag into the set, where it is not there yet. Without memory the set stays as it was.
@@ -88,10 +90,15 @@ impl FlagSet {
     pub fn insert_words(&mut self, alloc: Global, text: &[u8]) -> Result<(), Memory>
         ensures { OnOk result (self.new ≡ fold flag_sets.with_flag self.old (words_of text.now)) }
     {
-        let mut arguments = Arguments::at(0, text);
-        'arguments: while let Some(argument) = arguments.next() {
-            self.insert(alloc, argument.text)?;
-        }
+        put_words(alloc, &mut self.flags, text)
+    }
+
+    /// Puts in each flag of another set. Without memory the set stays as it was.
+    pub fn insert_all(&mut self, alloc: Global, flags: &FlagSet) -> Result<(), Memory>
+        ensures ok { OnOk result (self.new ≡ fold flag_sets.with_flag self.old flags.now) }
+        ensures err { OnErr result (self.new ≡ self.old) }
+    {
+        self.flags = with_flags(alloc, &self.flags, &flags.flags)?;
         Ok(())
     }
 }
@@ -102,7 +109,7 @@ impl FlagSet {
     pub fn read(alloc: Global, text: &[u8]) -> Result<FlagSet, ValueRefusal>
         ensures { Reads (flag_sets.flag_set text.now) result }
     {
-        if let Some(place) = wrong_flag(0, text) {
+        if let Some(place) = first_wrong_flag(alloc, 0, text)? {
             return Err(ValueRefusal::BadValue { place });
         }
         let mut set = FlagSet::new(alloc);
@@ -146,15 +153,13 @@ fn push_flags(flags: &[Text], out: &mut Vec<u8>) -> Result<(), Memory>
     Ok(())
 }
 
-/// How many of the flags come before a flag.
+/// How many of the flags of a set come before a flag. It is found by halves.
 fn place_of(flags: &[Text], flag: &[u8]) -> usize
+    requires { flag_sets.Ascend flags.now }
     ensures count { result ≡ lending.place_of flags.now flag.now }
     ensures within { result ≤ length flags.now }
 {
-    flags
-        .iter()
-        .take_while(|other| other.as_bytes().cmp(flag).is_lt())
-        .count()
+    flags.partition_point(|other| other.as_bytes().cmp(flag).is_lt())
 }
 
 /// Whether a flag stands at a place.
@@ -165,6 +170,64 @@ fn is_at(flags: &[Text], place: usize, flag: &[u8]) -> bool
         Some(other) => other.as_bytes() == flag,
         None => false,
     }
+}
+
+/// Whether each flag of a set comes before a flag.
+fn comes_last(flags: &[Text], flag: &[u8]) -> bool
+    ensures { result ≡ lending.comes_last flags.now flag.now }
+{
+    match flags.last() {
+        Some(last) => last.as_bytes().cmp(flag).is_lt(),
+        None => true,
+    }
+}
+
+/// Puts each word of a text into the flags of a set: behind them as long as the words ascend from there.
+fn put_words(alloc: Global, flags: &mut Vec<Text>, text: &[u8]) -> Result<(), Memory>
+    requires { flag_sets.Ascend flags.old.items }
+    ensures value { OnOk result (flags.new.items ≡ fold flag_sets.with_flag flags.old.items (words_of text.now)) }
+    ensures ascending { flag_sets.Ascend flags.new.items }
+{
+    let mut arguments = Arguments::at(0, text);
+    'arguments: while let Some(argument) = arguments.next() {
+        if !comes_last(flags, argument.text) {
+            *flags = with_arguments(alloc, flags, argument.text, arguments)?;
+            return Ok(());
+        }
+        flags.push(Text::copy_of(alloc, argument.text)?)?;
+    }
+    Ok(())
+}
+
+/// The flags of a set with one more, and with each argument.
+fn with_arguments(
+    alloc: Global,
+    flags: &[Text],
+    flag: &[u8],
+    arguments: Arguments<'_>,
+) -> Result<Vec<Text>, Memory>
+    requires { flag_sets.Ascend flags.now }
+    ensures value { IfOk result (λ texts. texts.items ≡ fold flag_sets.with_flag (flag_sets.with_flag flags.now flag.now) (texts_of arguments.entry)) }
+    ensures ascending { IfOk result (λ texts. flag_sets.Ascend texts.items) }
+{
+    let mut words = WordSet::of(alloc, flags)?;
+    words.insert(flag)?;
+    let mut arguments = arguments;
+    'arguments: while let Some(argument) = arguments.next() {
+        words.insert(argument.text)?;
+    }
+    words.copies(alloc)
+}
+
+/// The flags of a set with each of another.
+fn with_flags(alloc: Global, flags: &[Text], others: &[Text]) -> Result<Vec<Text>, Memory>
+    requires { flag_sets.Ascend flags.now }
+    ensures value { IfOk result (λ texts. texts.items ≡ fold flag_sets.with_flag flags.now others.now) }
+    ensures ascending { IfOk result (λ texts. flag_sets.Ascend texts.items) }
+{
+    let mut words = WordSet::of(alloc, flags)?;
+    words.insert_all(others)?;
+    words.copies(alloc)
 }
 
 /// A set of flags ascends.

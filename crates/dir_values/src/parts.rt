@@ -3,7 +3,7 @@ ghost use Rattle.std.specs.Prelude.{◌≡◌, ◌==◌, ◌<◌, ◌≤◌, len
 ghost use Rattle.std.specs.List.{position_or_len, before_first, after_first, list_any};
 
 /// Whether a byte stands in a text.
-pub(crate) fn has(text: &[u8], byte: u8) -> bool
+pub fn has(text: &[u8], byte: u8) -> bool
     ensures { result ≡ list_any (λ other. other == byte) text.now }
 {
     text.iter().any(|other| *other == byte)
@@ -18,14 +18,14 @@ fn place_of(text: &[u8], byte: u8) -> usize
 }
 
 /// What stands before the first such byte: the whole text, where there is none.
-pub(crate) fn before(text: &[u8], byte: u8) -> &[u8]
+pub fn before(text: &[u8], byte: u8) -> &[u8]
     ensures { result.now ≡ before_first (λ other. other == byte) text.now }
 {
     &text[..place_of(text, byte)]
 }
 
 /// What stands after the first such byte: nothing, where there is none.
-pub(crate) fn after(text: &[u8], byte: u8) -> &[u8]
+pub fn after(text: &[u8], byte: u8) -> &[u8]
     ensures value { result.now ≡ after_first (λ other. other == byte) text.now }
     ensures shorter { 0 < length text.now → length result.now < length text.now }
 {

@@ -1,6 +1,7 @@
 // Texts of values from outside, and what reading and writing them gives.
 use crate::{
-    Digest1, Digest2, Fingerprint, FlagSet, PortSummary, Roster, RosterFault, ValueRefusal,
+    Digest1, Digest2, Fingerprint, FlagSet, PortSummary, Roster, RosterFault, TorVersion,
+    ValueRefusal, compare_named,
 };
 use std::test::Fail;
 
@@ -67,5 +68,15 @@ fn wrong_ports_are_refused_where_they_stand(rt: HostRuntime) -> Result<(), Fail>
     assert_eq!(rt; word, Some(ValueRefusal::BadValue { place: 0 }));
     let missing = PortSummary::read(rt.alloc(), b"accept").err();
     assert_eq!(rt; missing, Some(ValueRefusal::BadValue { place: 6 }));
+    Ok(())
+}
+
+#[test]
+fn versions_are_ordered_by_their_numbers(rt: HostRuntime) -> Result<(), Fail> {
+    assert!(rt; compare_named(b"Tor 0.4.8.9", b"Tor 0.4.8.12").is_lt());
+    assert!(rt; compare_named(b"Tor 0.4.8.12", b"Tor 0.4.8.12-alpha").is_lt());
+    assert!(rt; compare_named(b"Torch 9.9.9", b"Tor 0.0.0").is_lt());
+    assert!(rt; TorVersion::read(b"0.4.8.12.1").is_err());
+    assert!(rt; TorVersion::read(b"0.4.8-").is_err());
     Ok(())
 }

@@ -1,12 +1,11 @@
 use Rattle.std.proofs.Common.{◌≡◌, length}
 use Rattle.std.specs.List.{fold}
-use Rattle.item_terms.specs.Words.{words_of}
 use Rattle.dir_values.specs.Arguments.{texts_of}
 use Rattle.dir_values.specs.FlagSets.{with_flag}
-use Rattle.dir_values.proofs.flag_set.FlagSet.insert_words.Given as goal
+use Rattle.dir_values.proofs.flag_set.with_arguments.Given as goal
 
 abbrev pub invariant-arguments : goal.invariant-arguments
-invariant-arguments l = fold with_flag l.self (texts_of l.arguments) ≡ fold with_flag l.fn.self (words_of l.fn.text)
+invariant-arguments l = fold with_flag l.words (texts_of l.arguments) ≡ fold with_flag (with_flag l.fn.flags l.fn.flag) (texts_of l.fn.arguments)
 
 abbrev pub decreases-arguments : goal.decreases-arguments
 decreases-arguments l = length l.arguments
