@@ -1,0 +1,9 @@
+pub mod Maps
+pub mod Joining
+pub mod PartSteps
+pub mod Bits
+pub mod NumberLists
+pub mod ListedRanges
+pub mod ListedProtocols
+pub mod MapLaws
+pub mod RangeLaws

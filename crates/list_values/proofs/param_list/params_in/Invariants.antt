@@ -1,0 +1,12 @@
+use Rattle.std.proofs.Common.{◌≡◌, length}
+use Rattle.std.specs.List.{fold}
+use Rattle.item_terms.specs.Words.{words_of}
+use Rattle.dir_values.specs.Arguments.{texts_of}
+use Rattle.list_values.specs.Params.{with_param, as_params}
+use Rattle.list_values.proofs.param_list.params_in.Given as goal
+
+abbrev pub invariant-arguments : goal.invariant-arguments
+invariant-arguments l = fold with_param l.map (texts_of l.arguments) ≡ as_params (words_of l.fn.text)
+
+abbrev pub decreases-arguments : goal.decreases-arguments
+decreases-arguments l = length l.arguments

@@ -1,0 +1,11 @@
+use Rattle.std.proofs.Common.{length, map}
+use Rattle.dir_values.specs.Arguments.{arguments_at}
+use Rattle.dir_values.proofs.ListedFlags.{Ascends}
+use Rattle.list_values.specs.Params.{its_name}
+use Rattle.list_values.proofs.param_list.wrong_while_ascending.Given as goal
+
+abbrev pub invariant-arguments : goal.invariant-arguments
+invariant-arguments l = Ascends (map its_name (arguments_at l.start l.text)) (map its_name l.arguments) l.last
+
+abbrev pub decreases-arguments : goal.decreases-arguments
+decreases-arguments l = length l.arguments

@@ -1,0 +1,10 @@
+use Rattle.std.proofs.Common.{ℕ, Option, ap, ◌∙◌}
+use Rattle.std.specs.Prelude.{unwrap_or}
+use Rattle.list_values.specs.Masks.{numbers_of}
+use Rattle.list_values.proofs.ListedProtocols.{numbers_listed}
+use Rattle.list_values.proofs.proto_ranges.mask_at.Goals as goal
+
+pub returns : goal.returns
+returns c =
+    ap numbers_of (c.unwrap_or.ensures ∙ ap (λ (o : Option ℕ). unwrap_or o 0) c.found_mask.ensures)
+    ∙ numbers_listed c.args.items.now c.args.name.now

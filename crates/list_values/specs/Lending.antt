@@ -1,0 +1,37 @@
+-- What the private functions of this crate say.
+use Rattle.std.specs.Prelude.{ℕ, List, [], ◌∷◌, ◌++◌, map, unwrap_or, ℤ, pos, Option}
+use Rattle.std.specs.Borrow.{Bor}
+use Rattle.std.specs.Option.{option_map}
+use Rattle.list_values.specs.declared.named.Named.{Named}
+use Rattle.list_values.specs.declared.number_range.NumberRange.{NumberRange}
+use Rattle.list_values.specs.Maps.{named}
+use Rattle.list_values.specs.NumberSets.{numbers_that, in_ranges}
+use Rattle.list_values.specs.Params.{number_in}
+use Rattle.list_values.specs.Parts.{parts_of}
+use Rattle.list_values.specs.Protocols.{all_of, range_of, ranges_in}
+
+module _ {V : Type 0} where
+  -- the values by the names that are borrowed
+  abbrev pub entries_in : List (Bor (List ℕ) × V) → List (Named V)
+  entries_in entries = map (λ entry. named entry.0.now entry.1) entries
+
+-- the number of the param that a text spells, and 0 of another
+abbrev pub number_or_zero : List ℕ → ℤ
+number_or_zero text = unwrap_or (number_in text) (pos 0)
+
+-- texts, each behind a byte
+abbrev pub behind_each : ℕ → List (List ℕ) → List ℕ
+behind_each separator [] = []
+behind_each separator (text ∷ rest) = separator ∷ (text ++ behind_each separator rest)
+
+-- the numbers of some ranges, if they are there
+abbrev pub numbers_if : Option (List NumberRange) → Option (List ℕ)
+numbers_if ranges = option_map (λ there. numbers_that (in_ranges there)) ranges
+
+-- the numbers that a text lists
+abbrev pub listed_numbers : List ℕ → Option (List ℕ)
+listed_numbers text = numbers_if (ranges_in text)
+
+-- the numbers that the parts of a text list
+abbrev pub part_numbers : List ℕ → Option (List ℕ)
+part_numbers text = numbers_if (all_of (map range_of (parts_of text)))

@@ -1,0 +1,10 @@
+pub mod Maps
+pub mod Lending
+pub mod Equations
+pub mod Params
+pub mod Parts
+pub mod VersionLists
+pub mod NumberSets
+pub mod Protocols
+pub mod Masks
+pub mod Laws
