@@ -4,8 +4,8 @@ ghost use Rattle.dirdoc_grammar.specs.Seen.{seen, IsInside};
 ghost use Rattle.authority_certs.specs.Tables as tables;
 
 use dirdoc_grammar::Item;
-use frame_reader::Frame;
-use frame_terms::{Again, FrameFault, Keyword, Limit, ReadRefusal, Row, Shape, Taken};
+use frame_reader::{Frame, given};
+use frame_terms::{Again, Keyword, Limit, ReadRefusal, Row, Shape, Taken};
 use frame_values::{
     Value, argument_of, at_place, fingerprint_of, has_words, literal, object_of, time_of,
 };
@@ -144,8 +144,8 @@ impl Frame for CertFrame {
         false
     }
 
-    fn value(self, _: &(), kind: CertKind, item: &Item<'_>) -> Result<Value<()>, FrameFault> {
-        at_place(cert_value(kind, item))
+    fn value(self, _: &(), kind: CertKind, item: &Item<'_>) -> Result<Value<()>, ReadRefusal> {
+        given(at_place(cert_value(kind, item)))
     }
 
     fn start(self, _: Global) {}

@@ -17,7 +17,11 @@ pub mod Ends
 pub mod LastRows
 pub mod WrittenRows
 pub mod WordTexts
+pub mod Base64Words
 pub mod Words
 pub mod StandingParts
 pub mod WrittenItems
 pub mod RowValues
+pub mod Passing
+pub mod Groups
+pub mod ManyRows

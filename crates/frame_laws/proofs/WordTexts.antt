@@ -46,7 +46,7 @@ at_index p (b ∷ text) (suc i) d within all =
     at_index p text i d (omega arith) (and_parts (p b) (list_all p text) all).1
 
 -- bytes of arguments are an argument, if there is one
-is_word : (text : List ℕ) → 0 < length text → list_all is_argument_byte text ≡ true → is_argument text ≡ true
+pub is_word : (text : List ℕ) → 0 < length text → list_all is_argument_byte text ≡ true → is_argument text ≡ true
 is_word [] some all = absurd (omega arith)
 is_word (b ∷ text) some all = all
 
@@ -74,7 +74,7 @@ low false false d = omega arith
 glyph : (u : Bool) (d : ℕ) → is_argument_byte (digit_glyph u d) ≡ true
 glyph u d = dark (digit_glyph u d) (low (nat_lt d 10) u d)
 
-abbrev Dark : List ℕ → Type 0
+abbrev pub Dark : List ℕ → Type 0
 Dark text = list_all is_argument_byte text ≡ true
 
 abbrev IsFilled : List ℕ → Type 0
@@ -101,7 +101,7 @@ digits_some (suc k) base n u acc =
 two : (n : ℕ) (text : List ℕ) → Dark text → Dark ((48 + n / 10) ∷ (48 + n % 10) ∷ text)
 two n text all = and_from _ _ (dark (48 + n / 10) (omega arith)) (and_from _ _ (dark (48 + n % 10) (omega arith)) all)
 
-both_dark : (a b : List ℕ) → Dark a → Dark b → Dark (a ++ b)
+pub both_dark : (a b : List ℕ) → Dark a → Dark b → Dark (a ++ b)
 both_dark a b first second = list_all-append is_argument_byte a b ∙ and_from _ _ first second
 
 -- the hex digits
@@ -163,7 +163,7 @@ word_of_clock seconds =
     let minute = two_digits (seconds / 60 % 60) ++ 58 ∷ second in
     two (seconds / 3600) (58 ∷ minute) (two (seconds / 60 % 60) (58 ∷ second) (two (seconds % 60) [] refl))
 
-number_dark : (n : ℕ) → Dark (decimal n)
+pub number_dark : (n : ℕ) → Dark (decimal n)
 number_dark n = bytes_of (decimal n) (word_of_number n)
 
 -- an address

@@ -2,6 +2,7 @@
 ghost use Rattle.std.specs.Prelude.{◌≡◌};
 ghost use Rattle.dirdoc_grammar.specs.Seen.{seen, IsInside};
 ghost use Rattle.frame_terms.specs.Decisions as decisions;
+ghost use Rattle.frame_reader.specs.Giving.{Tells};
 
 use crate::frame::Frame;
 use crate::order::{begins_document, inner, opener};
@@ -68,7 +69,7 @@ fn first_item<F: Frame>(
     keyword: Option<Keyword>,
 ) -> Result<Made<F::Section, F::Value>, ReadRefusal>
     requires { IsInside item.now }
-    ensures { result ≡ decisions.first_item (F.tables frame) across.now (seen item.now) keyword }
+    ensures { Tells (decisions.first_item (F.tables frame) across.now (seen item.now) keyword) result }
 {
     let Some(keyword) = keyword else {
         return Ok(Made::Passes);
@@ -158,7 +159,7 @@ fn made_first<F: Frame>(
     keyword: Option<Keyword>,
 ) -> Result<Made<F::Section, F::Value>, ReadRefusal>
     requires { IsInside item.now }
-    ensures { result ≡ decisions.made_first (F.tables frame) across.now (seen item.now) keyword }
+    ensures { Tells (decisions.made_first (F.tables frame) across.now (seen item.now) keyword) result }
 {
     match beginning_reason(frame, keyword) {
         Some(reason) => Err(refused(item.place, reason)),
@@ -175,7 +176,7 @@ fn made_later<F: Frame>(
     keyword: Option<Keyword>,
 ) -> Result<Made<F::Section, F::Value>, ReadRefusal>
     requires { IsInside item.now }
-    ensures { result ≡ decisions.made_later (F.tables frame) across.now state.now (seen item.now) keyword }
+    ensures { Tells (decisions.made_later (F.tables frame) across.now state.now (seen item.now) keyword) result }
 {
     let taken = state.taken.as_slice();
     match beyond_inner(frame, state.section, taken, &state.around, item, keyword) {
@@ -195,7 +196,7 @@ pub fn made_by<F: Frame>(
     item: &Item<'_>,
 ) -> Result<Made<F::Section, F::Value>, ReadRefusal>
     requires { IsInside item.now }
-    ensures { result ≡ decisions.made_by (F.tables frame) across.now state.now (seen item.now) }
+    ensures { Tells (decisions.made_by (F.tables frame) across.now state.now (seen item.now)) result }
 {
     let keyword = keyword_of(item.keyword);
     if let Some(reason) = not_built_reason(frame, keyword) {

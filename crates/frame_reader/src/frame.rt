@@ -3,6 +3,8 @@ ghost use Rattle.std.specs.Prelude.{◌≡◌};
 ghost use Rattle.dirdoc_grammar.specs.Seen.{seen, IsInside};
 ghost use Rattle.frame_terms.specs.Refusals.{Becomes};
 ghost use Rattle.frame_terms.specs.Tables.{Tables};
+ghost use Rattle.frame_reader.specs.Giving as giving;
+ghost use Rattle.frame_reader.specs.Giving.{Gives};
 
 use dirdoc_grammar::Item;
 use frame_terms::{FrameFault, Keyword, ReadRefusal, Row, Shape, Taken};
@@ -53,15 +55,15 @@ pub trait Frame: Copy {
     /// What an item of a kind says.
     ///
     /// # Errors
-    /// The first thing that is wrong with it, also by what is remembered of the items before it.
+    /// The first thing that is wrong with it, also by what is remembered of the items before it; or want of memory.
     fn value(
         self,
         across: &Self::Across,
         kind: Self::Kind,
         item: &Item<'_>,
-    ) -> Result<Self::Value, FrameFault>
+    ) -> Result<Self::Value, ReadRefusal>
         requires { IsInside item.now }
-        ensures { result ≡ (tables self).value_of across.now kind (seen item.now) };
+        ensures { Gives ((tables self).value_of across.now kind (seen item.now)) result };
 
     /// What is remembered of nothing.
     fn start(self, alloc: Global) -> Self::Across
@@ -73,4 +75,14 @@ pub trait Frame: Copy {
     /// Why the item may not stand behind those before it, or want of memory.
     fn note(self, across: &mut Self::Across, one: &Taken<Self::Value>) -> Result<(), ReadRefusal>
         ensures { Becomes ((tables self).note across.old one.now) across.new result };
+}
+
+/// This value, or this fault as a refusal.
+pub fn given<V>(value: Result<V, FrameFault>) -> Result<V, ReadRefusal>
+    ensures { result ≡ giving.given value }
+{
+    match value {
+        Ok(value) => Ok(value),
+        Err(fault) => Err(ReadRefusal::Frame(fault)),
+    }
 }

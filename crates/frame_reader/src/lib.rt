@@ -10,4 +10,4 @@ mod standing;
 
 pub use decision::{first_fault, made_by};
 pub use document::{Facts, read_document};
-pub use frame::Frame;
+pub use frame::{Frame, given};

@@ -3,6 +3,7 @@ ghost use Rattle.std.specs.Prelude.{◌≡◌, []};
 ghost use Rattle.dirdoc_grammar.specs.Seen.{seen, IsInside};
 ghost use Rattle.frame_terms.specs.Refusals as refusals;
 ghost use Rattle.frame_terms.specs.Sections as sections;
+ghost use Rattle.frame_reader.specs.Giving.{Tells};
 
 use crate::frame::Frame;
 use dirdoc_grammar::Item;
@@ -73,15 +74,13 @@ pub fn accept<F: Frame>(
     item: &Item<'_>,
 ) -> Result<Taken<F::Value>, ReadRefusal>
     requires { IsInside item.now }
-    ensures { result ≡ sections.accept (F.tables frame) across.now row taken.now (seen item.now) }
+    ensures { Tells (sections.accept (F.tables frame) across.now row taken.now (seen item.now)) result }
 {
     if row.count != Count::Many && stands(row.keyword, taken) {
         return Err(refused(item.place, FrameReason::Twice(row.keyword)));
     }
-    match frame.value(across, row.kind, item) {
-        Ok(value) => Ok(taken_of(row.keyword, item, value)),
-        Err(fault) => Err(ReadRefusal::Frame(fault)),
-    }
+    let value = frame.value(across, row.kind, item)?;
+    Ok(taken_of(row.keyword, item, value))
 }
 
 /// An item of this row, which is its section's first.
@@ -92,7 +91,7 @@ pub fn accept_first<F: Frame>(
     item: &Item<'_>,
 ) -> Result<Taken<F::Value>, ReadRefusal>
     requires { IsInside item.now }
-    ensures { result ≡ sections.accept (F.tables frame) across.now row [] (seen item.now) }
+    ensures { Tells (sections.accept (F.tables frame) across.now row [] (seen item.now)) result }
 {
     let none: [Taken<F::Value>; 0] = [];
     accept(frame, across, row, &none, item)

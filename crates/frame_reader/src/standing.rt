@@ -3,6 +3,7 @@ ghost use Rattle.std.specs.Prelude.{◌≡◌};
 ghost use Rattle.dirdoc_grammar.specs.Seen.{seen, IsInside};
 ghost use Rattle.frame_terms.specs.Order as order;
 ghost use Rattle.frame_terms.specs.Standing as standing;
+ghost use Rattle.frame_reader.specs.Giving.{Tells};
 
 use crate::frame::Frame;
 use crate::order::{first_of, following, inner, is_keyword, knows, opened_by, opener, passed_over};
@@ -49,7 +50,7 @@ fn goes_on<F: Frame>(
     again: Again,
 ) -> Result<Made<F::Section, F::Value>, ReadRefusal>
     requires { IsInside item.now }
-    ensures { result ≡ standing.goes_on (F.tables frame) across.now state.now (seen item.now) row again }
+    ensures { Tells (standing.goes_on (F.tables frame) across.now state.now (seen item.now) row again) result }
 {
     if let Again::Nothing = again {
         let one = accept(frame, across, row, state.taken.as_slice(), item)?;
@@ -73,7 +74,7 @@ fn in_section<F: Frame>(
     row: Row<F::Kind>,
 ) -> Result<Made<F::Section, F::Value>, ReadRefusal>
     requires { IsInside item.now }
-    ensures { result ≡ standing.in_section (F.tables frame) across.now state.now (seen item.now) row }
+    ensures { Tells (standing.in_section (F.tables frame) across.now state.now (seen item.now) row) result }
 {
     let taken = state.taken.as_slice();
     if is_keyword(frame.shape(state.section).last, row.keyword) {
@@ -101,7 +102,7 @@ fn elsewhere<F: Frame>(
     keyword: Keyword,
 ) -> Result<Made<F::Section, F::Value>, ReadRefusal>
     requires { IsInside item.now }
-    ensures { result ≡ standing.elsewhere (F.tables frame) across.now state.now (seen item.now) keyword (order.opened_by (F.tables frame) keyword (order.following (F.tables frame) state.now.section)) }
+    ensures { Tells (standing.elsewhere (F.tables frame) across.now state.now (seen item.now) keyword (order.opened_by (F.tables frame) keyword (order.following (F.tables frame) state.now.section))) result }
 {
     let later = following(frame, state.section);
     let Some(other) = opened_by(frame, keyword, later) else {
@@ -129,7 +130,7 @@ pub fn by_keyword<F: Frame>(
     keyword: Option<Keyword>,
 ) -> Result<Made<F::Section, F::Value>, ReadRefusal>
     requires { IsInside item.now }
-    ensures { result ≡ standing.by_keyword (F.tables frame) across.now state.now (seen item.now) keyword }
+    ensures { Tells (standing.by_keyword (F.tables frame) across.now state.now (seen item.now) keyword) result }
 {
     let Some(keyword) = keyword else {
         return Ok(Made::Passes);

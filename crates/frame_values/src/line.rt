@@ -1,13 +1,15 @@
 // What the line of an item says.
-ghost use Rattle.std.specs.Prelude.{◌≡◌};
+ghost use Rattle.std.specs.Prelude.{◌≡◌, IfOk};
 ghost use Rattle.dirdoc_grammar.specs.Seen.{seen, IsInside};
 ghost use Rattle.frame_values.specs.Lines as lines;
 
 use crate::arguments::{arguments_of, take_argument};
 use crate::fields::{any_text, day, field, fingerprint, ip, nickname, second_of_day, span};
 use crate::found::{DirSource, Span};
-use dir_values::{Fingerprint, number_of, port_of, wrong_flag, wrong_number};
+use dir_bytes::Memory;
+use dir_values::{Fingerprint, first_wrong_flag, number_of, port_of, wrong_number};
 use dirdoc_grammar::Item;
+use std::alloc::Global;
 
 /// Where the arguments stand.
 pub fn rest_of(item: &Item<'_>) -> Span
@@ -48,12 +50,16 @@ pub fn numbers_of(item: &Item<'_>) -> Result<Span, u64>
     rest_unless(wrong_number(&mut arguments_of(item)), item)
 }
 
-/// Flags, in any number, none of them twice.
-pub fn flags_of(item: &Item<'_>) -> Result<Span, u64>
+/// Flags, in any number, none of them twice. Of flags that ascend it takes no memory.
+///
+/// # Errors
+/// `Memory` is want of memory.
+pub fn flags_of(alloc: Global, item: &Item<'_>) -> Result<Result<Span, u64>, Memory>
     requires { IsInside item.now }
-    ensures { result ≡ lines.flags_of (seen item.now) }
+    ensures { IfOk result (λ read. read ≡ lines.flags_of (seen item.now)) }
 {
-    rest_unless(wrong_flag(item.start, item.arguments), item)
+    let wrong = first_wrong_flag(alloc, item.start, item.arguments)?;
+    Ok(rest_unless(wrong, item))
 }
 
 /// A date and a time of day: the seconds since 1970-01-01 00:00:00.
