@@ -1,5 +1,5 @@
 -- What a vote says, from its bytes and what was kept of its sections.
-use Rattle.std.specs.Prelude.{◌≡◌, ℕ, ◌<◌, ◌^◌, List, length, slice_range, option_map, Option, unwrap_or}
+use Rattle.std.specs.Prelude.{◌≡◌, ℕ, ◌<◌, ◌^◌, List, length, map, slice_range, option_map, Option, unwrap_or}
 use Rattle.item_terms.specs.Words.{words_of}
 use Rattle.dir_values.specs.FlagSets.{as_set}
 use Rattle.dir_values.specs.declared.algorithm.Algorithm.{Algorithm}
@@ -12,7 +12,9 @@ use Rattle.dir_values.specs.Numbers.{numbers_in}
 use Rattle.vote_terms.specs.Votes.{ReadVote}
 use Rattle.vote_terms.specs.declared.facts.SignatureFacts.{SignatureFacts}
 use Rattle.vote_terms.specs.declared.facts.VoteFacts.{VoteFacts}
+use Rattle.vote_entries.specs.Entries.{entry_in}
 use Rattle.vote_doc.specs.declared.head.Head.{Head}
+use Rattle.vote_doc.specs.declared.kept.Kept.{Kept}
 
 -- the hash of a signature that names this one, or none
 abbrev pub algorithm_of : Option Algorithm → Algorithm
@@ -31,9 +33,9 @@ signature_facts bytes kept = record {
 abbrev pub flags_of : List ℕ → Head → List (List ℕ)
 flags_of bytes head = as_set (words_of (part bytes head.known_flags))
 
--- what the vote says of whose sections this was kept, in these bytes
-abbrev pub facts_of : List ℕ → Head → VoteFacts
-facts_of bytes head = record {
+-- what the vote says of which this was kept, in these bytes
+abbrev pub facts_of : List ℕ → Kept → VoteFacts
+facts_of bytes kept = let head = kept.head in record {
   methods = option_map numbers_in (option_map (part bytes) head.methods);
   published = moment_of head.published;
   valid_after = moment_of head.valid_after;
@@ -51,16 +53,17 @@ facts_of bytes head = record {
   or_port = head.source.or_port;
   contact = option_map (part bytes) head.contact;
   certificate = cert_in bytes head.certificate;
+  entries = map (entry_in bytes) kept.entries;
   signature = signature_facts bytes head.signature;
 }
 
--- the vote of whose sections this was kept, in these bytes
-abbrev pub vote_in : List ℕ → Head → ReadVote
-vote_in bytes head = record {
-  whole = slice_range bytes head.begin head.end;
-  signed = slice_range bytes head.begin head.signed_end;
-  certificate_bytes = whole_part bytes head.certificate;
-  says = facts_of bytes head;
+-- the vote of which this was kept, in these bytes
+abbrev pub vote_in : List ℕ → Kept → ReadVote
+vote_in bytes kept = record {
+  whole = slice_range bytes kept.head.begin kept.head.end;
+  signed = slice_range bytes kept.head.begin kept.head.signed_end;
+  certificate_bytes = whole_part bytes kept.head.certificate;
+  says = facts_of bytes kept;
 }
 
 -- What a vote keeps beside its bytes and what was kept of its sections: its certificate, its signature and its flags as values.

@@ -7,9 +7,9 @@ use Rattle.frame_values.specs.declared.values.Value.{Value}
 use Rattle.authority_certs.specs.Heads as cert
 use Rattle.vote_doc.specs.declared.head.Head.{Head}
 use Rattle.frame_values.specs.Values.{item_at, place_in, after_in, nowhere, number_in, text_if, text_in}
-use Rattle.vote_doc.specs.declared.frame.VoteSection.{VoteSection}
-use Rattle.vote_doc.specs.declared.frame.VoteSection.TheVariants.{Preamble, Authority, Certificate, Entry, Footer}
-use Rattle.vote_doc.specs.declared.frame.VoteValue.{VoteValue}
+use Rattle.vote_frame.specs.declared.frame.VoteSection.{VoteSection}
+use Rattle.vote_frame.specs.declared.frame.VoteSection.TheVariants.{Preamble, Authority, Certificate, Entry, Footer}
+use Rattle.vote_frame.specs.declared.frame.VoteValue.{VoteValue}
 use Rattle.vote_doc.specs.Saying.{delays_in, no_source, source_in, no_signature, signature_in}
 
 -- what is kept where nothing was read

@@ -1,6 +1,6 @@
-pub mod Tables
 pub mod Saying
 pub mod Heads
+pub mod Kept
 pub mod Facts
 pub mod Checks
 pub mod Holdings

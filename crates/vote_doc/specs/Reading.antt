@@ -5,23 +5,23 @@ use Rattle.frame_terms.specs.declared.fault.ReadRefusal.{ReadRefusal}
 use Rattle.frame_terms.specs.Documents.{document_of, finish}
 use Rattle.frame_terms.specs.Refusals.{Fails}
 use Rattle.vote_terms.specs.Votes.{ReadVote}
-use Rattle.vote_doc.specs.declared.head.Head.{Head}
-use Rattle.vote_doc.specs.Heads.{no_head, head_with}
+use Rattle.vote_doc.specs.declared.kept.Kept.{Kept}
+use Rattle.vote_doc.specs.Kept.{none_kept, kept_with}
 use Rattle.vote_doc.specs.Facts.{vote_in}
-use Rattle.vote_doc.specs.Tables.{vote_tables}
+use Rattle.vote_frame.specs.Tables.{vote_tables}
 
 -- how many bytes a vote may have
 abbrev pub max_vote : ℕ
 max_vote = 16777216
 
 -- what the vote says of which this was kept, in the bytes that it has
-abbrev pub with_facts : List ℕ → Result (Head × ℕ) ReadRefusal → Result (ReadVote × ℕ) ReadRefusal
-with_facts bytes (Ok (head, used)) = Ok (vote_in (slice_range bytes 0 used) head, used)
+abbrev pub with_facts : List ℕ → Result (Kept × ℕ) ReadRefusal → Result (ReadVote × ℕ) ReadRefusal
+with_facts bytes (Ok (kept, used)) = Ok (vote_in (slice_range bytes 0 used) kept, used)
 with_facts bytes (Err refusal) = Err refusal
 
 -- the vote that the bytes begin with, and the place after it; or the first fault
 abbrev pub vote_of : List ℕ → Result (ReadVote × ℕ) ReadRefusal
-vote_of bytes = with_facts bytes (finish head_with no_head (document_of vote_tables (length bytes) (items_of max_vote bytes)))
+vote_of bytes = with_facts bytes (finish kept_with none_kept (document_of vote_tables (length bytes) (items_of max_vote bytes)))
 
 -- what reading answers: that vote, which is within the bytes; or the first fault, or want of memory
 abbrev pub ReadsVote : List ℕ → Result (ReadVote × ℕ) ReadRefusal → Type 0

@@ -5,8 +5,8 @@ use Rattle.frame_values.specs.declared.values.Value.{Value}
 use Rattle.frame_values.specs.Values.{own_in, nowhere, no_digest}
 use Rattle.frame_values.specs.declared.found.DirSource.{DirSource}
 use Rattle.frame_values.specs.declared.found.VoteSignature.{VoteSignature}
-use Rattle.vote_doc.specs.declared.frame.VoteValue.{VoteValue}
-use Rattle.vote_doc.specs.declared.frame.VoteValue.TheVariants.{Delays, Source, Signature}
+use Rattle.vote_frame.specs.declared.frame.VoteValue.{VoteValue}
+use Rattle.vote_frame.specs.declared.frame.VoteValue.TheVariants.{Delays, Source, Signature}
 
 -- the two numbers of seconds that a value is, and 0 of another kind
 abbrev pub delays_of_value : Option VoteValue → ℕ × ℕ

@@ -1,18 +1,17 @@
 // What a vote says, in values of its own.
 ghost use Rattle.std.specs.Prelude.{◌≡◌, ◌<◌, ◌^◌, IfOk, length, option_map};
-ghost use Rattle.item_terms.specs.Words.{words_of};
-ghost use Rattle.dir_values.specs.FlagSets.{as_set};
 ghost use Rattle.dir_values.specs.Numbers.{numbers_in};
 ghost use Rattle.frame_values.specs.Parts as parts;
 ghost use Rattle.vote_doc.specs.Facts as facts;
 
-use crate::head::Head;
+use crate::kept::Kept;
 use crate::vote::Vote;
 use authority_certs::cert_at;
 use dir_bytes::{Memory, Seq};
-use dir_values::{Algorithm, FlagSet, numbers_in};
+use dir_values::{Algorithm, numbers_in};
 use frame_values::{Span, VoteSignature, copy_part, copy_part_if, decode_part, moment, part};
 use std::alloc::Global;
+use vote_entries::set_of;
 use vote_terms::{SignatureFacts, VoteFacts};
 
 /// The numbers of a text, where there is one.
@@ -24,19 +23,6 @@ fn numbers_if(alloc: Global, bytes: &[u8], span: Option<Span>) -> Result<Option<
         Some(span) => Ok(Some(numbers_in(alloc, part(bytes, span))?)),
         None => Ok(None),
     }
-}
-
-/// The set of the words of a text.
-///
-/// # Errors
-/// `Memory` is want of memory.
-pub(crate) fn set(alloc: Global, text: &[u8]) -> Result<FlagSet, Memory>
-    requires { length text.now < 2 ^ 62 }
-    ensures { IfOk result (λ set. set ≡ as_set (words_of text.now)) }
-{
-    let mut set = FlagSet::new(alloc);
-    set.insert_words(alloc, text)?;
-    Ok(set)
 }
 
 // The hash of a signature that names this one, or none.
@@ -68,11 +54,12 @@ pub(crate) fn signature(
     })
 }
 
-// What the vote says of whose sections this was kept.
-fn facts_of(alloc: Global, bytes: &[u8], head: &Head) -> Result<VoteFacts, Memory>
+// What the vote says of which this was kept.
+fn facts_of(alloc: Global, bytes: &[u8], kept: &Kept) -> Result<VoteFacts, Memory>
     requires { length bytes.now < 2 ^ 62 }
-    ensures { IfOk result (λ found. found ≡ facts.facts_of bytes.now head.now) }
+    ensures { IfOk result (λ found. found ≡ facts.facts_of bytes.now kept.now) }
 {
+    let head = &kept.head;
     Ok(VoteFacts {
         methods: numbers_if(alloc, bytes, head.methods)?,
         published: moment(head.published),
@@ -81,7 +68,7 @@ fn facts_of(alloc: Global, bytes: &[u8], head: &Head) -> Result<VoteFacts, Memor
         valid_until: moment(head.valid_until),
         vote_seconds: head.vote_seconds,
         dist_seconds: head.dist_seconds,
-        known_flags: set(alloc, part(bytes, head.known_flags))?,
+        known_flags: set_of(alloc, part(bytes, head.known_flags))?,
         flag_thresholds: copy_part_if(alloc, bytes, head.flag_thresholds)?,
         nickname: copy_part(alloc, bytes, head.source.nickname)?,
         identity: head.source.identity,
@@ -91,6 +78,7 @@ fn facts_of(alloc: Global, bytes: &[u8], head: &Head) -> Result<VoteFacts, Memor
         or_port: head.source.or_port,
         contact: copy_part_if(alloc, bytes, head.contact)?,
         certificate: cert_at(alloc, bytes, &head.certificate)?,
+        entries: kept.entries.facts(alloc, bytes)?,
         signature: signature(alloc, bytes, &head.signature)?,
     })
 }
@@ -103,6 +91,6 @@ impl Vote {
     pub fn facts(&self, alloc: Global) -> Result<VoteFacts, Memory>
         ensures { IfOk result (λ found. found ≡ self.now.says) }
     {
-        facts_of(alloc, &self.bytes, &self.head)
+        facts_of(alloc, &self.bytes, &self.kept)
     }
 }

@@ -3,7 +3,6 @@ ghost use Rattle.std.specs.Prelude.{◌≡◌};
 ghost use Rattle.frame_values.specs.Values as values;
 ghost use Rattle.vote_doc.specs.Heads as heads;
 
-use crate::frame::{VoteSection, VoteValue};
 use crate::says::{delays_at, no_signature, no_source, signature_at, source_at};
 use authority_certs::{CertHead, head_of, no_head};
 use frame_terms::{Keyword, Taken};
@@ -11,6 +10,7 @@ use frame_values::{
     DirSource, Span, Value, VoteSignature, after_at, item_at, nowhere, number_at, place_at,
     text_at, text_if,
 };
+use vote_frame::{VoteSection, VoteValue};
 
 /// What a vote's items say, and where its texts stand in its bytes. Moments are seconds since 1970-01-01 00:00:00 UTC.
 #[derive(Clone, Copy, Debug)]

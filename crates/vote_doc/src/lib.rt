@@ -5,9 +5,9 @@ mod accepted;
 mod check;
 mod checked;
 mod facts;
-mod frame;
 mod head;
 mod held;
+mod kept;
 mod reading;
 mod says;
 mod vote;
@@ -16,14 +16,16 @@ pub use accepted::{Accepted, Placed};
 pub use authority_certs::{Cert, CertAnswer};
 pub use check::{VoteRefusal, check_vote};
 pub use checked::CheckedVote;
-pub use frame::{VoteFrame, VoteKind, VoteSection, VoteValue};
 pub use held::HeldVote;
 pub use reading::read;
+pub use relay_entries::EdOpinion;
 pub use vote::Vote;
-pub use vote_terms::{Rank, SignatureFacts, VoteFacts, VoteWord};
+pub use vote_entries::Entry;
+pub use vote_frame::{VoteFrame, VoteKind, VoteSection, VoteValue};
+pub use vote_terms::{EntryFacts, Rank, SignatureFacts, VoteFacts, VoteWord};
 pub use vote_text::write;
 
 #[cfg(test)]
-mod frame_tests;
+mod entry_tests;
 #[cfg(test)]
 mod tests;

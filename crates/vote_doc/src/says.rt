@@ -3,10 +3,10 @@ ghost use Rattle.std.specs.Prelude.{◌≡◌};
 ghost use Rattle.frame_values.specs.Values.{item_at};
 ghost use Rattle.vote_doc.specs.Saying as saying;
 
-use crate::frame::VoteValue;
 use dir_values::{Digest1, Fingerprint};
 use frame_terms::{Keyword, Taken};
 use frame_values::{DirSource, Value, VoteSignature, nowhere, own_at};
+use vote_frame::VoteValue;
 
 /// The seconds for exchanging votes and signatures.
 pub fn delays_at(taken: &[Taken<Value<VoteValue>>]) -> (u32, u32)

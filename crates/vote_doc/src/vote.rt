@@ -1,23 +1,25 @@
 // A vote: its bytes, and where its texts stand.
-ghost use Rattle.std.specs.Prelude.{◌≡◌, ◌≤◌, ◌<◌, ◌^◌, length, option_map};
+ghost use Rattle.std.specs.Prelude.{◌≡◌, ◌≤◌, ◌<◌, ◌^◌, length, option_map, slice_index_or};
 ghost use Rattle.dir_bytes.specs.Causes.{last_moment};
+ghost use Rattle.vote_terms.specs.Entries.{Ascending};
 ghost use Rattle.vote_terms.specs.Votes.{rank_of, vote_digest};
 ghost use Rattle.vote_doc.specs.Facts as facts;
 
-use crate::head::Head;
+use crate::kept::Kept;
 use authority_certs::Cert;
 use dir_values::{Digest1, Digest2, Fingerprint, FlagSet};
 use frame_values::{between, moment, part, part_if};
 use sha1::Sha1;
 use sha2::{Digest, Sha256};
 use std::marker::Model;
+use vote_entries::Entry;
 use vote_terms::{Rank, SignatureFacts};
 
 /// A vote (dir-spec, "Vote and consensus status document formats"). Its texts are slices of its bytes.
 #[derive(Drop)]
 pub struct Vote {
     pub(crate) bytes: Vec<u8>,
-    pub(crate) head: Head,
+    pub(crate) kept: Kept,
     certificate: Cert,
     signature: SignatureFacts,
     known_flags: FlagSet,
@@ -29,26 +31,26 @@ impl Model for Vote {
 
     ghost Value = { ReadVote };
 
-    ghost view = { λ v. vote_in v.bytes.items v.head };
+    ghost view = { λ v. vote_in v.bytes.items v.kept };
 
-    ghost invariant = { λ v. IsKept v.bytes.items v.head v.certificate v.signature v.known_flags };
+    ghost invariant = { λ v. IsKept v.bytes.items v.kept.head v.certificate v.signature v.known_flags };
 }
 
 impl Vote {
-    /// The vote of these bytes, of whose sections this was kept.
+    /// The vote of these bytes, of which this was kept.
     pub(crate) fn new(
         bytes: Vec<u8>,
-        head: Head,
+        kept: Kept,
         certificate: Cert,
         signature: SignatureFacts,
         known_flags: FlagSet,
     ) -> Vote
-        requires { facts.IsKept bytes.items head certificate signature known_flags }
-        ensures { result ≡ facts.vote_in bytes.items head }
+        requires { facts.IsKept bytes.items kept.head certificate signature known_flags }
+        ensures { result ≡ facts.vote_in bytes.items kept }
     {
         Vote {
             bytes,
-            head,
+            kept,
             certificate,
             signature,
             known_flags,
@@ -59,14 +61,14 @@ impl Vote {
     pub fn bytes(&self) -> &[u8]
         ensures { result.now ≡ self.now.whole }
     {
-        between(&self.bytes, self.head.begin, self.head.end)
+        between(&self.bytes, self.kept.head.begin, self.kept.head.end)
     }
 
     /// The part that is signed: from the first item through the one space after `directory-signature`.
     pub fn signed_part(&self) -> &[u8]
         ensures { result.now ≡ self.now.signed }
     {
-        between(&self.bytes, self.head.begin, self.head.signed_end)
+        between(&self.bytes, self.kept.head.begin, self.kept.head.signed_end)
     }
 
     /// The rank: `published`, and the SHA-256 of the bytes.
@@ -91,7 +93,7 @@ impl Vote {
         ensures value { result ≡ self.now.says.published }
         ensures within { result ≤ last_moment }
     {
-        moment(self.head.published)
+        moment(self.kept.head.published)
     }
 
     /// When the period begins that the vote is for, in seconds since 1970-01-01 00:00:00 UTC.
@@ -99,7 +101,7 @@ impl Vote {
         ensures value { result ≡ self.now.says.valid_after }
         ensures within { result ≤ last_moment }
     {
-        moment(self.head.valid_after)
+        moment(self.kept.head.valid_after)
     }
 
     /// Until when the consensus is to be fresh, in seconds since 1970-01-01 00:00:00 UTC.
@@ -107,7 +109,7 @@ impl Vote {
         ensures value { result ≡ self.now.says.fresh_until }
         ensures within { result ≤ last_moment }
     {
-        moment(self.head.fresh_until)
+        moment(self.kept.head.fresh_until)
     }
 
     /// Until when the consensus is to be valid, in seconds since 1970-01-01 00:00:00 UTC.
@@ -115,21 +117,21 @@ impl Vote {
         ensures value { result ≡ self.now.says.valid_until }
         ensures within { result ≤ last_moment }
     {
-        moment(self.head.valid_until)
+        moment(self.kept.head.valid_until)
     }
 
     /// The seconds for exchanging votes.
     pub fn vote_seconds(&self) -> u32
         ensures { result ≡ self.now.says.vote_seconds }
     {
-        self.head.vote_seconds
+        self.kept.head.vote_seconds
     }
 
     /// The seconds for exchanging signatures.
     pub fn dist_seconds(&self) -> u32
         ensures { result ≡ self.now.says.dist_seconds }
     {
-        self.head.dist_seconds
+        self.kept.head.dist_seconds
     }
 
     /// The flags that the vote knows.
@@ -143,56 +145,72 @@ impl Vote {
     pub fn flag_thresholds(&self) -> Option<&[u8]>
         ensures { option_map (λ text. text.now) result ≡ self.now.says.flag_thresholds }
     {
-        part_if(&self.bytes, self.head.flag_thresholds)
+        part_if(&self.bytes, self.kept.head.flag_thresholds)
     }
 
     /// The authority's nickname.
     pub fn nickname(&self) -> &[u8]
         ensures { result.now ≡ self.now.says.nickname }
     {
-        part(&self.bytes, self.head.source.nickname)
+        part(&self.bytes, self.kept.head.source.nickname)
     }
 
     /// The authority's identity.
     pub fn identity(&self) -> Fingerprint
         ensures { result ≡ self.now.says.identity }
     {
-        self.head.source.identity
+        self.kept.head.source.identity
     }
 
     /// The name of the authority's host.
     pub fn address(&self) -> &[u8]
         ensures { result.now ≡ self.now.says.address }
     {
-        part(&self.bytes, self.head.source.address)
+        part(&self.bytes, self.kept.head.source.address)
     }
 
     /// The authority's IPv4 address, its first byte highest.
     pub fn ip(&self) -> u32
         ensures { result ≡ self.now.says.ip }
     {
-        self.head.source.ip
+        self.kept.head.source.ip
     }
 
     /// The authority's directory port.
     pub fn dir_port(&self) -> u16
         ensures { result ≡ self.now.says.dir_port }
     {
-        self.head.source.dir_port
+        self.kept.head.source.dir_port
     }
 
     /// The authority's onion router port.
     pub fn or_port(&self) -> u16
         ensures { result ≡ self.now.says.or_port }
     {
-        self.head.source.or_port
+        self.kept.head.source.or_port
     }
 
     /// The text of the `contact` line, where there is one.
     pub fn contact(&self) -> Option<&[u8]>
         ensures { option_map (λ text. text.now) result ≡ self.now.says.contact }
     {
-        part_if(&self.bytes, self.head.contact)
+        part_if(&self.bytes, self.kept.head.contact)
+    }
+
+    /// How many entries there are.
+    pub fn len(&self) -> usize
+        ensures value { result ≡ length self.now.says.entries }
+        ensures ascending { Ascending self.now.says.entries }
+    {
+        self.kept.entries.len()
+    }
+
+    /// An entry, by its number from 0.
+    pub fn entry(&self, i: usize) -> Entry<'_>
+        requires { i < length self.now.says.entries }
+        ensures { result ≡ slice_index_or self.now.says.entries i result }
+    {
+        self.kept.entries.entry(&self.bytes, i)
     }
 
     /// The authority's certificate.
@@ -206,7 +224,7 @@ impl Vote {
     pub fn certificate_bytes(&self) -> &[u8]
         ensures { result.now ≡ self.now.certificate_bytes }
     {
-        let certificate = &self.head.certificate;
+        let certificate = &self.kept.head.certificate;
         between(&self.bytes, certificate.begin, certificate.end)
     }
 

@@ -26,17 +26,19 @@ use Rattle.vote_terms.specs.declared.facts.VoteFacts.{VoteFacts}
 use Rattle.vote_text.specs.Texts.{vote_text}
 use Rattle.vote_doc.specs.Facts.{facts_of, vote_in}
 use Rattle.vote_doc.specs.Reading.{max_vote}
-use Rattle.vote_doc.specs.Tables.{vote_tables}
-use Rattle.vote_doc.specs.declared.frame.VoteKind.TheVariants as kind
-use Rattle.vote_doc.specs.declared.frame.VoteSection.TheVariants.{Certificate}
-use Rattle.vote_doc.specs.declared.frame.VoteValue.{VoteValue}
+use Rattle.vote_frame.specs.Tables.{vote_tables}
+use Rattle.vote_frame.specs.declared.frame.VoteKind.TheVariants as kind
+use Rattle.vote_frame.specs.declared.frame.VoteSection.TheVariants.{Certificate}
+use Rattle.vote_frame.specs.declared.frame.VoteValue.{VoteValue}
 use Rattle.vote_laws.specs.Again.{IsInRange, IsReadBack, VotesAreReadAgain, as_read}
+use Rattle.vote_laws.proofs.EntryKept.{entries_say}
 use Rattle.vote_laws.proofs.VoteItems.{VoteEntry, signature_entry}
-use Rattle.vote_laws.proofs.VoteRead.{authority_place, begins_at, certificate_place, closed, footer_place, vote_head}
-use Rattle.vote_laws.proofs.VoteRead.{used_of, vote_end, vote_read}
+use Rattle.vote_laws.proofs.VotePlaces.{authority_place, certificate_place, entries_place, footer_place, vote_end}
+use Rattle.vote_laws.proofs.VotePlaces.{vote_kept}
+use Rattle.vote_laws.proofs.VoteRead.{begins_at, closed, used_of, vote_read}
 use Rattle.vote_laws.proofs.VoteRows.{authority, authority_written, certificate_row, footer, footer_ended}
-use Rattle.vote_laws.proofs.VoteRows.{footer_entries, has_certificate, in_cert, preamble, preamble_written}
-use Rattle.vote_laws.proofs.VoteRows.{signature_row, vote_entries, vote_same}
+use Rattle.vote_laws.proofs.VoteRows.{has_certificate, preamble, preamble_written, signature_row}
+use Rattle.vote_laws.proofs.VoteSame.{footer_entries, in_cert, in_list, vote_entries, vote_same}
 use Rattle.vote_laws.proofs.VoteSigned.{signed_is}
 use Rattle.vote_laws.proofs.VoteSays.{delays_said, flags_said, methods_said, signature_said, source_said}
 
@@ -58,7 +60,7 @@ certificate_stands facts =
     let p = entries_in (preamble facts) in
     let a = entries_in (authority facts) in
     let c = in_cert facts in
-    let f = footer_entries facts in
+    let f = in_list facts ++ footer_entries facts in
     let before = text_of_entries (p ++ a) in
     let cert = cert_text facts.certificate in
     let shape : vote_text facts ≡ before ++ (cert ++ text_of_entries f) =
@@ -75,22 +77,24 @@ certificate_stands facts =
     ∙ between_stands before cert (text_of_entries f)
 
 -- what is kept says what the vote says
-kept_says : (facts : VoteFacts) → IsInRange facts → facts_of (vote_text facts) (vote_head facts) ≡ as_read facts
+kept_says : (facts : VoteFacts) → IsInRange facts → facts_of (vote_text facts) (vote_kept facts) ≡ as_read facts
 unfolding same
 kept_says facts are =
     let text = vote_text facts in
     let p = entries_in (preamble facts) in
     let a = entries_in (authority facts) in
     let c = in_cert facts in
+    let e = in_list facts in
     let f = footer_entries facts in
     let one : VoteEntry = certificate_version in
     let at_a = authority_place facts in
-    let from_p = both_stand max_vote text 0 p (a ++ (c ++ f)) (all_stand facts are) in
-    let from_a = both_stand max_vote text at_a a (c ++ f) from_p.back in
-    let from_c = both_stand max_vote text (certificate_place facts) c f from_a.back in
+    let from_p = both_stand max_vote text 0 p (a ++ (c ++ (e ++ f))) (all_stand facts are) in
+    let from_a = both_stand max_vote text at_a a (c ++ (e ++ f)) from_p.back in
+    let from_c = both_stand max_vote text (certificate_place facts) c (e ++ f) from_a.back in
+    let from_e = both_stand max_vote text (entries_place facts) e f from_c.back in
     let rest : List VoteEntry =
     entries_of (certificate_rows kind.Certificate facts.certificate) ++ certification facts.certificate ∷ [] in
-    let more = rest ++ f in
+    let more = rest ++ (e ++ f) in
     let to_one = (both_stand max_vote text at_a (entries_to (authority facts) one) more
     (subst (λ (l : List VoteEntry). Stand max_vote text at_a l)
     (sym (append_assoc a (one ∷ []) more)) from_p.back)).front in
@@ -102,7 +106,7 @@ kept_says facts are =
     (authority_written facts are) refl max_vote text to_one in
     let footer_read =
     section_to_is_read vote_tables (footer_place facts) footer signature_row
-    (signature_entry facts.signature) ended.written refl max_vote text from_c.back in
+    (signature_entry facts.signature) ended.written refl max_vote text from_e.back in
     let delays = delays_said facts (row_read the.VotingDelay preamble_read refl) in
     let source = source_said facts (row_read the.DirSource authority_read refl) in
     let certificate =
@@ -127,6 +131,8 @@ kept_says facts are =
       or_port = source.or_port i;
       contact = text_if_said _ facts.contact (row_read the.Contact authority_read refl) i;
       certificate = certificate i;
+      entries =
+          entries_say max_vote text (entries_place facts) facts.entries are.entries.each from_e.front i;
       signature = signature_said facts.signature (row_read the.DirectorySignature footer_read refl) i;
     }
 
@@ -139,13 +145,13 @@ whole_of text begin end first last =
     ap (λ (k : ℕ). take k (drop begin text)) count ∙ ap (λ (k : ℕ). take (length text) (drop k text)) first
     ∙ take-length text
 
-ends_at : (facts : VoteFacts) → (vote_head facts).end ≡ vote_end facts
+ends_at : (facts : VoteFacts) → (vote_kept facts).head.end ≡ vote_end facts
 unfolding same
 ends_at facts = refl
 
-kept_whole : (facts : VoteFacts) → (vote_in (vote_text facts) (vote_head facts)).whole ≡ vote_text facts
+kept_whole : (facts : VoteFacts) → (vote_in (vote_text facts) (vote_kept facts)).whole ≡ vote_text facts
 kept_whole facts =
-    whole_of (vote_text facts) (vote_head facts).begin (vote_head facts).end (begins_at facts)
+    whole_of (vote_text facts) (vote_kept facts).head.begin (vote_kept facts).head.end (begins_at facts)
     (ends_at facts ∙ used_of facts)
 
 -- and are no more than a vote may have
@@ -154,15 +160,18 @@ vote_fits facts are =
     let p = entries_in (preamble facts) in
     let a = entries_in (authority facts) in
     let c = in_cert facts in
+    let e = in_list facts in
     let f = footer_entries facts in
-    let from_a = both_stand max_vote (vote_text facts) 0 p (a ++ (c ++ f)) (all_stand facts are) in
-    let from_c = both_stand max_vote (vote_text facts) (authority_place facts) a (c ++ f) from_a.back in
-    let from_f = both_stand max_vote (vote_text facts) (certificate_place facts) c f from_c.back in
+    let text = vote_text facts in
+    let from_a = both_stand max_vote text 0 p (a ++ (c ++ (e ++ f))) (all_stand facts are) in
+    let from_c = both_stand max_vote text (authority_place facts) a (c ++ (e ++ f)) from_a.back in
+    let from_e = both_stand max_vote text (certificate_place facts) c (e ++ f) from_c.back in
+    let from_f = both_stand max_vote text (entries_place facts) e f from_e.back in
     from_f.back.writable.1.0.within
 
 pub votes_again : VotesAreReadAgain
 votes_again facts rest are =
-    let vote = vote_in (vote_text facts) (vote_head facts) in
+    let vote = vote_in (vote_text facts) (vote_kept facts) in
     let back : IsReadBack facts vote = record {
       says = kept_says facts are;
       whole = kept_whole facts;

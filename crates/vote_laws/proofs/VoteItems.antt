@@ -28,16 +28,19 @@ use Rattle.frame_laws.proofs.Entries.{AlwaysSuits, Entry, item_of}
 use Rattle.frame_laws.proofs.RowCounts.{said_once}
 use Rattle.frame_laws.proofs.RowValues.{moment_entry, own_entry, row_if, said_any_if, text_entry, silent_entry}
 use Rattle.frame_laws.proofs.SaidRows.{IsSaid, RowSays, row_once}
+use Rattle.frame_laws.proofs.Sections.{Section}
 use Rattle.frame_laws.proofs.WrittenItems.{literal-written, start_of, time-written}
 use Rattle.vote_terms.specs.declared.facts.SignatureFacts.{SignatureFacts}
 use Rattle.vote_terms.specs.declared.facts.VoteFacts.{VoteFacts}
 use Rattle.vote_text.specs.Texts.{delays_text, signer_text, source_text}
 use Rattle.dir_values.specs.Numbers.{numbers_text}
-use Rattle.vote_doc.specs.Tables.{over_limit, value_at, vote_tables}
-use Rattle.vote_doc.specs.declared.frame.VoteKind.{VoteKind}
-use Rattle.vote_doc.specs.declared.frame.VoteKind.TheVariants as kind
-use Rattle.vote_doc.specs.declared.frame.VoteValue.{VoteValue}
-use Rattle.vote_doc.specs.declared.frame.VoteValue.TheVariants as own
+use Rattle.relay_entries.specs.declared.listed.Listed.{Listed}
+use Rattle.vote_frame.specs.Tables.{ignores, over_limit, value_at, vote_tables}
+use Rattle.vote_frame.specs.declared.frame.VoteKind.{VoteKind}
+use Rattle.vote_frame.specs.declared.frame.VoteKind.TheVariants as kind
+use Rattle.vote_frame.specs.declared.frame.VoteSection.{VoteSection}
+use Rattle.vote_frame.specs.declared.frame.VoteValue.{VoteValue}
+use Rattle.vote_frame.specs.declared.frame.VoteValue.TheVariants as own
 use Rattle.vote_laws.specs.Again.{AreFlags, AreMethods, IsInRange}
 use Rattle.vote_laws.proofs.WrittenValues.{delays-written, flags-written, length-flags, length-numbers, numbers-written}
 use Rattle.vote_laws.proofs.WrittenValues.{signature-written, signature_at, source-written, source_at}
@@ -49,6 +52,10 @@ VoteEntry = Entry (Value VoteValue)
 abbrev pub VoteRow : Type 0
 VoteRow = RowSays VoteKind (Value VoteValue)
 
+-- a section of a vote
+abbrev pub VotePart : Type 0
+VotePart = Section VoteSection VoteKind (Value VoteValue)
+
 -- an item suits its row
 abbrev pub SuitsVote : Row VoteKind → VoteEntry → Type 0
 SuitsVote row entry = AlwaysSuits vote_tables row entry
@@ -57,17 +64,18 @@ SuitsVote row entry = AlwaysSuits vote_tables row entry
 abbrev says : {A : Type 0} → (A → Value VoteValue) → Result A ℕ → Result (Value VoteValue) ℕ
 says of read = next read (λ found. Ok (of found))
 
--- an item that passes no limit and has this value suits its row
-suits : (keyword : Keyword) (count : Count) (of : VoteKind) (entry : VoteEntry) → keyword ≡ entry.keyword
-    → ((p : ℕ) → over_limit of (written p (item_of entry)) ≡ Ok tt)
+-- an item that is not passed over, passes no limit and has this value suits its row
+pub suits : (keyword : Keyword) (count : Count) (of : VoteKind) (entry : VoteEntry) → keyword ≡ entry.keyword
+    → ((p : ℕ) → ignores of (written p (item_of entry)) ≡ false)
+    → ((listed : Listed) (p : ℕ) → over_limit listed of (written p (item_of entry)) ≡ Ok tt)
     → ((p : ℕ) → value_at of (written p (item_of entry)) ≡ Ok (entry.value p))
     → SuitsVote (row keyword count of) entry
-suits keyword count of entry named within says_ = λ across p. record {
+suits keyword count of entry named known_ within says_ = λ listed p. record {
   keyword = named;
-  known = refl;
+  known = known_ p;
   value =
       ap (λ (r : Result (Unit {0}) FrameFault). unless_fault r (at_place (value_at of (written p (item_of entry)))))
-      (within p)
+      (within listed p)
       ∙ ap at_place (says_ p);
 }
 
@@ -75,16 +83,18 @@ suits keyword count of entry named within says_ = λ across p. record {
 
 pub suits_version : (keyword : Keyword) → SuitsVote (row keyword One kind.Version) (silent_entry keyword (codes "3"))
 suits_version keyword =
-    suits keyword One kind.Version (silent_entry keyword (codes "3")) refl (λ p. refl)
+    suits keyword One kind.Version (silent_entry keyword (codes "3")) refl (λ p. refl) (λ listed p. refl)
     (λ p. ap (says (λ _. value.Nothing)) (literal-written p keyword (codes "3") refl refl))
 
 pub suits_status : SuitsVote (row the.VoteStatus One kind.Status) (silent_entry the.VoteStatus (codes "vote"))
 suits_status =
     suits the.VoteStatus One kind.Status (silent_entry the.VoteStatus (codes "vote")) refl (λ p. refl)
+    (λ listed p. refl)
     (λ p. ap (says (λ _. value.Nothing)) (literal-written p the.VoteStatus (codes "vote") refl refl))
 
 pub suits_nothing : (keyword : Keyword) → SuitsVote (row keyword One kind.Nothing) (silent_entry keyword [])
-suits_nothing keyword = suits keyword One kind.Nothing (silent_entry keyword []) refl (λ p. refl) (λ p. refl)
+suits_nothing keyword =
+    suits keyword One kind.Nothing (silent_entry keyword []) refl (λ p. refl) (λ listed p. refl) (λ p. refl)
 
 -- a moment
 abbrev pub moment_row : Keyword → ℕ → VoteRow
@@ -93,13 +103,14 @@ moment_row keyword moment = row_once (row keyword One kind.Time) (moment_entry k
 pub said_moment : (keyword : Keyword) (moment : ℕ) → IsSaid vote_tables (moment_row keyword moment)
 said_moment keyword moment =
     said_once vote_tables (row keyword One kind.Time) (moment_entry keyword moment)
-    (suits keyword One kind.Time (moment_entry keyword moment) refl (λ p. refl)
+    (suits keyword One kind.Time (moment_entry keyword moment) refl (λ p. refl) (λ listed p. refl)
     (λ p. ap (says (λ (number : ℕ). value.Number number)) (time-written p keyword moment)))
 
 -- the rest of a line, whatever it is
 pub suits_rest : (keyword : Keyword) (count : Count) (text : List ℕ)
     → SuitsVote (row keyword count kind.Rest) (text_entry keyword text)
-suits_rest keyword count text = suits keyword count kind.Rest (text_entry keyword text) refl (λ p. refl) (λ p. refl)
+suits_rest keyword count text =
+    suits keyword count kind.Rest (text_entry keyword text) refl (λ p. refl) (λ listed p. refl) (λ p. refl)
 
 -- the same or none
 abbrev pub rest_if : Keyword → Option (List ℕ) → VoteRow
@@ -133,8 +144,8 @@ pub suits_methods : (methods : List ℕ) → AreMethods methods
     (text_entry the.ConsensusMethods (numbers_text methods))
 suits_methods methods are =
     let k = the.ConsensusMethods in
-    suits k Optional kind.Methods (text_entry k (numbers_text methods)) refl
-    (λ p. few limit.Methods (written p (bare k (numbers_text methods))) (length methods)
+    suits k Optional kind.Methods (text_entry k (numbers_text methods)) refl (λ p. refl)
+    (λ listed p. few limit.Methods (written p (bare k (numbers_text methods))) (length methods)
     (length-numbers p k methods) are.count)
     (λ p. ap (says (λ (text : Span). value.Text text)) (numbers-written p k methods are.each))
 
@@ -142,8 +153,8 @@ pub suits_flags : (flags : List (List ℕ)) → AreFlags flags
     → SuitsVote (row the.KnownFlags One kind.KnownFlags) (text_entry the.KnownFlags (set_text flags))
 suits_flags flags are =
     let k = the.KnownFlags in
-    suits k One kind.KnownFlags (text_entry k (set_text flags)) refl
-    (λ p. few limit.KnownFlags (written p (bare k (set_text flags))) (length flags)
+    suits k One kind.KnownFlags (text_entry k (set_text flags)) refl (λ p. refl)
+    (λ listed p. few limit.KnownFlags (written p (bare k (set_text flags))) (length flags)
     (length-flags p k flags are.each) are.count)
     (λ p. ap (says (λ (text : Span). value.Text text)) (flags-written p k flags are.ascend are.each))
 
@@ -157,7 +168,7 @@ delays_entry facts =
 pub suits_delays : (facts : VoteFacts) → IsInRange facts
     → SuitsVote (row the.VotingDelay One kind.Delays) (delays_entry facts)
 suits_delays facts are =
-    suits the.VotingDelay One kind.Delays (delays_entry facts) refl (λ p. refl)
+    suits the.VotingDelay One kind.Delays (delays_entry facts) refl (λ p. refl) (λ listed p. refl)
     (λ p. ap (says (λ (delays : ℕ × ℕ). value.Own (own.Delays delays.0 delays.1)))
     (delays-written p the.VotingDelay facts are.vote_seconds are.dist_seconds))
 
@@ -170,7 +181,7 @@ source_entry facts =
 pub suits_source : (facts : VoteFacts) → IsInRange facts
     → SuitsVote (row the.DirSource One kind.Source) (source_entry facts)
 suits_source facts are =
-    suits the.DirSource One kind.Source (source_entry facts) refl (λ p. refl)
+    suits the.DirSource One kind.Source (source_entry facts) refl (λ p. refl) (λ listed p. refl)
     (λ p. ap (says (λ (source : DirSource). value.Own (own.Source source)))
     (source-written p the.DirSource facts are.nickname are.identity.count are.identity.each are.address are.ip
     are.dir_port are.or_port))
@@ -187,6 +198,6 @@ signature_entry s = record {
 pub suits_signature : (s : SignatureFacts) → AreTwenty s.identity.0 → AreTwenty s.key_digest.0
     → SuitsVote (row the.DirectorySignature One kind.Signature) (signature_entry s)
 suits_signature s identity key =
-    suits the.DirectorySignature One kind.Signature (signature_entry s) refl (λ p. refl)
+    suits the.DirectorySignature One kind.Signature (signature_entry s) refl (λ p. refl) (λ listed p. refl)
     (λ p. ap (says (λ (signature : VoteSignature). value.Own (own.Signature signature)))
     (signature-written p the.DirectorySignature s identity.count identity.each key.count key.each))

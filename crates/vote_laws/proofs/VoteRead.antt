@@ -9,113 +9,65 @@ use Rattle.item_terms.specs.declared.fault.DocFault.{DocFault}
 use Rattle.dirdoc_laws.proofs.ItemsAgain.{items_again}
 use Rattle.dirdoc_grammar.specs.Writing.{NewItem, all_written, in_front, is_open, items_text, lacks_object, written}
 use Rattle.frame_terms.specs.Decisions.{made_by}
-use Rattle.frame_terms.specs.Documents.{Document, document_of, finish, group, onto, read_items, start}
+use Rattle.frame_terms.specs.Documents.{document_of, finish, group, onto, read_items, start}
 use Rattle.frame_terms.specs.Keywords.{same}
 use Rattle.frame_terms.specs.Sections.{lacking}
+use Rattle.frame_terms.specs.declared.document.Group.{Group}
 use Rattle.frame_terms.specs.declared.document.Made.TheVariants.{Enters}
-use Rattle.frame_terms.specs.declared.document.Taken.{Taken}
 use Rattle.frame_terms.specs.declared.fault.ReadRefusal.{ReadRefusal}
 use Rattle.frame_terms.specs.declared.keyword.Keyword.TheVariants as the
 use Rattle.frame_values.specs.declared.values.Value.{Value}
-use Rattle.frame_laws.proofs.Ends.{end_read, end_with, entering, first_ends, inside_read, taken_to, taken_to-parts}
+use Rattle.frame_laws.proofs.Ends.{entering, first_ends, inside_read, taken_to-parts}
 use Rattle.frame_laws.proofs.Entries.{after_one, item_of, taken_at}
 use Rattle.frame_laws.proofs.Following.{first_read, section_read}
+use Rattle.frame_laws.proofs.Groups.{groups_in}
 use Rattle.frame_laws.proofs.LastRows.{section_to_whole}
-use Rattle.frame_laws.proofs.Places.{after_all, after_all-append, both_written}
-use Rattle.frame_laws.proofs.Remembered.{Notes, notes_nothing}
-use Rattle.frame_laws.proofs.Sections.{end_of, entries_in, others_in, section_before_last, section_whole, taken_in}
+use Rattle.frame_laws.proofs.Passing.{notes_passing}
+use Rattle.frame_laws.proofs.Places.{after_all-append, both_written}
+use Rattle.frame_laws.proofs.Sections.{entries_in, others_in, section_before_last, section_whole, taken_in}
 use Rattle.frame_laws.proofs.Steps.{opening}
 use Rattle.frame_laws.proofs.WrittenRows.{ends_with_text, is_closed}
-use Rattle.certificate_laws.proofs.CertRows.{cert_taken, certificate, certificate_ended, certificate_version}
-use Rattle.certificate_laws.proofs.CertRows.{certification, last_row}
+use Rattle.certificate_laws.proofs.CertRows.{certificate, certificate_ended, certificate_version, certification}
+use Rattle.certificate_laws.proofs.CertRows.{last_row}
 use Rattle.certificate_laws.proofs.CertSays.{cert_ends}
+use Rattle.relay_entries.specs.Listing.{none_listed}
 use Rattle.vote_terms.specs.Votes.{ReadVote}
 use Rattle.vote_terms.specs.declared.facts.SignatureFacts.{SignatureFacts}
 use Rattle.vote_terms.specs.declared.facts.VoteFacts.{VoteFacts}
 use Rattle.vote_text.specs.Texts.{vote_items, vote_text}
 use Rattle.vote_doc.specs.Facts.{vote_in}
-use Rattle.vote_doc.specs.Heads.{head_with, no_head, with_authority, with_certificate, with_footer, with_preamble}
+use Rattle.vote_doc.specs.Kept.{kept_with, none_kept}
 use Rattle.vote_doc.specs.Reading.{max_vote, vote_of, with_facts}
-use Rattle.vote_doc.specs.Tables.{vote_tables}
-use Rattle.vote_doc.specs.declared.frame.VoteKind.TheVariants as kind
-use Rattle.vote_doc.specs.declared.frame.VoteSection.{VoteSection}
-use Rattle.vote_doc.specs.declared.frame.VoteSection.TheVariants.{Authority, Certificate, Footer, Preamble}
-use Rattle.vote_doc.specs.declared.frame.VoteValue.{VoteValue}
-use Rattle.vote_doc.specs.declared.head.Head.{Head}
+use Rattle.vote_doc.specs.declared.kept.Kept.{Kept}
+use Rattle.vote_frame.specs.Tables.{vote_tables}
+use Rattle.vote_frame.specs.declared.frame.VoteKind.TheVariants as kind
+use Rattle.vote_frame.specs.declared.frame.VoteSection.{VoteSection}
+use Rattle.vote_frame.specs.declared.frame.VoteSection.TheVariants.{Authority, Certificate, Footer, Preamble}
+use Rattle.vote_frame.specs.declared.frame.VoteValue.{VoteValue}
 use Rattle.vote_laws.specs.Again.{IsInRange}
-use Rattle.vote_laws.proofs.VoteItems.{VoteEntry, signature_entry, suits_nothing, suits_source, suits_version}
-use Rattle.vote_laws.proofs.VoteRows.{VotePart, authority, authority_follows, authority_written, certificate_row}
-use Rattle.vote_laws.proofs.VoteRows.{footer, footer_ended, footer_entries, footer_follows, has_certificate, in_cert}
-use Rattle.vote_laws.proofs.VoteRows.{preamble, preamble_first, preamble_written, signature_row, vote_entries}
-use Rattle.vote_laws.proofs.VoteRows.{vote_same}
-
--- what was taken of a section, and a document of them
-abbrev VoteTaken : Type 0
-VoteTaken = Taken (Value VoteValue)
-
-abbrev VoteDocument : Type 0
-VoteDocument = Document VoteSection (Value VoteValue)
-
--- a vote's frame remembers nothing
-notes : (taken : List VoteTaken) → Notes vote_tables tt taken tt
-notes taken = notes_nothing vote_tables (λ across one. refl) tt taken
+use Rattle.vote_laws.proofs.Heard.{forgotten, is_quiet}
+use Rattle.vote_laws.proofs.VoteItems.{VoteEntry, VotePart, signature_entry, suits_source, suits_version}
+use Rattle.vote_laws.proofs.VotePlaces.{VoteDocument, VoteTaken, all_kept, authority_place, certificate_place}
+use Rattle.vote_laws.proofs.VotePlaces.{entries_place, in_certificate, in_footer, in_preamble, section_quiet}
+use Rattle.vote_laws.proofs.VotePlaces.{section_to_quiet, sections_of, vote_document, vote_end, vote_kept}
+use Rattle.vote_laws.proofs.VoteRows.{authority, authority_follows, authority_written, certificate_row, footer}
+use Rattle.vote_laws.proofs.VoteRows.{has_certificate, preamble, preamble_first, preamble_written}
+use Rattle.vote_laws.proofs.VoteSame.{footer_entries, in_cert, in_list, vote_entries, vote_same}
+use Rattle.vote_laws.proofs.VoteTail.{tail_read}
 
 -- the certificate in its section
 abbrev in_section : VoteFacts → VotePart
 in_section facts = certificate Certificate kind.Certificate facts.certificate
 
--- ---- where its sections begin, and what is taken of them
-
-abbrev pub authority_place : VoteFacts → ℕ
-authority_place facts = end_of 0 (preamble facts)
-
-abbrev pub certificate_place : VoteFacts → ℕ
-certificate_place facts = end_of (authority_place facts) (authority facts)
-
-abbrev pub footer_place : VoteFacts → ℕ
-footer_place facts = after_all (certificate_place facts) (in_cert facts)
-
--- where it ends
-abbrev pub vote_end : VoteFacts → ℕ
-vote_end facts = end_with (footer_place facts) footer (signature_entry facts.signature)
-
-abbrev pub in_preamble : VoteFacts → List VoteTaken
-in_preamble facts = taken_in 0 (preamble facts)
-
--- the certificate's first item is one of the authority's too
-abbrev pub in_authority : VoteFacts → List VoteTaken
-in_authority facts = taken_to (authority_place facts) (authority facts) certificate_version
-
-abbrev pub in_certificate : VoteFacts → List VoteTaken
-in_certificate facts = cert_taken (certificate_place facts) facts.certificate
-
-abbrev pub in_footer : VoteFacts → List VoteTaken
-in_footer facts = taken_to (footer_place facts) footer (signature_entry facts.signature)
-
--- ---- what is read
-
--- the document that a vote is
-abbrev pub vote_document : VoteFacts → VoteDocument
-vote_document facts = record {
-  groups =
-      group Preamble (in_preamble facts) ∷ group Certificate (in_certificate facts)
-      ∷ group Authority (in_authority facts) ∷ group Footer (in_footer facts) ∷ [];
-  used = vote_end facts;
-}
-
--- its last section
-abbrev last_document : VoteFacts → Result VoteDocument ReadRefusal
-last_document facts = Ok (record { groups = group Footer (in_footer facts) ∷ []; used = vote_end facts })
-
 -- the certificate passes not its limit
-certificate_fits : (facts : VoteFacts) → IsInRange facts → footer_place facts ≤ certificate_place facts + 65536
+certificate_fits : (facts : VoteFacts) → IsInRange facts → entries_place facts ≤ certificate_place facts + 65536
 certificate_fits facts are =
     let fits = are.certificate.fits in
     omega (arith, fits, cert_ends VoteValue (certificate_place facts) facts.certificate)
 
 -- its first item begins it inside the section of its authority
 certificate_made : (facts : VoteFacts) → IsInRange facts
-    → made_by vote_tables tt (opening Authority (taken_in (authority_place facts) (authority facts)) None)
+    → made_by vote_tables none_listed (opening Authority (taken_in (authority_place facts) (authority facts)) None)
     (written (certificate_place facts) (item_of {V = Value VoteValue} certificate_version))
     ≡ Ok (Enters Certificate (taken_at (certificate_place facts) certificate_version))
 unfolding same
@@ -124,13 +76,13 @@ certificate_made facts are =
     let before = authority_place facts in
     let next = after_one {V = Value VoteValue} place certificate_version in
     let near : next ≤ place + 65536 =
-    less next (footer_place facts) (place + 65536)
+    less next (entries_place facts) (place + 65536)
     (first_ends place (in_section facts) (certification facts.certificate)) (certificate_fits facts are) in
-    entering vote_tables tt Authority Certificate (taken_at before (authority facts).opener)
+    entering vote_tables none_listed Authority Certificate (taken_at before (authority facts).opener)
     (others_in before (authority facts)) place certificate_version
     certificate_row refl (record { row_there = refl; not_last = refl; begins_nothing = refl }) refl
     (section_before_last vote_tables (authority facts) certificate_row before (authority_written facts are)) near
-    (suits_version the.DirKeyCertificateVersion tt place)
+    (suits_version the.DirKeyCertificateVersion none_listed place)
   where
     less : (a b c : ℕ) → a ≤ b → b ≤ c → a ≤ c
     less a b c first second = omega (arith, first, second)
@@ -149,52 +101,62 @@ authority_whole facts are =
 
 -- the items of a vote make it
 document_read : (length_ : ℕ) (facts : VoteFacts) (fault : Option DocFault) (more : List Item) → IsInRange facts
-    → read_items vote_tables length_ tt (start vote_tables) fault
+    → read_items vote_tables length_ none_listed (start vote_tables) fault
     (all_written 0 (map item_of (vote_entries facts)) ++ more) ≡ Ok (vote_document facts)
 document_read length_ facts fault more are =
+    let none = none_listed in
     let p = entries_in (preamble facts) in
     let a = entries_in (authority facts) in
     let c = in_cert facts in
-    let f = footer_entries facts in
+    let ef = in_list facts ++ footer_entries facts in
     let at_a = authority_place facts in
     let at_c = certificate_place facts in
-    let at_f = footer_place facts in
+    let at_e = entries_place facts in
     let in_p = in_preamble facts in
     let in_a = taken_in at_a (authority facts) in
     let one : VoteTaken = taken_at at_c certificate_version in
-    let rest_a = all_written at_a (map item_of (a ++ (c ++ f))) ++ more in
-    let rest_c = all_written at_c (map item_of (c ++ f)) ++ more in
-    let rest_f = all_written at_f (map item_of f) ++ more in
+    let rest_a = all_written at_a (map item_of (a ++ (c ++ ef))) ++ more in
+    let rest_c = all_written at_c (map item_of (c ++ ef)) ++ more in
+    let rest_e = all_written at_e (map item_of ef) ++ more in
     let whole = preamble_written facts are in
-    ap (λ (l : List Item). read_items vote_tables length_ tt (start vote_tables) fault l)
-    (both_written 0 p (a ++ (c ++ f)) more)
-    ∙ first_read vote_tables length_ tt tt 0 (preamble facts) [] fault rest_a refl preamble_first whole
-    (suits_version the.NetworkStatusVersion tt 0) (notes in_p)
-    ∙ ap (λ (l : List Item). read_items vote_tables length_ tt (opening Preamble in_p None) fault l)
-    (both_written at_a a (c ++ f) more)
-    ∙ section_read vote_tables length_ tt tt Preamble (taken_at 0 (preamble facts).opener)
+    let source = authority_written facts are in
+    let cert =
+    certificate_ended vote_tables Certificate kind.Certificate has_certificate facts.certificate
+    are.certificate.says in
+    let quiet_p = section_quiet (preamble facts) (λ n. refl) refl whole.said in
+    let quiet_a = section_quiet (authority facts) (λ n. refl) refl source.said in
+    let quiet_c =
+    section_to_quiet (in_section facts) (certification facts.certificate)
+    (section_quiet (in_section facts) (λ n. refl) refl cert.written.said) (λ n. refl) in
+    let entries = groups_in at_e (sections_of facts) ++ group Footer (in_footer facts) ∷ [] in
+    ap (λ (l : List Item). read_items vote_tables length_ none (start vote_tables) fault l)
+    (both_written 0 p (a ++ (c ++ ef)) more)
+    ∙ first_read vote_tables length_ none none 0 (preamble facts) [] fault rest_a refl preamble_first whole
+    (suits_version the.NetworkStatusVersion none 0) (notes_passing vote_tables is_quiet forgotten none 0 p quiet_p)
+    ∙ ap (λ (l : List Item). read_items vote_tables length_ none (opening Preamble in_p None) fault l)
+    (both_written at_a a (c ++ ef) more)
+    ∙ section_read vote_tables length_ none none Preamble (taken_at 0 (preamble facts).opener)
     (others_in 0 (preamble facts)) at_a (authority facts)
     (certificate_row ∷ []) fault rest_c (section_whole vote_tables (preamble facts) 0 whole) authority_follows
-    (authority_written facts are)
-    (suits_source facts are tt at_a) (notes in_a)
+    source (suits_source facts are none at_a) (notes_passing vote_tables is_quiet forgotten none at_a a quiet_a)
     ∙ ap (λ (r : Result VoteDocument ReadRefusal). onto (group Preamble in_p) r)
-    (ap (λ (l : List Item). read_items vote_tables length_ tt (opening Authority in_a None) fault l)
-    (both_written at_c c f more)
-    ∙ inside_read vote_tables length_ tt at_c (in_section facts) (last_row kind.Certificate)
-    (certification facts.certificate) fault rest_f
-    (certificate_ended vote_tables Certificate kind.Certificate has_certificate facts.certificate
-    are.certificate.says)
-    tt Authority (taken_at at_a (authority facts).opener) (others_in at_a (authority facts))
+    (ap (λ (l : List Item). read_items vote_tables length_ none (opening Authority in_a None) fault l)
+    (both_written at_c c ef more)
+    ∙ inside_read vote_tables length_ none at_c (in_section facts) (last_row kind.Certificate)
+    (certification facts.certificate) fault rest_e cert
+    none Authority (taken_at at_a (authority facts).opener) (others_in at_a (authority facts))
     (certificate_fits facts are)
-    (certificate_made facts are) (notes (in_certificate facts))
+    (certificate_made facts are) (notes_passing vote_tables is_quiet forgotten none at_c c quiet_c)
     ∙ ap (λ (r : Result VoteDocument ReadRefusal). onto (group Certificate (in_certificate facts)) r)
-    (end_read vote_tables length_ tt at_f footer signature_row (signature_entry facts.signature) fault more
-    (footer_ended facts.signature are.signature)
-    tt Authority (taken_at at_a (authority facts).opener) (others_in at_a (authority facts) ++ one ∷ [])
-    (authority_whole facts are) footer_follows
-    (suits_nothing the.DirectoryFooter tt at_f) (notes (in_footer facts))
-    ∙ ap (λ (l : List VoteTaken). onto (group Authority l) (last_document facts))
+    (tail_read length_ facts fault more are (taken_at at_a (authority facts).opener)
+    (others_in at_a (authority facts) ++ one ∷ []) (authority_whole facts are)
+    ∙ ap (λ (l : List VoteTaken). with_authority_group l entries (vote_end facts))
     (sym (taken_to-parts at_a (authority facts) certificate_version))))
+  where
+    with_authority_group : List VoteTaken → List (Group VoteSection (Value VoteValue)) → ℕ
+        → Result VoteDocument ReadRefusal
+    with_authority_group taken groups used =
+        Ok (record { groups = group Authority taken ∷ groups; used = used })
 
 -- it ends where the vote's text ends
 pub used_of : (facts : VoteFacts) → vote_end facts ≡ length (vote_text facts)
@@ -202,9 +164,12 @@ used_of facts =
     let p = entries_in (preamble facts) in
     let a = entries_in (authority facts) in
     let c = in_cert facts in
+    let e = in_list facts in
     let f = footer_entries facts in
-    sym (after_all-append 0 p (a ++ (c ++ f)) ∙ after_all-append (authority_place facts) a (c ++ f)
-    ∙ after_all-append (certificate_place facts) c f)
+    sym (after_all-append 0 p (a ++ (c ++ (e ++ f)))
+    ∙ after_all-append (authority_place facts) a (c ++ (e ++ f))
+    ∙ after_all-append (certificate_place facts) c (e ++ f)
+    ∙ after_all-append (entries_place facts) e f)
     ∙ ends_with_text (vote_entries facts)
     ∙ ap (λ (l : List NewItem). length (items_text l)) (sym (vote_same facts))
 
@@ -217,28 +182,24 @@ closed facts rest =
     let p = entries_in (preamble facts) in
     let a = entries_in (authority facts) in
     let c = in_cert facts in
+    let e = in_list facts in
     let f = entries_in footer in
     let last = signature_entry facts.signature in
     ap (λ (l : List NewItem). is_open l && begins_dash rest)
-    (vote_same facts ∙ ap (map item_of) (joined p a c f (last ∷ [])))
-    ∙ is_closed (p ++ (a ++ (c ++ f))) last rest (has_object facts.signature)
+    (vote_same facts ∙ ap (map item_of) (joined p a c e f (last ∷ [])))
+    ∙ is_closed (p ++ (a ++ (c ++ (e ++ f)))) last rest (has_object facts.signature)
   where
-    joined : (p a c f l : List VoteEntry) → p ++ (a ++ (c ++ (f ++ l))) ≡ (p ++ (a ++ (c ++ f))) ++ l
-    joined p a c f l = simp append_assoc refl
-
--- what is kept of it
-abbrev pub vote_head : VoteFacts → Head
-vote_head facts =
-    let authority_kept = with_certificate (with_preamble no_head (in_preamble facts)) (in_certificate facts) in
-    with_footer (with_authority authority_kept (in_authority facts)) (in_footer facts)
+    joined : (p a c e f l : List VoteEntry)
+        → p ++ (a ++ (c ++ (e ++ (f ++ l)))) ≡ (p ++ (a ++ (c ++ (e ++ f)))) ++ l
+    joined p a c e f l = simp append_assoc refl
 
 -- it begins at the input's first byte
-pub begins_at : (facts : VoteFacts) → (vote_head facts).begin ≡ 0
+pub begins_at : (facts : VoteFacts) → (vote_kept facts).head.begin ≡ 0
 unfolding same
 begins_at facts = refl
 
 abbrev read_as : List ℕ → Result VoteDocument ReadRefusal → Result (ReadVote × ℕ) ReadRefusal
-read_as bytes document = with_facts bytes (finish head_with no_head document)
+read_as bytes document = with_facts bytes (finish kept_with none_kept document)
 
 -- the vote's text in front of other bytes
 front_of : (text rest : List ℕ) (n : ℕ) → n ≡ length text → slice_range (text ++ rest) 0 n ≡ text
@@ -246,12 +207,12 @@ front_of text rest n end =
     let count : n - 0 ≡ length text = omega (arith, end) in
     ap (λ (k : ℕ). take k (text ++ rest)) count ∙ take-append_seam text rest
 
-abbrev answer : Head → List ℕ → ℕ → Result (ReadVote × ℕ) ReadRefusal
-answer head bytes used = Ok (vote_in bytes head, used)
+abbrev answer : Kept → List ℕ → ℕ → Result (ReadVote × ℕ) ReadRefusal
+answer kept bytes used = Ok (vote_in bytes kept, used)
 
 -- a vote that was written is read, and ends where its text ends
 pub vote_read : (facts : VoteFacts) (rest : List ℕ) → IsInRange facts
-    → vote_of (vote_text facts ++ rest) ≡ Ok (vote_in (vote_text facts) (vote_head facts), length (vote_text facts))
+    → vote_of (vote_text facts ++ rest) ≡ Ok (vote_in (vote_text facts) (vote_kept facts), length (vote_text facts))
 vote_read facts rest are =
     let text = vote_text facts in
     let bytes = text ++ rest in
@@ -263,6 +224,7 @@ vote_read facts rest are =
     (document_of vote_tables (length bytes) (in_front (all_written 0 l) after))) (vote_same facts)
     ∙ ap (λ (d : Result VoteDocument ReadRefusal). read_as bytes d)
     (document_read (length bytes) facts after.fault after.items are)
-    ∙ ap (λ (l : List ℕ). answer (vote_head facts) l (vote_end facts))
+    ∙ ap (λ (k : Kept). answer k (slice_range bytes 0 (vote_end facts)) (vote_end facts)) (all_kept facts are)
+    ∙ ap (λ (l : List ℕ). answer (vote_kept facts) l (vote_end facts))
     (front_of text rest (vote_end facts) (used_of facts))
-    ∙ ap (λ (k : ℕ). answer (vote_head facts) text k) (used_of facts)
+    ∙ ap (λ (k : ℕ). answer (vote_kept facts) text k) (used_of facts)

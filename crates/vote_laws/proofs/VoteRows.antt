@@ -1,47 +1,33 @@
 -- A vote, row by row of its sections' tables.
-use Rattle.std.proofs.Common.{◌≡◌, ℕ, true, List, [], ◌∷◌, ◌++◌, Option, Some, None, refl, sym, ap, append_assoc}
-use Rattle.std.proofs.Common.{append-nil, ◌∙◌}
-use Rattle.std.specs.Prelude.{IfSome, codes, map, option_map}
-use Rattle.std.proofs.lemmas.List.{map-append}
+use Rattle.std.proofs.Common.{◌≡◌, ℕ, true, List, [], ◌∷◌, ◌++◌, Option, Some, None, refl}
+use Rattle.std.specs.Prelude.{IfSome, codes, option_map}
 use Rattle.dir_values.specs.FlagSets.{set_text}
-use Rattle.dirdoc_grammar.specs.Writing.{NewItem}
 use Rattle.frame_terms.specs.Keywords.{same}
 use Rattle.frame_terms.specs.Rows.{row}
 use Rattle.frame_terms.specs.declared.keyword.Keyword.TheVariants as the
 use Rattle.frame_terms.specs.declared.row.Count.TheVariants.{One, Optional}
 use Rattle.frame_terms.specs.declared.row.Row.{Row}
-use Rattle.frame_values.specs.Items.{bare}
-use Rattle.frame_values.specs.declared.values.Value.{Value}
 use Rattle.frame_laws.proofs.Both.{both}
-use Rattle.frame_laws.proofs.Ends.{IsEnded, entries_to}
-use Rattle.frame_laws.proofs.Entries.{item_of}
+use Rattle.frame_laws.proofs.Ends.{IsEnded}
 use Rattle.frame_laws.proofs.Following.{IsFirst, MayFollow, opener_follows}
-use Rattle.frame_laws.proofs.RowCounts.{items_of-append, said_none, said_once}
-use Rattle.frame_laws.proofs.RowValues.{items_if, row_if, text_entry, silent_entry}
-use Rattle.frame_laws.proofs.SaidRows.{AreSaid, IsSaid, items_of, row_none, row_once}
-use Rattle.frame_laws.proofs.Sections.{IsWritten, Section, entries_in}
+use Rattle.frame_laws.proofs.RowCounts.{said_none, said_once}
+use Rattle.frame_laws.proofs.RowValues.{row_if, text_entry, silent_entry}
+use Rattle.frame_laws.proofs.SaidRows.{AreSaid, IsSaid, row_none, row_once}
+use Rattle.frame_laws.proofs.Sections.{IsWritten}
 use Rattle.frame_laws.proofs.TableRows.{are_plain}
-use Rattle.authority_certs.specs.Texts.{cert_items}
 use Rattle.authority_certs.specs.declared.cert.Cert.{Cert}
-use Rattle.certificate_laws.proofs.CertRows.{HasCertificates, cert_entries, certificate_rows, certificate_same}
+use Rattle.certificate_laws.proofs.CertRows.{HasCertificates, certificate_rows}
 use Rattle.vote_terms.specs.declared.facts.SignatureFacts.{SignatureFacts}
 use Rattle.vote_terms.specs.declared.facts.VoteFacts.{VoteFacts}
-use Rattle.vote_text.specs.Texts.{authority_items, flag_items, footer_items, kind_items, time_items, vote_items}
 use Rattle.dir_values.specs.Numbers.{numbers_text}
-use Rattle.vote_doc.specs.Tables.{vote_tables}
-use Rattle.vote_doc.specs.declared.frame.VoteKind.{VoteKind}
-use Rattle.vote_doc.specs.declared.frame.VoteKind.TheVariants as kind
-use Rattle.vote_doc.specs.declared.frame.VoteSection.{VoteSection}
-use Rattle.vote_doc.specs.declared.frame.VoteSection.TheVariants.{Authority, Certificate, Footer, Preamble}
-use Rattle.vote_doc.specs.declared.frame.VoteValue.{VoteValue}
-use Rattle.vote_laws.specs.Again.{AreMethods, IsInRange, IsSignatureInRange, unsigned_items}
-use Rattle.vote_laws.proofs.VoteItems.{VoteEntry, VoteRow, delays_entry, moment_row, rest_if, said_moment, said_rest_if}
+use Rattle.vote_frame.specs.Tables.{vote_tables}
+use Rattle.vote_frame.specs.declared.frame.VoteKind.{VoteKind}
+use Rattle.vote_frame.specs.declared.frame.VoteKind.TheVariants as kind
+use Rattle.vote_frame.specs.declared.frame.VoteSection.TheVariants.{Authority, Certificate, Footer, Preamble}
+use Rattle.vote_laws.specs.Again.{AreMethods, IsInRange, IsSignatureInRange}
+use Rattle.vote_laws.proofs.VoteItems.{VotePart, VoteRow, delays_entry, moment_row, rest_if, said_moment, said_rest_if}
 use Rattle.vote_laws.proofs.VoteItems.{signature_entry, source_entry, suits_delays, suits_flags, suits_methods}
 use Rattle.vote_laws.proofs.VoteItems.{suits_signature, suits_status}
-
--- a section of a vote
-abbrev pub VotePart : Type 0
-VotePart = Section VoteSection VoteKind (Value VoteValue)
 
 -- ---- the preamble
 
@@ -50,14 +36,14 @@ abbrev pub methods_if : Option (List ℕ) → VoteRow
 methods_if methods = row_if (row the.ConsensusMethods Optional kind.Methods) (option_map numbers_text methods)
 
 -- what the document is, and its methods
-abbrev kind_rows : VoteFacts → List VoteRow
+abbrev pub kind_rows : VoteFacts → List VoteRow
 kind_rows facts =
     row_once (row the.VoteStatus One kind.Status) (silent_entry the.VoteStatus (codes "vote"))
     ∷ methods_if facts.methods
     ∷ []
 
 -- its times
-abbrev time_rows : VoteFacts → List VoteRow
+abbrev pub time_rows : VoteFacts → List VoteRow
 time_rows facts =
     moment_row the.Published facts.published
     ∷ moment_row the.ValidAfter facts.valid_after
@@ -67,21 +53,21 @@ time_rows facts =
     ∷ []
 
 -- the versions, of which nothing is written yet
-abbrev version_rows : List VoteRow
+abbrev pub version_rows : List VoteRow
 version_rows =
     row_none (row the.ClientVersions Optional kind.Rest)
     ∷ row_none (row the.ServerVersions Optional kind.Rest)
     ∷ []
 
 -- its flags
-abbrev flag_rows : VoteFacts → List VoteRow
+abbrev pub flag_rows : VoteFacts → List VoteRow
 flag_rows facts =
     row_once (row the.KnownFlags One kind.KnownFlags) (text_entry the.KnownFlags (set_text facts.known_flags))
     ∷ rest_if the.FlagThresholds facts.flag_thresholds
     ∷ []
 
 -- the protocols and the parameters, of which nothing is written yet
-abbrev protocol_rows : List VoteRow
+abbrev pub protocol_rows : List VoteRow
 protocol_rows =
     row_none (row the.RecommendedClientProtocols Optional kind.Rest)
     ∷ row_none (row the.RecommendedRelayProtocols Optional kind.Rest)
@@ -210,79 +196,3 @@ unfolding same
 footer_follows =
     opener_follows vote_tables Authority Footer (row the.DirectoryFooter One kind.Nothing) refl refl
     (record { not_here = refl; opens = refl; passes_none = refl; row_there = refl })
-
--- ---- the vote
-
--- the items of its certificate and of its footer
-abbrev pub in_cert : VoteFacts → List VoteEntry
-in_cert facts = cert_entries facts.certificate
-
-abbrev pub footer_entries : VoteFacts → List VoteEntry
-footer_entries facts = entries_to footer (signature_entry facts.signature)
-
--- its items
-abbrev pub vote_entries : VoteFacts → List VoteEntry
-vote_entries facts =
-    entries_in (preamble facts) ++ (entries_in (authority facts) ++ (in_cert facts ++ footer_entries facts))
-
--- they are those of its text
-kind_same : (facts : VoteFacts) → kind_items facts ≡ item_of (preamble facts).opener ∷ items_of (kind_rows facts)
-kind_same facts = simp (items_if, append-nil) refl
-
-flag_same : (facts : VoteFacts) → flag_items facts ≡ items_of (flag_rows facts)
-flag_same facts = simp (items_if, append-nil) refl
-
-authority_same : (facts : VoteFacts) → authority_items facts ≡ map item_of (entries_in (authority facts))
-authority_same facts = simp (items_if, append-nil) refl
-
--- the items of five lists of rows
-by_rows : (k t v f p : List VoteRow)
-    → items_of (k ++ (t ++ (v ++ (f ++ p))))
-    ≡ items_of k ++ (items_of t ++ (items_of v ++ (items_of f ++ items_of p)))
-by_rows k t v f p = simp items_of-append refl
-
-preamble_same : (facts : VoteFacts)
-    → kind_items facts ++ (time_items facts ++ flag_items facts) ≡ map item_of (entries_in (preamble facts))
-preamble_same facts =
-    let t = time_items facts in
-    let first = item_of (preamble facts).opener in
-    let kind = items_of (kind_rows facts) in
-    let flags = items_of (flag_rows facts) in
-    ap (λ (l : List NewItem). l ++ (t ++ flag_items facts)) (kind_same facts)
-    ∙ ap (λ (l : List NewItem). first ∷ (kind ++ (t ++ l))) (flag_same facts ∙ sym (append-nil flags))
-    ∙ ap (λ (l : List NewItem). first ∷ l)
-    (sym (by_rows (kind_rows facts) (time_rows facts) version_rows (flag_rows facts) protocol_rows))
-
--- the items of all sections, of which these are the last
-all_same : (facts : VoteFacts) (last : List NewItem) (others : List VoteEntry) → last ≡ map item_of others
-    → kind_items facts ++ time_items facts ++ flag_items facts ++ authority_items facts
-    ++ cert_items facts.certificate ++ last
-    ≡ map item_of (entries_in (preamble facts) ++ (entries_in (authority facts) ++ (in_cert facts ++ others)))
-all_same facts last others same_last =
-    let a = authority_items facts in
-    let c = cert_items facts.certificate in
-    let in_p = map item_of (entries_in (preamble facts)) in
-    let in_a = map item_of (entries_in (authority facts)) in
-    joined (kind_items facts) (time_items facts) (flag_items facts) a c last
-    ∙ ap (λ (l : List NewItem). l ++ (a ++ (c ++ last))) (preamble_same facts)
-    ∙ ap (λ (l : List NewItem). in_p ++ (l ++ (c ++ last))) (authority_same facts)
-    ∙ ap (λ (l : List NewItem). in_p ++ (in_a ++ (l ++ last))) (certificate_same VoteValue facts.certificate)
-    ∙ ap (λ (l : List NewItem). in_p ++ (in_a ++ (map item_of (in_cert facts) ++ l))) same_last
-    ∙ sym (by_sections (entries_in (preamble facts)) (entries_in (authority facts)) (in_cert facts) others)
-  where
-    joined : (k t f a c e : List NewItem) → k ++ t ++ f ++ a ++ c ++ e ≡ (k ++ (t ++ f)) ++ (a ++ (c ++ e))
-    joined k t f a c e = simp append_assoc refl
-
-    by_sections : (p a c f : List VoteEntry)
-        → map item_of (p ++ (a ++ (c ++ f))) ≡ map item_of p ++ (map item_of a ++ (map item_of c ++ map item_of f))
-    by_sections p a c f = simp map-append refl
-
-pub vote_same : (facts : VoteFacts) → vote_items facts ≡ map item_of (vote_entries facts)
-vote_same facts = all_same facts (footer_items facts.signature) (footer_entries facts) refl
-
--- the items before the signature
-pub unsigned_same : (facts : VoteFacts)
-    → unsigned_items facts
-    ≡ map item_of
-    (entries_in (preamble facts) ++ (entries_in (authority facts) ++ (in_cert facts ++ entries_in footer)))
-unsigned_same facts = all_same facts (bare the.DirectoryFooter [] ∷ []) (entries_in footer) refl

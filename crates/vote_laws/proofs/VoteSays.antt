@@ -19,8 +19,8 @@ use Rattle.vote_terms.specs.declared.facts.SignatureFacts.{SignatureFacts}
 use Rattle.vote_terms.specs.declared.facts.VoteFacts.{VoteFacts}
 use Rattle.vote_doc.specs.Facts.{signature_facts}
 use Rattle.vote_doc.specs.Saying.{delays_in, signature_in, source_in}
-use Rattle.vote_doc.specs.declared.frame.VoteKind.TheVariants as kind
-use Rattle.vote_doc.specs.declared.frame.VoteValue.{VoteValue}
+use Rattle.vote_frame.specs.declared.frame.VoteKind.TheVariants as kind
+use Rattle.vote_frame.specs.declared.frame.VoteValue.{VoteValue}
 use Rattle.vote_laws.specs.Again.{AreFlags, AreMethods}
 use Rattle.vote_laws.proofs.VoteItems.{delays_entry, signature_entry, source_entry}
 use Rattle.vote_laws.proofs.VoteRows.{methods_if, signature_row}

@@ -20,18 +20,20 @@ use Rattle.vote_text.specs.Texts.{algorithm_text, signer_text, vote_text}
 use Rattle.vote_doc.specs.Facts.{vote_in}
 use Rattle.vote_doc.specs.Heads.{signed_to}
 use Rattle.vote_doc.specs.Reading.{max_vote}
-use Rattle.vote_doc.specs.Tables.{vote_tables}
+use Rattle.vote_frame.specs.Tables.{vote_tables}
 use Rattle.vote_laws.specs.Again.{IsInRange, signed_text, unsigned_items}
 use Rattle.vote_laws.proofs.VoteItems.{VoteEntry, signature_entry}
-use Rattle.vote_laws.proofs.VoteRead.{authority_place, begins_at, certificate_place, footer_place, vote_head, used_of}
-use Rattle.vote_laws.proofs.VoteRead.{vote_end}
-use Rattle.vote_laws.proofs.VoteRows.{authority, footer, footer_ended, in_cert, preamble, signature_row, unsigned_same}
-use Rattle.vote_laws.proofs.VoteRows.{vote_same}
+use Rattle.vote_laws.proofs.VotePlaces.{authority_place, certificate_place, entries_place, footer_place, vote_end}
+use Rattle.vote_laws.proofs.VotePlaces.{vote_kept}
+use Rattle.vote_laws.proofs.VoteRead.{begins_at, used_of}
+use Rattle.vote_laws.proofs.VoteRows.{authority, footer, footer_ended, preamble, signature_row}
+use Rattle.vote_laws.proofs.VoteSame.{in_cert, in_list, unsigned_same, vote_same}
 
 -- the items before the signature
 abbrev unsigned_entries : VoteFacts → List VoteEntry
 unsigned_entries facts =
-    entries_in (preamble facts) ++ (entries_in (authority facts) ++ (in_cert facts ++ entries_in footer))
+    entries_in (preamble facts)
+    ++ (entries_in (authority facts) ++ (in_cert facts ++ (in_list facts ++ entries_in footer)))
 
 -- a text that goes on after a keyword goes on with a space
 tail_some : (text : List ℕ) → 0 < length text → tail text ≡ 32 ∷ text
@@ -68,18 +70,20 @@ text_parts facts =
     let p = entries_in (preamble facts) in
     let a = entries_in (authority facts) in
     let c = in_cert facts in
+    let e = in_list facts in
     let f = entries_in footer in
     let last = signature_entry facts.signature in
     ap items_text
-    (vote_same facts ∙ ap (map item_of) (joined p a c f (last ∷ []))
+    (vote_same facts ∙ ap (map item_of) (joined p a c e f (last ∷ []))
     ∙ map-append item_of (unsigned_entries facts) (last ∷ []))
     ∙ sections before (item_of last ∷ [])
     ∙ ap (λ (l : List NewItem). items_text l ++ (item_text (item_of last) ++ [])) (sym (unsigned_same facts))
     ∙ ap (λ (l : List ℕ). items_text (unsigned_items facts) ++ (l ++ [])) (signature_text facts.signature)
     ∙ moved (items_text (unsigned_items facts)) (codes "directory-signature ") (after_signed facts.signature)
   where
-    joined : (p a c f l : List VoteEntry) → p ++ (a ++ (c ++ (f ++ l))) ≡ (p ++ (a ++ (c ++ f))) ++ l
-    joined p a c f l = simp append_assoc refl
+    joined : (p a c e f l : List VoteEntry)
+        → p ++ (a ++ (c ++ (e ++ (f ++ l)))) ≡ (p ++ (a ++ (c ++ (e ++ f)))) ++ l
+    joined p a c e f l = simp append_assoc refl
 
     moved : (front word back : List ℕ) → front ++ ((word ++ back) ++ []) ≡ (front ++ word) ++ (back ++ [])
     moved front word back = simp append_assoc refl
@@ -93,9 +97,12 @@ signature_place facts =
     let p = entries_in (preamble facts) in
     let a = entries_in (authority facts) in
     let c = in_cert facts in
+    let e = in_list facts in
     let f = entries_in footer in
-    sym (after_all-append 0 p (a ++ (c ++ f)) ∙ after_all-append (authority_place facts) a (c ++ f)
-    ∙ after_all-append (certificate_place facts) c f)
+    sym (after_all-append 0 p (a ++ (c ++ (e ++ f)))
+    ∙ after_all-append (authority_place facts) a (c ++ (e ++ f))
+    ∙ after_all-append (certificate_place facts) c (e ++ f)
+    ∙ after_all-append (entries_place facts) e f)
     ∙ ends_with_text (unsigned_entries facts)
     ∙ ap (λ (l : List NewItem). length (items_text l)) (sym (unsigned_same facts))
 
@@ -113,7 +120,7 @@ fits facts within =
     short n m all sum within = omega (arith, sum, within)
 
 ends_signed : (facts : VoteFacts) → IsInRange facts → vote_end facts ≤ max_vote
-    → (vote_head facts).signed_end ≡ 0 + length (signed_text facts)
+    → (vote_kept facts).head.signed_end ≡ 0 + length (signed_text facts)
 ends_signed facts are within =
     let ended = footer_ended facts.signature are.signature in
     let word = codes "directory-signature" in
@@ -130,10 +137,11 @@ ends_signed facts are within =
 
 -- The signed part of the vote that is read is that of its text.
 pub signed_is : (facts : VoteFacts) → IsInRange facts → vote_end facts ≤ max_vote
-    → (vote_in (vote_text facts) (vote_head facts)).signed ≡ signed_text facts
+    → (vote_in (vote_text facts) (vote_kept facts)).signed ≡ signed_text facts
 signed_is facts are within =
     let signed = signed_text facts in
     let back = after_signed facts.signature ++ [] in
-    from_place (vote_text facts) (vote_head facts).begin (vote_head facts).signed_end 0 signed (begins_at facts)
+    let head = (vote_kept facts).head in
+    from_place (vote_text facts) head.begin head.signed_end 0 signed (begins_at facts)
     (ends_signed facts are within)
     (ap (λ (l : List ℕ). take (length signed) l) (text_parts facts) ∙ take_at signed back (length signed) refl)

@@ -1,5 +1,6 @@
 -- A vote that was written is read again (dir-spec, "Vote and consensus status document formats").
-use Rattle.std.specs.Prelude.{◌≡◌, ℕ, ◌≤◌, ◌<◌, ◌^◌, true, List, [], ◌∷◌, ◌++◌, length, All, IfSome, Ok, codes}
+use Rattle.std.specs.Prelude.{◌≡◌, ℕ, ◌≤◌, ◌<◌, ◌^◌, true, List, [], ◌∷◌, ◌++◌, length, All, AllPairs, IfSome, Ok, codes}
+use Rattle.std.specs.Prelude.{None, is_some}
 use Rattle.dir_bytes.specs.Causes.{last_moment}
 use Rattle.dir_values.specs.FlagSets.{Ascend, is_name}
 use Rattle.dirdoc_grammar.specs.Writers.{is_argument}
@@ -11,9 +12,15 @@ use Rattle.frame_values.specs.Ranges.{AreTwenty}
 use Rattle.certificate_laws.specs.Again.{SaysInRange, as_written}
 use Rattle.authority_certs.specs.Texts.{cert_items, cert_text}
 use Rattle.authority_certs.specs.declared.cert.Cert.{Cert}
+use Rattle.entry_laws.specs.Ranges.{AreMethodsInRange, AreThirtyTwo, IsAddressInRange, IsOpinionInRange, IsRelayInRange}
+use Rattle.relay_entries.specs.declared.said.EdOpinion.TheVariants as opinion
+use Rattle.vote_terms.specs.Entries.{Ascending}
 use Rattle.vote_terms.specs.Votes.{ReadVote}
+use Rattle.vote_terms.specs.declared.entry.EntryFacts.{EntryFacts}
+use Rattle.vote_terms.specs.declared.entry.MicroFacts.{MicroFacts}
 use Rattle.vote_terms.specs.declared.facts.SignatureFacts.{SignatureFacts}
 use Rattle.vote_terms.specs.declared.facts.VoteFacts.{VoteFacts}
+use Rattle.vote_text.specs.Entries.{entries_items}
 use Rattle.vote_text.specs.Texts.{authority_items, flag_items, kind_items, time_items, vote_items, vote_text}
 use Rattle.vote_doc.specs.Reading.{max_vote, vote_of}
 
@@ -38,6 +45,39 @@ pub record IsSignatureInRange (signature : SignatureFacts) : Type 0 where
   pub identity : AreTwenty signature.identity.0
   pub key_digest : AreTwenty signature.key_digest.0
 
+-- the flags of an entry are names, ascending
+pub record AreEntryFlags (flags : List (List ℕ)) : Type 0 where
+  pub ascend : Ascend flags
+  pub each : All (λ flag. is_name flag ≡ true) flags
+
+-- an `m` line has methods, and gives a digest
+pub record IsMicroInRange (line : MicroFacts) : Type 0 where
+  pub methods : AreMethodsInRange line.methods
+  pub some : is_some line.digest ≡ true
+  pub digest : IfSome line.digest (λ digest. AreThirtyTwo digest.0)
+
+-- An entry says what can be read. It says nothing of bandwidths, since `w` is not built yet.
+pub record IsEntryInRange (entry : EntryFacts) : Type 0 where
+  pub relay : IsRelayInRange entry.nickname entry.identity entry.digest entry.ip entry.or_port entry.dir_port
+  pub published : entry.published ≤ last_moment
+  pub addresses : All IsAddressInRange entry.addresses
+  pub flags : AreEntryFlags entry.flags
+  pub bandwidths : entry.bandwidths ≡ None
+  pub micros : All IsMicroInRange entry.micros
+  pub ed : IsOpinionInRange entry.ed
+
+-- no Ed25519 key is that of both
+abbrev pub DifferInKey : EntryFacts → EntryFacts → Type 0
+DifferInKey a b = (key : List ℕ) → a.ed ≡ opinion.Key key → b.ed ≡ opinion.Key key → ⊥
+
+-- there are no more entries than a vote may have, each says what can be read, they ascend by identity, and no two have
+-- one Ed25519 key
+pub record AreEntriesInRange (entries : List EntryFacts) : Type 0 where
+  pub count : length entries ≤ 65535
+  pub each : All IsEntryInRange entries
+  pub ascending : Ascending entries
+  pub keys : AllPairs DifferInKey entries
+
 -- The vote says what can be read: each number, text and list is one that an item may have. Its items may be written:
 -- those of its texts that fill a line are such, its objects are bytes, and no line, no object and not the whole
 -- passes its limit.
@@ -57,6 +97,7 @@ pub record IsInRange (facts : VoteFacts) : Type 0 where
   pub dir_port : facts.dir_port ≤ 65535
   pub or_port : facts.or_port ≤ 65535
   pub certificate : IsCertificateInRange facts.certificate
+  pub entries : AreEntriesInRange facts.entries
   pub signature : IsSignatureInRange facts.signature
   pub items : AreWritable max_vote 0 (vote_items facts)
 
@@ -68,7 +109,7 @@ as_read facts = record facts { certificate = as_written facts.certificate }
 abbrev pub unsigned_items : VoteFacts → List NewItem
 unsigned_items facts =
     kind_items facts ++ time_items facts ++ flag_items facts ++ authority_items facts ++ cert_items facts.certificate
-    ++ bare the.DirectoryFooter [] ∷ []
+    ++ entries_items facts.entries ++ bare the.DirectoryFooter [] ∷ []
 
 -- the text that is signed: through the one space after `directory-signature`
 abbrev pub signed_text : VoteFacts → List ℕ

@@ -1,3 +1,4 @@
 pub mod Votes
+pub mod Entries
 pub mod Held
 pub mod Acceptable

@@ -1,4 +1,5 @@
 // What a vote says, as values.
+use crate::entry::EntryFacts;
 use authority_certs::Cert;
 use dir_bytes::{Seq, Text};
 use dir_values::{Algorithm, Digest1, Fingerprint, FlagSet};
@@ -54,6 +55,8 @@ pub struct VoteFacts {
     pub contact: Option<Text>,
     /// The authority's certificate.
     pub certificate: Cert,
+    /// What it says of relays, strictly ascending by identity.
+    pub entries: Seq<EntryFacts>,
     /// The signature.
     pub signature: SignatureFacts,
 }

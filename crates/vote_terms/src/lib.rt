@@ -1,11 +1,13 @@
 //! What a vote says: the plain records, and in `specs/` which votes are held of many, and when a vote is acceptable.
 #![tactic(auto)]
 
+mod entry;
 mod facts;
 mod laws;
 mod rank;
 mod word;
 
+pub use entry::{EntryFacts, MicroFacts};
 pub use facts::{SignatureFacts, VoteFacts};
 pub use laws::{held_agree, held_is_held, ranks_agree, verified_votes_are_not_refused};
 pub use rank::Rank;

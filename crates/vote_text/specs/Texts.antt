@@ -13,6 +13,7 @@ use Rattle.authority_certs.specs.Texts.{cert_items}
 use Rattle.vote_terms.specs.declared.facts.SignatureFacts.{SignatureFacts}
 use Rattle.vote_terms.specs.declared.facts.VoteFacts.{VoteFacts}
 use Rattle.frame_values.specs.Items.{bare, with_object, item_if, timed}
+use Rattle.vote_text.specs.Entries.{entries_items}
 
 -- ---- the rests of lines
 
@@ -72,7 +73,7 @@ footer_items signature =
 abbrev pub vote_items : VoteFacts → List NewItem
 vote_items facts =
     kind_items facts ++ time_items facts ++ flag_items facts ++ authority_items facts ++ cert_items facts.certificate
-    ++ footer_items facts.signature
+    ++ entries_items facts.entries ++ footer_items facts.signature
 
 -- the text of a vote that says this
 abbrev pub vote_text : VoteFacts → List ℕ

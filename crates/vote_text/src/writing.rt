@@ -6,6 +6,7 @@ ghost use Rattle.frame_values.specs.Items as items;
 ghost use Rattle.authority_certs.specs.Texts.{cert_text};
 ghost use Rattle.vote_text.specs.Texts as texts;
 
+use crate::entry::push_entries;
 use authority_certs::Cert;
 use dir_bytes::{Memory, push_address, push_decimal, push_hex_upper};
 use dir_values::{Algorithm, push_numbers};
@@ -172,6 +173,8 @@ pub fn write(alloc: Global, facts: &VoteFacts) -> Result<Vec<u8>, Memory>
     push_flags(&mut out, alloc, facts)?;
     push_authority(&mut out, alloc, facts)?;
     push_certificate(&mut out, alloc, &facts.certificate)?;
+    let mut rest = Vec::new(alloc);
+    push_entries(&mut out, &mut rest, facts.entries.as_slice())?;
     push_footer(&mut out, alloc, &facts.signature)?;
     Ok(out)
 }

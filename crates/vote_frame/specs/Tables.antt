@@ -1,11 +1,11 @@
 -- The sections of a vote, their items, and what these say (dir-spec, "Vote and consensus status document formats").
-use Rattle.std.specs.Prelude.{ℕ, false, List, [], ◌∷◌, Some, None, Result, Ok, codes}
+use Rattle.std.specs.Prelude.{ℕ, Bool, false, List, [], ◌∷◌, Some, None, Result, Ok, codes}
 use Rattle.std.specs.List.{list_any}
 use Rattle.item_terms.specs.Items.{Item}
 use Rattle.frame_terms.specs.declared.fault.FrameFault.{FrameFault}
 use Rattle.frame_terms.specs.declared.keyword.Keyword.{Keyword}
 use Rattle.frame_terms.specs.declared.keyword.Keyword.TheVariants as the
-use Rattle.frame_terms.specs.declared.row.Count.TheVariants.{One, Optional, Many}
+use Rattle.frame_terms.specs.declared.row.Count.TheVariants.{One, Optional}
 use Rattle.frame_terms.specs.declared.row.Limit.TheVariants as limit
 use Rattle.frame_terms.specs.declared.row.Row.{Row}
 use Rattle.frame_terms.specs.declared.section.Again.TheVariants as again
@@ -20,12 +20,19 @@ use Rattle.frame_values.specs.Arguments.{next}
 use Rattle.frame_values.specs.Lines.{literal, numbers_of, time_of, delays_of, flags_of, rest_of, source_of}
 use Rattle.frame_values.specs.Signatures.{signature_of}
 use Rattle.authority_certs.specs.Tables.{cert_rows, cert_shape, cert_value}
-use Rattle.vote_doc.specs.declared.frame.VoteKind.{VoteKind}
-use Rattle.vote_doc.specs.declared.frame.VoteKind.TheVariants.{Version, Status, Methods, Time, Delays, KnownFlags, Rest, Source, Nothing, Signature, Certificate}
-use Rattle.vote_doc.specs.declared.frame.VoteSection.{VoteSection}
-use Rattle.vote_doc.specs.declared.frame.VoteSection.TheVariants.{Preamble, Authority, Certificate as CertificateSection, Entry, Footer}
-use Rattle.vote_doc.specs.declared.frame.VoteValue.{VoteValue}
-use Rattle.vote_doc.specs.declared.frame.VoteValue.TheVariants as own
+use Rattle.relay_entries.specs.declared.listed.Listed.{Listed}
+use Rattle.relay_entries.specs.Lines.{entry_value, is_ignored, lifted}
+use Rattle.relay_entries.specs.Listing.{none_listed, too_many_entries, note_entry}
+use Rattle.relay_entries.specs.Tables.{entry_rows, entry_shape}
+use Rattle.vote_frame.specs.declared.frame.VoteKind.{VoteKind}
+use Rattle.vote_frame.specs.declared.frame.VoteKind.TheVariants.{Version, Status, Methods, Time, Delays, KnownFlags}
+use Rattle.vote_frame.specs.declared.frame.VoteKind.TheVariants.{Rest, Source, Nothing, Signature, Certificate, Entry}
+use Rattle.vote_frame.specs.declared.frame.VoteSection.{VoteSection}
+use Rattle.vote_frame.specs.declared.frame.VoteSection.TheVariants.{Preamble, Authority, Footer}
+use Rattle.vote_frame.specs.declared.frame.VoteSection.TheVariants.{Certificate as CertificateSection}
+use Rattle.vote_frame.specs.declared.frame.VoteSection.TheVariants.{Entry as EntrySection}
+use Rattle.vote_frame.specs.declared.frame.VoteValue.{VoteValue}
+use Rattle.vote_frame.specs.declared.frame.VoteValue.TheVariants as own
 
 -- the items of a section; the first one opens it
 abbrev pub rows : VoteSection → List (Row VoteKind)
@@ -54,17 +61,7 @@ rows Authority =
     ∷ row the.DirKeyCertificateVersion One Version
     ∷ []
 rows CertificateSection = cert_rows Certificate
-rows Entry =
-    row the.R One Rest
-    ∷ row the.A Many Rest
-    ∷ row the.S One Rest
-    ∷ row the.V Optional Rest
-    ∷ row the.Pr Optional Rest
-    ∷ row the.W Optional Rest
-    ∷ row the.P Optional Rest
-    ∷ row the.M Many Rest
-    ∷ row the.Id Optional Rest
-    ∷ []
+rows EntrySection = entry_rows Entry
 rows Footer =
     row the.DirectoryFooter One Nothing
     ∷ row the.DirectorySignature One Signature
@@ -79,14 +76,14 @@ abbrev pub shape : VoteSection → Shape VoteSection
 shape Preamble = plain the.NetworkStatusVersion
 shape Authority = record (plain the.DirSource) { inner = Some CertificateSection }
 shape CertificateSection = cert_shape
-shape Entry = record (plain the.R) { again = again.Section }
+shape EntrySection = entry_shape
 shape Footer = record (plain the.DirectoryFooter) { last = Some the.DirectorySignature }
 
 -- the keywords of items that are not built yet
 abbrev pub not_built : List Keyword
 not_built =
-    the.R ∷ the.ClientVersions ∷ the.ServerVersions ∷ the.RecommendedClientProtocols ∷ the.RecommendedRelayProtocols
-    ∷ the.RequiredClientProtocols ∷ the.RequiredRelayProtocols ∷ the.Params ∷ []
+    the.W ∷ the.ClientVersions ∷ the.ServerVersions ∷ the.RecommendedClientProtocols
+    ∷ the.RecommendedRelayProtocols ∷ the.RequiredClientProtocols ∷ the.RequiredRelayProtocols ∷ the.Params ∷ []
 
 -- what an item says, or the place of what is wrong
 abbrev pub value_at : VoteKind → Item → Result (Value VoteValue) ℕ
@@ -101,23 +98,35 @@ value_at Source item = next (source_of item) (λ source. Ok (value.Own (own.Sour
 value_at Nothing item = Ok value.Nothing
 value_at Signature item = next (signature_of item) (λ signature. Ok (value.Own (own.Signature signature)))
 value_at (Certificate kind) item = cert_value kind item
+value_at (Entry kind) item = next (entry_value kind item) (λ said. Ok (lifted own.Entry said))
 
--- the fault of an item that has too many arguments for its kind
-abbrev pub over_limit : VoteKind → Item → Result (Unit {0}) FrameFault
-over_limit Methods item = too_many limit.Methods item
-over_limit KnownFlags item = too_many limit.KnownFlags item
-over_limit _ item = Ok tt
+-- the fault of an item that has too many arguments for its kind, or that begins one entry too many
+abbrev pub over_limit : Listed → VoteKind → Item → Result (Unit {0}) FrameFault
+over_limit listed Methods item = too_many limit.Methods item
+over_limit listed KnownFlags item = too_many limit.KnownFlags item
+over_limit listed (Entry kind) item = too_many_entries listed kind item
+over_limit listed _ item = Ok tt
+
+-- whether an item is passed over, as one that a vote does not know
+abbrev pub ignores : VoteKind → Item → Bool
+ignores (Entry kind) item = is_ignored kind item
+ignores _ item = false
+
+-- what is listed with what an item says that begins at a place, or why it may not stand
+abbrev pub note_value : Listed → ℕ → Value VoteValue → Result Listed FrameFault
+note_value listed place (value.Own (own.Entry said)) = note_entry listed place said
+note_value listed place _ = Ok listed
 
 -- the tables of a vote
-abbrev pub vote_tables : Tables VoteSection VoteKind (Value VoteValue) (Unit {0})
+abbrev pub vote_tables : Tables VoteSection VoteKind (Value VoteValue) Listed
 vote_tables = record {
   first = Preamble;
-  sections = Preamble ∷ Authority ∷ Entry ∷ Footer ∷ [];
+  sections = Preamble ∷ Authority ∷ EntrySection ∷ Footer ∷ [];
   shape = shape;
   rows = rows;
   is_not_built = λ keyword. list_any (λ other. same other keyword) not_built;
-  ignores = λ _ _. false;
-  value_of = λ _ kind item. unless_fault (over_limit kind item) (at_place (value_at kind item));
-  start = tt;
-  note = λ _ _. Ok tt;
+  ignores = ignores;
+  value_of = λ listed kind item. unless_fault (over_limit listed kind item) (at_place (value_at kind item));
+  start = none_listed;
+  note = λ listed one. note_value listed one.place one.value;
 }

@@ -1,15 +1,15 @@
-// The frame of a vote: its sections, the tables of their items, and what the items say.
+// The frame of a vote: its sections, and the tables of their items.
 ghost use Rattle.std.specs.Prelude.{◌≡◌};
-ghost use Rattle.dirdoc_grammar.specs.Seen.{seen, IsInside};
-ghost use Rattle.vote_doc.specs.Tables as tables;
+ghost use Rattle.vote_frame.specs.Tables as tables;
 
-use authority_certs::{CertKind, cert_rows, cert_shape, cert_value};
+use crate::value::{note_value, over_limit, value_at};
+use authority_certs::{CertKind, cert_rows, cert_shape};
 use dirdoc_grammar::Item;
-use frame_reader::Frame;
-use frame_terms::{Again, Count, FrameFault, Keyword, Limit, ReadRefusal, Row, Shape, Taken};
-use frame_values::{
-    DirSource, Value, VoteSignature, at_place, delays_of, flags_of, literal, numbers_of, rest_of,
-    signature_of, source_of, time_of, too_many,
+use frame_reader::{Frame, given};
+use frame_terms::{Again, Count, Keyword, ReadRefusal, Row, Shape, Taken};
+use frame_values::{DirSource, Value, VoteSignature};
+use relay_entries::{
+    EntryKind, EntryValue, Listed, entry_rows, entry_shape, is_ignored, none_listed,
 };
 use std::alloc::Global;
 
@@ -57,6 +57,8 @@ pub enum VoteKind {
     Signature,
     /// What an item of the certificate says.
     Certificate(CertKind),
+    /// What an item of an entry says.
+    Entry(EntryKind),
 }
 
 /// What only items of a vote say.
@@ -68,9 +70,11 @@ pub enum VoteValue {
     Source(DirSource),
     /// The signature.
     Signature(VoteSignature),
+    /// What an item of an entry says.
+    Entry(EntryValue),
 }
 
-// A row: its keyword, its count and its kind.
+/// A row: its keyword, its count and its kind.
 macro_rules! row {
     ($keyword:ident, $count:ident, $kind:expr) => {
         Row {
@@ -109,17 +113,7 @@ const AUTHORITY: [Row<VoteKind>; 3] = [
 
 const CERTIFICATE: [Row<VoteKind>; 9] = cert_rows!(VoteKind::Certificate);
 
-const ENTRY: [Row<VoteKind>; 9] = [
-    row!(R, One, VoteKind::Rest),
-    row!(A, Many, VoteKind::Rest),
-    row!(S, One, VoteKind::Rest),
-    row!(V, Optional, VoteKind::Rest),
-    row!(Pr, Optional, VoteKind::Rest),
-    row!(W, Optional, VoteKind::Rest),
-    row!(P, Optional, VoteKind::Rest),
-    row!(M, Many, VoteKind::Rest),
-    row!(Id, Optional, VoteKind::Rest),
-];
+const ENTRY: [Row<VoteKind>; 9] = entry_rows!(VoteKind::Entry);
 
 const FOOTER: [Row<VoteKind>; 2] = [
     row!(DirectoryFooter, One, VoteKind::Nothing),
@@ -134,7 +128,7 @@ const SECTIONS: [VoteSection; 4] = [
 ];
 
 const NOT_BUILT: [Keyword; 8] = [
-    Keyword::R,
+    Keyword::W,
     Keyword::ClientVersions,
     Keyword::ServerVersions,
     Keyword::RecommendedClientProtocols,
@@ -144,7 +138,7 @@ const NOT_BUILT: [Keyword; 8] = [
     Keyword::Params,
 ];
 
-// A section that stands once, and ends where another begins.
+/// A section that stands once, and ends where another begins.
 fn plain(opener: Keyword) -> Shape<VoteSection>
     ensures { result ≡ tables.plain opener }
 {
@@ -157,47 +151,6 @@ fn plain(opener: Keyword) -> Shape<VoteSection>
     }
 }
 
-// What an item says, or the place of what is wrong.
-fn value_at(kind: VoteKind, item: &Item<'_>) -> Result<Value<VoteValue>, u64>
-    requires { IsInside item.now }
-    ensures { result ≡ tables.value_at kind (seen item.now) }
-{
-    match kind {
-        VoteKind::Version => {
-            literal(b"3", item)?;
-            Ok(Value::Nothing)
-        }
-        VoteKind::Status => {
-            literal(b"vote", item)?;
-            Ok(Value::Nothing)
-        }
-        VoteKind::Methods => Ok(Value::Text(numbers_of(item)?)),
-        VoteKind::Time => Ok(Value::Number(time_of(item)?)),
-        VoteKind::Delays => {
-            let (vote, distribution) = delays_of(item)?;
-            Ok(Value::Own(VoteValue::Delays(vote, distribution)))
-        }
-        VoteKind::KnownFlags => Ok(Value::Text(flags_of(item)?)),
-        VoteKind::Rest => Ok(Value::Text(rest_of(item))),
-        VoteKind::Source => Ok(Value::Own(VoteValue::Source(source_of(item)?))),
-        VoteKind::Nothing => Ok(Value::Nothing),
-        VoteKind::Signature => Ok(Value::Own(VoteValue::Signature(signature_of(item)?))),
-        VoteKind::Certificate(kind) => cert_value(kind, item),
-    }
-}
-
-// The fault of an item that has too many arguments for its kind.
-fn over_limit(kind: VoteKind, item: &Item<'_>) -> Result<(), FrameFault>
-    requires { IsInside item.now }
-    ensures { result ≡ tables.over_limit kind (seen item.now) }
-{
-    match kind {
-        VoteKind::Methods => too_many(Limit::Methods, item),
-        VoteKind::KnownFlags => too_many(Limit::KnownFlags, item),
-        _ => Ok(()),
-    }
-}
-
 impl Frame for VoteFrame {
     type Section = VoteSection;
 
@@ -205,7 +158,7 @@ impl Frame for VoteFrame {
 
     type Value = Value<VoteValue>;
 
-    type Across = ();
+    type Across = Listed;
 
     ghost tables = { λ _. tables.vote_tables };
 
@@ -225,10 +178,7 @@ impl Frame for VoteFrame {
                 ..plain(Keyword::DirSource)
             },
             VoteSection::Certificate => cert_shape(),
-            VoteSection::Entry => Shape {
-                again: Again::Section,
-                ..plain(Keyword::R)
-            },
+            VoteSection::Entry => entry_shape(),
             VoteSection::Footer => Shape {
                 last: Some(Keyword::DirectorySignature),
                 ..plain(Keyword::DirectoryFooter)
@@ -250,23 +200,28 @@ impl Frame for VoteFrame {
         NOT_BUILT.iter().any(|other| other.same(keyword))
     }
 
-    fn ignores(self, _: VoteKind, _: &Item<'_>) -> bool {
-        false
+    fn ignores(self, kind: VoteKind, item: &Item<'_>) -> bool {
+        match kind {
+            VoteKind::Entry(kind) => is_ignored(kind, item),
+            _ => false,
+        }
     }
 
     fn value(
         self,
-        _: &(),
+        listed: &Listed,
         kind: VoteKind,
         item: &Item<'_>,
-    ) -> Result<Value<VoteValue>, FrameFault> {
-        over_limit(kind, item)?;
-        at_place(value_at(kind, item))
+    ) -> Result<Value<VoteValue>, ReadRefusal> {
+        given(over_limit(listed, kind, item))?;
+        value_at(listed, kind, item)
     }
 
-    fn start(self, _: Global) {}
+    fn start(self, alloc: Global) -> Listed {
+        none_listed(alloc)
+    }
 
-    fn note(self, _: &mut (), _: &Taken<Value<VoteValue>>) -> Result<(), ReadRefusal> {
-        Ok(())
+    fn note(self, listed: &mut Listed, one: &Taken<Value<VoteValue>>) -> Result<(), ReadRefusal> {
+        note_value(listed, one.place, one.value)
     }
 }

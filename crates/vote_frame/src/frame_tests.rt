@@ -1,30 +1,45 @@
 // Votes with one fault, and where it is found.
 use super::*;
-use frame_terms::{FrameFault, FrameReason, Keyword, Limit, ReadRefusal};
-use std::alloc::Global;
+use dirdoc_grammar::Items;
+use frame_reader::{Facts, read_document};
+use frame_terms::{FrameFault, FrameReason, Keyword, Limit, ReadRefusal, Taken};
+use frame_values::Value;
+use std::alloc::{AllocError, Global};
 use std::test::*;
 
-const HEAD: &[u8] = b"network-status-version 3\n\
+/// What keeps nothing of a vote.
+#[derive(Drop)]
+struct Nothing;
+
+impl Facts<VoteFrame> for Nothing {
+    ghost with = { λ facts _ _. facts };
+
+    fn close(&mut self, _: VoteSection, _: &[Taken<Value<VoteValue>>]) -> Result<(), AllocError> {
+        Ok(())
+    }
+}
+
+pub(crate) const HEAD: &[u8] = b"network-status-version 3\n\
 vote-status vote\n\
 consensus-methods 32\n\
 ";
 
-const PUBLISHED: &[u8] = b"published 2025-12-31 23:50:00\n\
+pub(crate) const PUBLISHED: &[u8] = b"published 2025-12-31 23:50:00\n\
 ";
 
-const TIMES: &[u8] = b"valid-after 2026-01-01 00:00:00\n\
+pub(crate) const TIMES: &[u8] = b"valid-after 2026-01-01 00:00:00\n\
 fresh-until 2026-01-01 01:00:00\n\
 valid-until 2026-01-01 03:00:00\n\
 voting-delay 300 300\n\
 known-flags Running Valid\n\
 ";
 
-const SOURCE: &[u8] =
+pub(crate) const SOURCE: &[u8] =
     b"dir-source auth1 2FD4E1C67A2D28FCED849EE1BB76E7391B93EB12 auth1.example 192.0.2.1 80 443\n\
 contact operator 1\n\
 ";
 
-const CERTIFICATE: &[u8] = b"dir-key-certificate-version 3\n\
+pub(crate) const CERTIFICATE: &[u8] = b"dir-key-certificate-version 3\n\
 fingerprint 2FD4E1C67A2D28FCED849EE1BB76E7391B93EB12\n\
 dir-identity-key\n\
 -----BEGIN RSA PUBLIC KEY-----\n\
@@ -46,18 +61,18 @@ Zw20WLCU5zapzeLufxICg2CtoDETZ1JgmEU5tdnIBmA=\n\
 -----END SIGNATURE-----\n\
 ";
 
-const FOOTER: &[u8] = b"directory-footer\n\
+pub(crate) const FOOTER: &[u8] = b"directory-footer\n\
 ";
 
-const SIGNATURE: &[u8] =
+pub(crate) const SIGNATURE: &[u8] =
     b"directory-signature 2FD4E1C67A2D28FCED849EE1BB76E7391B93EB12 6F72C48DADD6EFEB0DCB997E00F90619CA181EEC\n\
 -----BEGIN SIGNATURE-----\n\
 MqbYcq3B0vw+uX6qJMMwdeX1QHgvqQkqHisTccO6uRg=\n\
 -----END SIGNATURE-----\n\
 ";
 
-// What reading these pieces as one vote gives: how many bytes it has.
-fn read_pieces(alloc: Global, pieces: &[&[u8]]) -> Result<usize, ReadRefusal> {
+/// What reading these pieces as one vote gives: how many bytes it has.
+pub(crate) fn read_pieces(alloc: Global, pieces: &[&[u8]]) -> Result<u64, ReadRefusal> {
     let mut vote = Vec::new(alloc);
     for piece in pieces {
         vote.extend_from_slice(*piece)?;
@@ -65,11 +80,18 @@ fn read_pieces(alloc: Global, pieces: &[&[u8]]) -> Result<usize, ReadRefusal> {
     if vote.len() > 1_000_000 {
         return Err(ReadRefusal::Memory);
     }
-    let (_, used) = read(alloc, &vote)?;
-    Ok(used)
+    let mut items = Items::new(&vote, 1_000_000);
+    read_document(
+        alloc,
+        VoteFrame,
+        &mut items,
+        vote.len() as u64,
+        &mut Nothing,
+    )
 }
 
-fn fault(place: u64, reason: FrameReason) -> Result<usize, ReadRefusal> {
+/// The refusal of a vote with this fault.
+pub(crate) fn fault(place: u64, reason: FrameReason) -> Result<u64, ReadRefusal> {
     Err(ReadRefusal::Frame(FrameFault { place, reason }))
 }
 
@@ -145,7 +167,7 @@ fn certificates(rt: HostRuntime) {
 }
 
 /// What a vote gives whose certificate has this behind its first line, and then a `contact` line.
-fn read_filled(alloc: Global, filling: &[u8]) -> Result<usize, ReadRefusal> {
+fn read_filled(alloc: Global, filling: &[u8]) -> Result<u64, ReadRefusal> {
     let version: &[u8] = b"dir-key-certificate-version 3\n";
     let contact: &[u8] = b"contact\n";
     let pieces: [&[u8]; 7] = [HEAD, PUBLISHED, TIMES, SOURCE, version, filling, contact];

@@ -1,0 +1,4 @@
+pub mod Saying
+pub mod Kept
+pub mod Entries
+pub mod Rows

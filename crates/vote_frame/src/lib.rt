@@ -1,0 +1,13 @@
+//! A vote as a kind of document: its sections, the tables of their items, and what the items say (dir-spec, "Vote and consensus
+//! status document formats").
+#![tactic(auto)]
+
+mod frame;
+mod value;
+
+pub use frame::{VoteFrame, VoteKind, VoteSection, VoteValue};
+
+#[cfg(test)]
+mod entry_tests;
+#[cfg(test)]
+mod frame_tests;

@@ -1,0 +1,102 @@
+// What the items of a vote say, and what is remembered of them.
+ghost use Rattle.std.specs.Prelude.{◌≡◌};
+ghost use Rattle.dirdoc_grammar.specs.Seen.{seen, IsInside};
+ghost use Rattle.frame_terms.specs.Refusals.{Becomes};
+ghost use Rattle.frame_reader.specs.Giving as giving;
+ghost use Rattle.frame_reader.specs.Giving.{Gives};
+ghost use Rattle.frame_values.specs.Faults as faults;
+ghost use Rattle.relay_entries.specs.Lines as lines;
+ghost use Rattle.vote_frame.specs.Tables as tables;
+
+use crate::frame::{VoteKind, VoteValue};
+use authority_certs::cert_value;
+use dirdoc_grammar::Item;
+use frame_reader::given;
+use frame_terms::{FrameFault, Limit, ReadRefusal};
+use frame_values::{
+    Value, at_place, delays_of, literal, numbers_of, rest_of, signature_of, source_of, time_of,
+    too_many,
+};
+use relay_entries::{EntryValue, Listed, entry_value, flags_of, note_entry, too_many_entries};
+
+/// What an item of an entry says, as a vote does.
+fn lifted(said: Value<EntryValue>) -> Value<VoteValue>
+    ensures { result ≡ lines.lifted VoteValue.Entry said }
+{
+    match said {
+        Value::Nothing => Value::Nothing,
+        Value::Text(span) => Value::Text(span),
+        Value::Number(number) => Value::Number(number),
+        Value::Fingerprint(identity) => Value::Fingerprint(identity),
+        Value::Object(lines) => Value::Object(lines),
+        Value::Own(said) => Value::Own(VoteValue::Entry(said)),
+    }
+}
+
+/// A value, or the refusal at the place of what is wrong.
+fn at<V>(value: Result<V, u64>) -> Result<V, ReadRefusal>
+    ensures { result ≡ giving.given (faults.at_place value) }
+{
+    given(at_place(value))
+}
+
+/// What an item says, or the place of what is wrong.
+pub(crate) fn value_at(
+    listed: &Listed,
+    kind: VoteKind,
+    item: &Item<'_>,
+) -> Result<Value<VoteValue>, ReadRefusal>
+    requires { IsInside item.now }
+    ensures { Gives (faults.at_place (tables.value_at kind (seen item.now))) result }
+{
+    match kind {
+        VoteKind::Version => {
+            at(literal(b"3", item))?;
+            Ok(Value::Nothing)
+        }
+        VoteKind::Status => {
+            at(literal(b"vote", item))?;
+            Ok(Value::Nothing)
+        }
+        VoteKind::Methods => Ok(Value::Text(at(numbers_of(item))?)),
+        VoteKind::Time => Ok(Value::Number(at(time_of(item))?)),
+        VoteKind::Delays => {
+            let (vote, distribution) = at(delays_of(item))?;
+            Ok(Value::Own(VoteValue::Delays(vote, distribution)))
+        }
+        VoteKind::KnownFlags => Ok(Value::Text(flags_of(listed.keys.alloc(), item)?)),
+        VoteKind::Rest => Ok(Value::Text(rest_of(item))),
+        VoteKind::Source => Ok(Value::Own(VoteValue::Source(at(source_of(item))?))),
+        VoteKind::Nothing => Ok(Value::Nothing),
+        VoteKind::Signature => Ok(Value::Own(VoteValue::Signature(at(signature_of(item))?))),
+        VoteKind::Certificate(kind) => at(cert_value(kind, item)),
+        VoteKind::Entry(kind) => Ok(lifted(entry_value(listed, kind, item)?)),
+    }
+}
+
+/// The fault of an item that has too many arguments for its kind, or that begins one entry too many.
+pub(crate) fn over_limit(listed: &Listed, kind: VoteKind, item: &Item<'_>) -> Result<(), FrameFault>
+    requires { IsInside item.now }
+    ensures { result ≡ tables.over_limit listed.now kind (seen item.now) }
+{
+    match kind {
+        VoteKind::Methods => too_many(Limit::Methods, item),
+        VoteKind::KnownFlags => too_many(Limit::KnownFlags, item),
+        VoteKind::Entry(kind) => too_many_entries(listed, kind, item),
+        _ => Ok(()),
+    }
+}
+
+/// Remembers what an item says that begins at a place.
+pub(crate) fn note_value(
+    listed: &mut Listed,
+    place: u64,
+    value: Value<VoteValue>,
+) -> Result<(), ReadRefusal>
+    ensures { Becomes (tables.note_value listed.old place value) listed.new result }
+{
+    match value {
+        Value::Own(VoteValue::Entry(said)) => note_entry(listed, place, said),
+        _ => Ok(()),
+    }
+}

@@ -1,0 +1,207 @@
+-- An entry of a vote, row by row of its section's table.
+use Rattle.std.proofs.Common.{◌≡◌, ℕ, true, List, [], ◌∷◌, ◌++◌, Option, Some, None, refl, sym, ap, ◌∙◌}
+use Rattle.std.proofs.Common.{append-nil}
+use Rattle.std.specs.Prelude.{IfSome, map}
+use Rattle.dir_values.specs.FlagSets.{set_text}
+use Rattle.frame_terms.specs.Keywords.{same}
+use Rattle.frame_terms.specs.Rows.{row}
+use Rattle.frame_terms.specs.declared.document.Taken.{Taken}
+use Rattle.frame_terms.specs.declared.keyword.Keyword.{Keyword}
+use Rattle.frame_terms.specs.declared.keyword.Keyword.TheVariants as the
+use Rattle.frame_terms.specs.declared.row.Count.TheVariants.{Many, One, Optional}
+use Rattle.frame_terms.specs.declared.row.Row.{Row}
+use Rattle.frame_laws.proofs.Both.{both}
+use Rattle.frame_laws.proofs.Entries.{all_taken}
+use Rattle.frame_laws.proofs.Following.{MayFollow, opener_follows, repeated_follows}
+use Rattle.frame_laws.proofs.ManyRows.{row_of_each, said_of_each}
+use Rattle.frame_laws.proofs.Places.{after_all, all_taken-append}
+use Rattle.frame_laws.proofs.RowCounts.{entries_of-append, said_none, said_once}
+use Rattle.frame_laws.proofs.RowValues.{row_if, said_any_if, text_entry}
+use Rattle.frame_laws.proofs.SaidRows.{AreSaid, IsSaid, entries_of, row_once}
+use Rattle.frame_laws.proofs.Sections.{IsWritten}
+use Rattle.frame_laws.proofs.TableRows.{are_plain}
+use Rattle.relay_entries.specs.Texts.{ed_text}
+use Rattle.relay_entries.specs.declared.said.Bandwidths.{Bandwidths}
+use Rattle.relay_entries.specs.declared.said.EdOpinion.{EdOpinion}
+use Rattle.relay_entries.specs.declared.said.EntryKind.{EntryKind}
+use Rattle.relay_entries.specs.declared.said.EntryKind.TheVariants as entry
+use Rattle.entry_laws.specs.Ranges.{AreBandwidthsInRange, IsAddressInRange, IsOpinionInRange}
+use Rattle.vote_terms.specs.declared.entry.EntryFacts.{EntryFacts}
+use Rattle.vote_terms.specs.declared.entry.MicroFacts.{MicroFacts}
+use Rattle.vote_frame.specs.Tables.{vote_tables}
+use Rattle.vote_frame.specs.declared.frame.VoteKind.{VoteKind}
+use Rattle.vote_frame.specs.declared.frame.VoteKind.TheVariants as kind
+use Rattle.vote_frame.specs.declared.frame.VoteSection.TheVariants.{Authority, Footer}
+use Rattle.vote_frame.specs.declared.frame.VoteSection.TheVariants as section
+use Rattle.vote_frame.specs.declared.frame.VoteValue.{VoteValue}
+use Rattle.frame_values.specs.declared.values.Value.{Value}
+use Rattle.vote_laws.specs.Again.{IsEntryInRange, IsMicroInRange}
+use Rattle.vote_laws.proofs.EntryItems.{bandwidths_entry, ed_entry, micro_entry, relay_entry, suits_address}
+use Rattle.vote_laws.proofs.EntryItems.{suits_bandwidths, suits_ed, suits_entry_flags, suits_entry_rest, suits_micro}
+use Rattle.vote_laws.proofs.VoteItems.{VoteEntry, VotePart, VoteRow}
+
+-- ---- rows
+
+-- a row that says this
+abbrev pub entry_kind : EntryKind → VoteKind
+entry_kind of = kind.Entry of
+
+abbrev pub relay_row : Row VoteKind
+relay_row = row the.R One (entry_kind entry.Relay)
+
+-- the rest of a line, or none
+abbrev pub entry_rest : Keyword → Option (List ℕ) → VoteRow
+entry_rest keyword text = row_if (row keyword Optional (entry_kind entry.Rest)) text
+
+-- bandwidths, or none
+abbrev pub bandwidths_if : Option Bandwidths → List VoteEntry
+bandwidths_if None = []
+bandwidths_if (Some w) = bandwidths_entry w ∷ []
+
+abbrev pub bandwidths_row : Option Bandwidths → VoteRow
+bandwidths_row said =
+    record { row = row the.W Optional (entry_kind entry.Bandwidths); entries = bandwidths_if said }
+
+-- an Ed25519 identity, where there is a line of it
+abbrev pub ed_if : EdOpinion → Option (List ℕ) → List VoteEntry
+ed_if opinion None = []
+ed_if opinion (Some text) = ed_entry opinion text ∷ []
+
+abbrev pub ed_row : EdOpinion → VoteRow
+ed_row opinion =
+    record { row = row the.Id Optional (entry_kind entry.Ed); entries = ed_if opinion (ed_text opinion) }
+
+abbrev pub micro_row : List MicroFacts → VoteRow
+micro_row lines = row_of_each (row the.M Many (entry_kind entry.Micro)) micro_entry lines
+
+-- the rows before its microdescriptors
+abbrev pub front_with : Option Bandwidths → EntryFacts → List VoteRow
+front_with bandwidths e =
+    row_of_each (row the.A Many (entry_kind entry.Address)) (text_entry the.A) e.addresses
+    ∷ row_once (row the.S One (entry_kind entry.Flags)) (text_entry the.S (set_text e.flags))
+    ∷ entry_rest the.V e.version
+    ∷ entry_rest the.Pr e.protocols
+    ∷ bandwidths_row bandwidths
+    ∷ entry_rest the.P e.policy
+    ∷ []
+
+abbrev pub front_rows : EntryFacts → List VoteRow
+front_rows e = front_with e.bandwidths e
+
+-- its microdescriptors and its Ed25519 identity
+abbrev pub last_rows : EntryFacts → List VoteRow
+last_rows e = micro_row e.micros ∷ ed_row e.ed ∷ []
+
+abbrev pub entry_section : EntryFacts → VotePart
+entry_section e = record {
+  name = section.Entry;
+  first = relay_row;
+  opener = relay_entry e;
+  middle = front_rows e ++ last_rows e;
+}
+
+-- ---- what is said
+
+said_rest : (keyword : Keyword) (text : Option (List ℕ)) → IsSaid vote_tables (entry_rest keyword text)
+said_rest keyword text =
+    said_any_if vote_tables (row keyword Optional (entry_kind entry.Rest)) text refl
+    (λ t. suits_entry_rest keyword t)
+
+said_bandwidths : (said : Option Bandwidths) → IfSome said AreBandwidthsInRange
+    → IsSaid vote_tables (bandwidths_row said)
+said_bandwidths None are = said_none vote_tables (row the.W Optional (entry_kind entry.Bandwidths)) refl
+said_bandwidths (Some w) are =
+    said_once vote_tables (row the.W Optional (entry_kind entry.Bandwidths)) (bandwidths_entry w)
+    (suits_bandwidths w are)
+
+-- where nothing is said of bandwidths, that is in range
+none_in_range : (said : Option Bandwidths) → said ≡ None → IfSome said AreBandwidthsInRange
+none_in_range None is = tt
+none_in_range (Some w) is = absurd cc
+
+said_ed_if : (opinion : EdOpinion) (text : Option (List ℕ)) → ed_text opinion ≡ text → IsOpinionInRange opinion
+    → IsSaid vote_tables
+    (record { row = row the.Id Optional (entry_kind entry.Ed); entries = ed_if opinion text })
+said_ed_if opinion None is are = said_none vote_tables (row the.Id Optional (entry_kind entry.Ed)) refl
+said_ed_if opinion (Some text) is are =
+    said_once vote_tables (row the.Id Optional (entry_kind entry.Ed)) (ed_entry opinion text)
+    (suits_ed opinion text is are)
+
+pub front_said : (e : EntryFacts) → IsEntryInRange e → AreSaid vote_tables (front_rows e)
+front_said e are =
+    both (said_of_each vote_tables (row the.A Many (entry_kind entry.Address)) (text_entry the.A) IsAddressInRange
+    e.addresses refl refl are.addresses suits_address)
+    (both (said_once vote_tables _ _ (suits_entry_flags e.flags are.flags))
+    (both (said_rest the.V e.version)
+    (both (said_rest the.Pr e.protocols)
+    (both (said_bandwidths e.bandwidths (none_in_range e.bandwidths are.bandwidths))
+    (both (said_rest the.P e.policy) tt)))))
+
+both_said : (front back : List VoteRow) → AreSaid vote_tables front → AreSaid vote_tables back
+    → AreSaid vote_tables (front ++ back)
+both_said [] back a b = b
+both_said (says ∷ front) back a b = both a.0 (both_said front back a.1 b)
+
+last_said : (e : EntryFacts) → IsEntryInRange e → AreSaid vote_tables (last_rows e)
+last_said e are =
+    both (said_of_each vote_tables (row the.M Many (entry_kind entry.Micro)) micro_entry IsMicroInRange e.micros
+    refl refl are.micros suits_micro)
+    (both (said_ed_if e.ed (ed_text e.ed) refl are.ed) tt)
+
+-- Each item of which there are any is built, opens nothing and ends nothing. `w` is not built yet.
+entry_plain : (e : EntryFacts) (bandwidths : Option Bandwidths) → bandwidths ≡ None
+    → are_plain vote_tables section.Entry (front_with bandwidths e ++ last_rows e) ≡ true
+unfolding same
+entry_plain e None is = refl
+entry_plain e (Some w) is = absurd cc
+
+pub entry_written : (e : EntryFacts) → IsEntryInRange e → IsWritten vote_tables (entry_section e) []
+unfolding same
+entry_written e are = record {
+  table = refl;
+  apart = refl;
+  plain = entry_plain e e.bandwidths are.bandwidths;
+  opens = refl;
+  said = both_said (front_rows e) (last_rows e) (front_said e are) (last_said e are);
+}
+
+-- ---- what may follow what
+
+-- an entry may follow the section of the authority, and another entry
+pub first_follows : MayFollow vote_tables Authority section.Entry relay_row
+unfolding same
+first_follows =
+    opener_follows vote_tables Authority section.Entry relay_row refl refl
+    (record { not_here = refl; opens = refl; passes_none = refl; row_there = refl })
+
+pub next_follows : MayFollow vote_tables section.Entry section.Entry relay_row
+unfolding same
+next_follows =
+    repeated_follows vote_tables section.Entry relay_row refl refl
+    (record { row_there = refl; not_last = refl; begins_it = refl })
+
+-- the footer may follow an entry
+pub footer_after : MayFollow vote_tables section.Entry Footer (row the.DirectoryFooter One kind.Nothing)
+unfolding same
+footer_after =
+    opener_follows vote_tables section.Entry Footer (row the.DirectoryFooter One kind.Nothing) refl refl
+    (record { not_here = refl; opens = refl; passes_none = refl; row_there = refl })
+
+-- ---- its items in three parts
+
+pub entry_parts : (e : EntryFacts)
+    → entries_of (front_rows e) ++ (map micro_entry e.micros ++ ed_if e.ed (ed_text e.ed))
+    ≡ entries_of (front_rows e ++ last_rows e)
+entry_parts e =
+    ap (λ (l : List VoteEntry). entries_of (front_rows e) ++ (map micro_entry e.micros ++ l))
+    (sym (append-nil (ed_if e.ed (ed_text e.ed))))
+    ∙ sym (entries_of-append (front_rows e) (last_rows e))
+
+pub taken_parts : (place : ℕ) (front middle back : List VoteEntry)
+    → all_taken place (front ++ (middle ++ back))
+    ≡ all_taken place front ++ (all_taken (after_all place front) middle
+    ++ all_taken (after_all (after_all place front) middle) back)
+taken_parts place front middle back =
+    all_taken-append place front (middle ++ back)
+    ∙ ap (λ (l : List (Taken (Value VoteValue))). all_taken place front ++ l)
+    (all_taken-append (after_all place front) middle back)

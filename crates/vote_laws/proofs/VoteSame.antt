@@ -1,0 +1,112 @@
+-- The items of a vote by its sections' rows are those of its text.
+use Rattle.std.proofs.Common.{◌≡◌, List, [], ◌∷◌, ◌++◌, refl, sym, ap, append_assoc, append-nil, ◌∙◌}
+use Rattle.std.specs.Prelude.{map}
+use Rattle.std.proofs.lemmas.List.{map-append}
+use Rattle.dirdoc_grammar.specs.Writing.{NewItem}
+use Rattle.frame_terms.specs.declared.keyword.Keyword.TheVariants as the
+use Rattle.frame_values.specs.Items.{bare}
+use Rattle.frame_laws.proofs.Ends.{entries_to}
+use Rattle.frame_laws.proofs.Entries.{item_of}
+use Rattle.frame_laws.proofs.Following.{entries_all}
+use Rattle.frame_laws.proofs.RowCounts.{items_of-append}
+use Rattle.frame_laws.proofs.RowValues.{items_if}
+use Rattle.frame_laws.proofs.SaidRows.{items_of}
+use Rattle.frame_laws.proofs.Sections.{entries_in}
+use Rattle.authority_certs.specs.Texts.{cert_items}
+use Rattle.certificate_laws.proofs.CertRows.{cert_entries, certificate_same}
+use Rattle.vote_terms.specs.declared.facts.VoteFacts.{VoteFacts}
+use Rattle.vote_text.specs.Entries.{entries_items}
+use Rattle.vote_text.specs.Texts.{authority_items, flag_items, footer_items, kind_items, time_items, vote_items}
+use Rattle.vote_frame.specs.declared.frame.VoteValue.{VoteValue}
+use Rattle.vote_laws.specs.Again.{unsigned_items}
+use Rattle.vote_laws.proofs.EntryRows.{entry_section}
+use Rattle.vote_laws.proofs.EntrySame.{entries_same}
+use Rattle.vote_laws.proofs.VoteItems.{VoteEntry, VoteRow, signature_entry}
+use Rattle.vote_laws.proofs.VoteRows.{authority, flag_rows, footer, kind_rows, preamble, protocol_rows, time_rows}
+use Rattle.vote_laws.proofs.VoteRows.{version_rows}
+
+-- the items of its certificate, of its entries and of its footer
+abbrev pub in_cert : VoteFacts → List VoteEntry
+in_cert facts = cert_entries facts.certificate
+
+abbrev pub in_list : VoteFacts → List VoteEntry
+in_list facts = entries_all (map entry_section facts.entries)
+
+abbrev pub footer_entries : VoteFacts → List VoteEntry
+footer_entries facts = entries_to footer (signature_entry facts.signature)
+
+-- its items
+abbrev pub vote_entries : VoteFacts → List VoteEntry
+vote_entries facts =
+    entries_in (preamble facts)
+    ++ (entries_in (authority facts) ++ (in_cert facts ++ (in_list facts ++ footer_entries facts)))
+
+-- they are those of its text
+kind_same : (facts : VoteFacts) → kind_items facts ≡ item_of (preamble facts).opener ∷ items_of (kind_rows facts)
+kind_same facts = simp (items_if, append-nil) refl
+
+flag_same : (facts : VoteFacts) → flag_items facts ≡ items_of (flag_rows facts)
+flag_same facts = simp (items_if, append-nil) refl
+
+authority_same : (facts : VoteFacts) → authority_items facts ≡ map item_of (entries_in (authority facts))
+authority_same facts = simp (items_if, append-nil) refl
+
+-- the items of five lists of rows
+by_rows : (k t v f p : List VoteRow)
+    → items_of (k ++ (t ++ (v ++ (f ++ p))))
+    ≡ items_of k ++ (items_of t ++ (items_of v ++ (items_of f ++ items_of p)))
+by_rows k t v f p = simp items_of-append refl
+
+preamble_same : (facts : VoteFacts)
+    → kind_items facts ++ (time_items facts ++ flag_items facts) ≡ map item_of (entries_in (preamble facts))
+preamble_same facts =
+    let t = time_items facts in
+    let first = item_of (preamble facts).opener in
+    let kind = items_of (kind_rows facts) in
+    let flags = items_of (flag_rows facts) in
+    ap (λ (l : List NewItem). l ++ (t ++ flag_items facts)) (kind_same facts)
+    ∙ ap (λ (l : List NewItem). first ∷ (kind ++ (t ++ l))) (flag_same facts ∙ sym (append-nil flags))
+    ∙ ap (λ (l : List NewItem). first ∷ l)
+    (sym (by_rows (kind_rows facts) (time_rows facts) version_rows (flag_rows facts) protocol_rows))
+
+-- the items of all sections, of which these are the last
+all_same : (facts : VoteFacts) (last : List NewItem) (others : List VoteEntry) → last ≡ map item_of others
+    → kind_items facts ++ time_items facts ++ flag_items facts ++ authority_items facts
+    ++ cert_items facts.certificate ++ entries_items facts.entries ++ last
+    ≡ map item_of
+    (entries_in (preamble facts) ++ (entries_in (authority facts) ++ (in_cert facts ++ (in_list facts ++ others))))
+all_same facts last others same_last =
+    let a = authority_items facts in
+    let c = cert_items facts.certificate in
+    let e = entries_items facts.entries in
+    let in_p = map item_of (entries_in (preamble facts)) in
+    let in_a = map item_of (entries_in (authority facts)) in
+    let in_c = map item_of (in_cert facts) in
+    joined (kind_items facts) (time_items facts) (flag_items facts) a c e last
+    ∙ ap (λ (l : List NewItem). l ++ (a ++ (c ++ (e ++ last)))) (preamble_same facts)
+    ∙ ap (λ (l : List NewItem). in_p ++ (l ++ (c ++ (e ++ last)))) (authority_same facts)
+    ∙ ap (λ (l : List NewItem). in_p ++ (in_a ++ (l ++ (e ++ last)))) (certificate_same VoteValue facts.certificate)
+    ∙ ap (λ (l : List NewItem). in_p ++ (in_a ++ (in_c ++ (l ++ last)))) (entries_same facts.entries)
+    ∙ ap (λ (l : List NewItem). in_p ++ (in_a ++ (in_c ++ (map item_of (in_list facts) ++ l)))) same_last
+    ∙ sym (by_sections (entries_in (preamble facts)) (entries_in (authority facts)) (in_cert facts) (in_list facts)
+    others)
+  where
+    joined : (k t f a c e l : List NewItem)
+        → k ++ t ++ f ++ a ++ c ++ e ++ l ≡ (k ++ (t ++ f)) ++ (a ++ (c ++ (e ++ l)))
+    joined k t f a c e l = simp append_assoc refl
+
+    by_sections : (p a c e f : List VoteEntry)
+        → map item_of (p ++ (a ++ (c ++ (e ++ f))))
+        ≡ map item_of p ++ (map item_of a ++ (map item_of c ++ (map item_of e ++ map item_of f)))
+    by_sections p a c e f = simp map-append refl
+
+pub vote_same : (facts : VoteFacts) → vote_items facts ≡ map item_of (vote_entries facts)
+vote_same facts = all_same facts (footer_items facts.signature) (footer_entries facts) refl
+
+-- the items before the signature
+pub unsigned_same : (facts : VoteFacts)
+    → unsigned_items facts
+    ≡ map item_of
+    (entries_in (preamble facts)
+    ++ (entries_in (authority facts) ++ (in_cert facts ++ (in_list facts ++ entries_in footer))))
+unsigned_same facts = all_same facts (bare the.DirectoryFooter [] ∷ []) (entries_in footer) refl

@@ -1,0 +1,92 @@
+-- The entries of a vote that was written, and its footer, are read behind the section of its authority.
+use Rattle.std.proofs.Common.{◌≡◌, ℕ, List, [], ◌∷◌, ◌++◌, Option, None, Result, Ok, refl, ap, ◌∙◌}
+use Rattle.std.specs.Prelude.{map}
+use Rattle.item_terms.specs.Items.{Item}
+use Rattle.item_terms.specs.declared.fault.DocFault.{DocFault}
+use Rattle.dirdoc_grammar.specs.Writing.{all_written}
+use Rattle.frame_terms.specs.Documents.{group, read_items}
+use Rattle.frame_terms.specs.Rows.{row}
+use Rattle.frame_terms.specs.Sections.{lacking}
+use Rattle.frame_terms.specs.declared.document.Group.{Group}
+use Rattle.frame_terms.specs.declared.fault.ReadRefusal.{ReadRefusal}
+use Rattle.frame_terms.specs.declared.keyword.Keyword.TheVariants as the
+use Rattle.frame_terms.specs.declared.row.Count.TheVariants.{One}
+use Rattle.frame_values.specs.declared.values.Value.{Value}
+use Rattle.frame_laws.proofs.Ends.{end_read}
+use Rattle.frame_laws.proofs.Entries.{item_of}
+use Rattle.frame_laws.proofs.Following.{MayFollow, groups_of, last_first, last_name, last_others, last_whole, onto_all}
+use Rattle.frame_laws.proofs.Following.{sections_read}
+use Rattle.frame_laws.proofs.Groups.{groups_in, onto_all-last, onto_all-ok}
+use Rattle.frame_laws.proofs.Passing.{notes_passing}
+use Rattle.frame_laws.proofs.Places.{both_written}
+use Rattle.frame_laws.proofs.Steps.{opening}
+use Rattle.relay_entries.specs.Listing.{none_listed}
+use Rattle.vote_terms.specs.declared.entry.EntryFacts.{EntryFacts}
+use Rattle.vote_terms.specs.declared.facts.VoteFacts.{VoteFacts}
+use Rattle.vote_frame.specs.Tables.{vote_tables}
+use Rattle.vote_frame.specs.declared.frame.VoteKind.TheVariants as kind
+use Rattle.vote_frame.specs.declared.frame.VoteSection.{VoteSection}
+use Rattle.vote_frame.specs.declared.frame.VoteSection.TheVariants.{Authority, Entry, Footer}
+use Rattle.vote_frame.specs.declared.frame.VoteValue.{VoteValue}
+use Rattle.vote_laws.specs.Again.{IsInRange}
+use Rattle.vote_laws.proofs.EntryNotes.{all_listed, all_may, entries_next}
+use Rattle.vote_laws.proofs.EntryRows.{entry_section, first_follows, footer_after}
+use Rattle.vote_laws.proofs.Heard.{forgotten, is_quiet}
+use Rattle.vote_laws.proofs.VoteItems.{signature_entry, suits_nothing}
+use Rattle.vote_laws.proofs.VotePlaces.{VoteDocument, VoteTaken, entries_place, footer_place, in_footer, section_quiet}
+use Rattle.vote_laws.proofs.VotePlaces.{section_to_quiet, sections_of, vote_end}
+use Rattle.vote_laws.proofs.VoteRows.{footer, footer_ended, footer_follows, signature_row}
+use Rattle.vote_laws.proofs.VoteSame.{footer_entries, in_list}
+
+-- the footer may follow the section of the authority and any number of entries
+after_entries : (list : List EntryFacts)
+    → MayFollow vote_tables (last_name Entry (map entry_section list)) Footer (row the.DirectoryFooter One kind.Nothing)
+after_entries [] = footer_after
+after_entries (e ∷ list) = after_entries list
+
+after_all_entries : (list : List EntryFacts)
+    → MayFollow vote_tables (last_name Authority (map entry_section list)) Footer
+    (row the.DirectoryFooter One kind.Nothing)
+after_all_entries [] = footer_follows
+after_all_entries (e ∷ list) = after_entries list
+
+-- what follows the sections before
+abbrev after_groups : List (Group VoteSection (Value VoteValue)) → Result VoteDocument ReadRefusal
+    → Result VoteDocument ReadRefusal
+after_groups groups more = onto_all groups more
+
+pub tail_read : (length_ : ℕ) (facts : VoteFacts) (fault : Option DocFault) (more : List Item) → IsInRange facts
+    → (first : VoteTaken) (taken : List VoteTaken) → lacking (vote_tables.rows Authority) (first ∷ taken) ≡ None
+    → read_items vote_tables length_ none_listed (opening Authority (first ∷ taken) None) fault
+    (all_written (entries_place facts) (map item_of (in_list facts ++ footer_entries facts)) ++ more)
+    ≡ Ok (record {
+      groups =
+          group Authority (first ∷ taken)
+          ∷ (groups_in (entries_place facts) (sections_of facts) ++ group Footer (in_footer facts) ∷ []);
+      used = vote_end facts;
+    })
+tail_read length_ facts fault more are first taken whole =
+    let at_e = entries_place facts in
+    let at_f = footer_place facts in
+    let list = sections_of facts in
+    let f = footer_entries facts in
+    let listed = all_listed none_listed facts.entries in
+    let rest = all_written at_f (map item_of f) ++ more in
+    let may = all_may facts.entries are.entries in
+    let next = entries_next none_listed Authority at_e facts.entries first_follows may in
+    let signature = signature_entry facts.signature in
+    let quiet = section_to_quiet footer signature (section_quiet footer (λ p. refl) refl tt) (λ p. refl) in
+    let ended = group Footer (in_footer facts) ∷ [] in
+    let last : Result VoteDocument ReadRefusal = Ok (record { groups = ended; used = vote_end facts }) in
+    ap (λ (l : List Item). read_items vote_tables length_ none_listed (opening Authority (first ∷ taken) None) fault l)
+    (both_written at_e (in_list facts) f more)
+    ∙ sections_read vote_tables length_ none_listed listed Authority first taken at_e list fault rest whole next
+    ∙ ap (after_groups (groups_of Authority (first ∷ taken) at_e list))
+    (end_read vote_tables length_ listed at_f footer signature_row signature fault more
+    (footer_ended facts.signature are.signature)
+    listed (last_name Authority list) (last_first first at_e list) (last_others taken at_e list)
+    (last_whole vote_tables none_listed listed Authority first taken at_e list whole next)
+    (after_all_entries facts.entries) (suits_nothing the.DirectoryFooter listed at_f)
+    (notes_passing vote_tables is_quiet forgotten listed at_f f quiet))
+    ∙ onto_all-last Authority first taken at_e list last
+    ∙ onto_all-ok (group Authority (first ∷ taken) ∷ groups_in at_e list) ended (vote_end facts)

@@ -1,0 +1,52 @@
+use Rattle.std.proofs.Common.{◌∙◌, ◌++◌, List, ℕ, ap}
+use Rattle.std.specs.Prelude.{option_map}
+use Rattle.dirdoc_grammar.specs.Writing.{NewItem, items_text}
+use Rattle.frame_terms.specs.declared.keyword.Keyword.TheVariants as the
+use Rattle.frame_values.specs.Items.{item_if}
+use Rattle.relay_entries.specs.Texts.{bandwidths_text, ed_text}
+use Rattle.vote_terms.specs.declared.entry.MicroFacts.{MicroFacts}
+use Rattle.vote_text.specs.Entries.{flag_items, items_each, micro_items, relay_items}
+use Rattle.vote_text.proofs.Appends.{and_then}
+use Rattle.vote_text.proofs.entry.push_entry.Goals as goal
+
+pub returns : goal.returns
+returns c =
+    let entry = c.args.entry.now in
+    let out = c.args.out.now.items in
+    let r : List NewItem = relay_items entry in
+    let a : List NewItem = items_each the.A entry.addresses in
+    let s : List NewItem = flag_items entry in
+    let v : List NewItem = item_if the.V entry.version in
+    let q : List NewItem = item_if the.Pr entry.protocols in
+    let w : List NewItem = item_if the.W (option_map bandwidths_text entry.bandwidths) in
+    let p : List NewItem = item_if the.P entry.policy in
+    let m : List NewItem = micro_items entry.micros in
+    let i : List NewItem = item_if the.Id (ed_text entry.ed) in
+    let after_r = c.push_relay.new.out.items in
+    let after_a = c.push_each.new.out.items in
+    let after_s = c.push_flags.new.out.items in
+    let after_v = c.push_if.new.out.items in
+    let after_q = c.push_if-2.new.out.items in
+    let after_w = c.push_bandwidths_if.new.out.items in
+    let after_p = c.push_if-3.new.out.items in
+    let after_m = c.push_micros.new.out.items in
+    let after_i = c.push_ed.new.out.items in
+    let addresses = ap (λ (l : List (List ℕ)). after_r ++ items_text (items_each the.A l)) c.as_slice.ensures in
+    let micros = ap (λ (l : List MicroFacts). after_p ++ items_text (micro_items l)) c.as_slice-2.ensures in
+    and_then out after_m after_i (r ++ a ++ s ++ v ++ q ++ w ++ p ++ m) i
+    (and_then out after_p after_m (r ++ a ++ s ++ v ++ q ++ w ++ p) m
+    (and_then out after_w after_p (r ++ a ++ s ++ v ++ q ++ w) p
+    (and_then out after_q after_w (r ++ a ++ s ++ v ++ q) w
+    (and_then out after_v after_q (r ++ a ++ s ++ v) q
+    (and_then out after_s after_v (r ++ a ++ s) v
+    (and_then out after_a after_s (r ++ a) s
+    (and_then out after_r after_a r a
+    c.in_ok-push_relay.ensures
+    (c.in_ok-push_each.ensures ∙ addresses))
+    c.in_ok-push_flags.ensures)
+    c.in_ok-push_if.ensures)
+    c.in_ok-push_if-2.ensures)
+    c.in_ok-push_bandwidths_if.ensures)
+    c.in_ok-push_if-3.ensures)
+    (c.in_ok-push_micros.ensures ∙ micros))
+    c.in_ok-push_ed.ensures
