@@ -1,0 +1,27 @@
+use Rattle.std.proofs.Common.{◌≡◌, ℕ, List, sym, ap, ◌∙◌, subst}
+use Rattle.std.specs.Prelude.{not, ◌==◌, map, filter}
+use Rattle.std.specs.List.{flat_map}
+use Rattle.dir_values.specs.FlagSets as flag_sets
+use Rattle.dir_values.proofs.Flags.{Ascend-as_set}
+use Rattle.list_values.specs.Maps.{Ascend, named, names_of}
+use Rattle.list_values.specs.Masks.{all_listed}
+use Rattle.field_votes.specs.Lists.{all_names, listed_numbers, is_listed_protocol}
+use Rattle.field_votes.specs.Private.{listed_mask}
+use Rattle.field_votes.proofs.ListedMasks.{listed_among}
+use Rattle.field_votes.proofs.NamedLists.{ascend_among}
+use Rattle.field_votes.proofs.protocol_votes.protocols.Goals as goal
+
+pub new-requires : goal.new-requires
+new-requires c =
+    let lists = c.args.lists.now in
+    let names : c.deref.result.now ≡ all_names lists = c.deref.ensures.value ∙ c.in_ok-names.ensures in
+    subst Ascend (sym c.in_ok-items.ensures)
+    (ascend_among (listed_mask lists) (λ (name : List ℕ). not (listed_mask lists name == 0)) c.deref.result.now
+    (subst flag_sets.Ascend (sym names) (Ascend-as_set (flat_map names_of lists))))
+
+pub returns : goal.returns
+returns c =
+    let lists = c.args.lists.now in
+    let names : c.deref.result.now ≡ all_names lists = c.deref.ensures.value ∙ c.in_ok-names.ensures in
+    c.new.ensures ∙ ap all_listed c.in_ok-items.ensures ∙ listed_among lists c.deref.result.now
+    ∙ ap (λ (l : List (List ℕ)). map (λ (name : List ℕ). named name (listed_numbers lists name)) (filter (is_listed_protocol lists) l)) names

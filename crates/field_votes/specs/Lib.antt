@@ -1,0 +1,5 @@
+pub mod Leading
+pub mod Plain
+pub mod Flags
+pub mod Lists
+pub mod Private

@@ -1,0 +1,31 @@
+//! What several votes say of one field: the value that stands most often, low medians, and the flags of a majority.
+#![tactic(auto)]
+
+mod ballot;
+mod choosing;
+mod flag_lists;
+mod laws;
+mod line;
+mod majorities;
+mod medians;
+mod param_votes;
+mod protocol_votes;
+mod text_ballot;
+mod version_line;
+
+pub use ballot::Ballot;
+pub use choosing::chosen;
+pub use flag_lists::{add_own_flags, known_flags};
+pub use laws::chosen_is_chosen;
+pub use line::Line;
+pub use majorities::majority_flags;
+pub use medians::{low_median_i32, low_median_u64};
+pub use param_votes::params;
+pub use protocol_votes::protocols;
+pub use text_ballot::most_common;
+pub use version_line::VersionLine;
+
+#[cfg(test)]
+mod list_tests;
+#[cfg(test)]
+mod tests;
