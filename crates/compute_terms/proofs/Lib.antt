@@ -1,1 +1,2 @@
 pub mod FlagLaw
+pub mod Pairs

@@ -3,6 +3,8 @@ use Rattle.std.specs.Prelude.{ℕ, List, map}
 use Rattle.vote_terms.specs.Votes.{ReadVote, vote_digest}
 use Rattle.compute_terms.specs.Times.{median_of}
 use Rattle.compute_terms.specs.Flags.{known_flags}
+use Rattle.compute_terms.specs.Bandwidths.{default_unmeasured_limit}
+use Rattle.compute_terms.specs.Routers.{routers}
 use Rattle.consensus_terms.specs.declared.consensus.Consensus.{Consensus}
 use Rattle.consensus_terms.specs.declared.consensus.SourceLine.{SourceLine}
 
@@ -19,10 +21,14 @@ source_of vote = record {
   vote_digest = vote_digest vote;
 }
 
+-- the consensus method
+abbrev pub method : ℕ
+method = 32
+
 -- the consensus of the held votes, where the roster has so many authorities
 abbrev pub consensus : ℕ → List ReadVote → Consensus
 consensus roster votes = record {
-  method = 32;
+  method = method;
   valid_after = median_of (λ vote. vote.says.valid_after) votes;
   fresh_until = median_of (λ vote. vote.says.fresh_until) votes;
   valid_until = median_of (λ vote. vote.says.valid_until) votes;
@@ -30,4 +36,5 @@ consensus roster votes = record {
   dist_seconds = median_of (λ vote. vote.says.dist_seconds) votes;
   known_flags = known_flags votes;
   sources = map source_of votes;
+  routers = routers roster method default_unmeasured_limit votes;
 }

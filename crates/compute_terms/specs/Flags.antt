@@ -1,5 +1,6 @@
 -- The flags that a consensus knows.
-use Rattle.std.specs.Prelude.{◌≡◌, ℕ, Bool, ◌&&◌, ◌||◌, List, [], ◌∷◌, ◌++◌, codes, if◌then◌else◌}
+pub use Rattle.field_votes.specs.Flags.{with_own_flags}
+use Rattle.std.specs.Prelude.{◌≡◌, ℕ, Bool, ◌&&◌, ◌||◌, List, codes}
 use Rattle.std.specs.Str.{bytes_eq}
 use Rattle.std.specs.List.{list_any, flat_map}
 use Rattle.dir_values.specs.FlagSets.{as_set, has_flag}
@@ -8,10 +9,6 @@ use Rattle.vote_terms.specs.Votes.{ReadVote}
 -- the flags that votes list, one vote after the other
 abbrev pub listed_flags : List ReadVote → List (List ℕ)
 listed_flags votes = flat_map (λ vote. vote.says.known_flags) votes
-
--- these flags, `NoEdConsensus`, and `BadExit` where `MiddleOnly` is among them
-abbrev pub with_own_flags : List (List ℕ) → List (List ℕ)
-with_own_flags flags = flags ++ codes "NoEdConsensus" ∷ (if has_flag flags (codes "MiddleOnly") then codes "BadExit" ∷ [] else [])
 
 -- the flags that a consensus knows, ascending, each once
 abbrev pub known_flags : List ReadVote → List (List ℕ)

@@ -1,3 +1,10 @@
 pub mod Times
 pub mod Flags
+pub mod Listings
+pub mod Identities
+pub mod Tuples
+pub mod RelayFlags
+pub mod Lines
+pub mod Bandwidths
+pub mod Routers
 pub mod Consensuses

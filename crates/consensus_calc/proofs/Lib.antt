@@ -1,3 +1,1 @@
 pub mod Medians
-pub mod Lines
-pub mod Known

@@ -1,6 +1,6 @@
 -- What computing a consensus answers.
-use Rattle.std.specs.Prelude.{◌≡◌, ◌≤◌, ℕ, true, false, List, length, Result, Ok, Err}
-use Rattle.dir_bytes.specs.Causes.{last_moment}
+pub use Rattle.consensus_terms.specs.Moments.{HasMoments}
+use Rattle.std.specs.Prelude.{◌≡◌, ℕ, true, false, List, length, Result, Ok, Err}
 use Rattle.vote_terms.specs.Votes.{ReadVote}
 use Rattle.count_terms.specs.Counts.{over}
 use Rattle.compute_terms.specs.Consensuses.{consensus}
@@ -13,9 +13,3 @@ abbrev pub Calculates : ℕ → List ReadVote → Result Consensus CalcFault →
 Calculates roster votes (Ok c) = (over (length votes) roster ≡ true) × (c ≡ consensus roster votes)
 Calculates roster votes (Err (TooFew held of_roster)) = (over (length votes) roster ≡ false) × (held ≡ length votes) × (of_roster ≡ roster)
 Calculates roster votes (Err Memory) = Unit {0}
-
--- each moment of a consensus is one of the calendar
-pub record HasMoments (c : Consensus) : Type 0 where
-  pub valid_after : c.valid_after ≤ last_moment
-  pub fresh_until : c.fresh_until ≤ last_moment
-  pub valid_until : c.valid_until ≤ last_moment

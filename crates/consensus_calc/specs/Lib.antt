@@ -1,4 +1,2 @@
 pub mod Calculating
 pub mod Timings
-pub mod Knowing
-pub mod Parts

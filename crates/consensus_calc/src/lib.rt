@@ -3,13 +3,11 @@
 
 mod counts;
 mod flags;
-mod line;
 mod record;
-mod text;
 mod timing;
 
+pub use consensus_text::unsigned;
 pub use record::{CalcFault, compute};
-pub use text::unsigned;
 
 #[cfg(test)]
 mod tests;

@@ -1,5 +1,5 @@
 // Computing a consensus.
-ghost use Rattle.std.specs.Prelude.{◌≡◌, ℕ, IfOk, map};
+ghost use Rattle.std.specs.Prelude.{◌≡◌, IfOk, map};
 ghost use Rattle.compute_terms.specs.Consensuses as terms;
 ghost use Rattle.consensus_calc.specs.Calculating.{Calculates, HasMoments};
 
@@ -8,8 +8,15 @@ use crate::flags::known_flags;
 use crate::timing::{Timing, median};
 use consensus_terms::{Consensus, SourceLine};
 use dir_bytes::{Memory, Seq, Text};
+use router_calc::routers;
 use std::alloc::Global;
 use vote_doc::{Accepted, HeldVote, Vote};
+
+/// The consensus method.
+const METHOD: u32 = 32;
+
+/// What a bandwidth that is not measured is at most, in kilobytes per second, where enough votes measure.
+const UNMEASURED_LIMIT: u32 = 20;
 
 /// Why there is no consensus.
 #[derive(Clone, Copy, Debug, PartialEq, Eq)]
@@ -40,27 +47,30 @@ pub fn compute(alloc: Global, roster: u32, votes: &Accepted) -> Result<Consensus
     if !over(held, roster) {
         return Err(CalcFault::TooFew { held, roster });
     }
-    Ok(consensus_of(alloc, votes)?)
+    Ok(consensus_of(alloc, roster, votes)?)
 }
 
-// The consensus of votes, whatever the roster.
-fn consensus_of(alloc: Global, votes: &Accepted) -> Result<Consensus, Memory>
-    ensures value { IfOk result (λ c. (roster : ℕ) → c ≡ terms.consensus roster votes.now.votes) }
+/// The consensus of votes, whether or not they are of more than half of the roster.
+fn consensus_of(alloc: Global, roster: u32, votes: &Accepted) -> Result<Consensus, Memory>
+    ensures value { IfOk result (λ c. c ≡ terms.consensus roster votes.now.votes) }
     ensures moments { IfOk result (λ c. HasMoments c) }
 {
+    let known_flags = known_flags(alloc, votes)?;
+    let routers = routers(alloc, roster, METHOD, UNMEASURED_LIMIT, &known_flags, votes)?;
     Ok(Consensus {
-        method: 32,
+        method: METHOD,
         valid_after: median(alloc, votes, Timing::ValidAfter)?,
         fresh_until: median(alloc, votes, Timing::FreshUntil)?,
         valid_until: median(alloc, votes, Timing::ValidUntil)?,
         vote_seconds: median(alloc, votes, Timing::VoteSeconds)? as u32,
         dist_seconds: median(alloc, votes, Timing::DistSeconds)? as u32,
-        known_flags: known_flags(alloc, votes)?,
+        known_flags,
         sources: sources(alloc, votes)?,
+        routers,
     })
 }
 
-// What the consensus says of each vote's authority, in the order of the votes.
+/// What the consensus says of each vote's authority, in the order of the votes.
 fn sources(alloc: Global, votes: &Accepted) -> Result<Seq<SourceLine>, Memory>
     ensures { IfOk result (λ lines. lines ≡ map terms.source_of votes.now.votes) }
 {

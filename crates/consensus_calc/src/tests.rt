@@ -1,10 +1,6 @@
-// A median, a consensus that too few votes make, and the text of one.
+// A median, and a consensus that too few votes make.
 use crate::counts::low_median;
-use crate::{CalcFault, compute, unsigned};
-use consensus_terms::{Consensus, SourceLine};
-use dir_bytes::{Seq, Text, read_hex};
-use dir_values::{Digest1, Fingerprint, FlagSet};
-use std::alloc::Global;
+use crate::{CalcFault, compute};
 use std::test::Fail;
 use vote_doc::Accepted;
 
@@ -18,59 +14,5 @@ fn no_vote_is_too_few(rt: HostRuntime) -> Result<(), Fail> {
     let held = Accepted::new(rt.alloc(), 5)?;
     let fault = compute(rt.alloc(), 5, &held).err();
     assert_eq!(rt; fault, Some(CalcFault::TooFew { held: 0, roster: 5 }));
-    Ok(())
-}
-
-fn authority(alloc: Global) -> Result<SourceLine, Fail> {
-    let mut vote_digest = [0; 20];
-    read_hex(
-        b"B498D4421FF80B0AA162BC6C075B256137AEEA07",
-        &mut vote_digest,
-    )
-    .ok()
-    .ok_or("digits")?;
-    Ok(SourceLine {
-        nickname: Text::copy_of(alloc, b"auth1")?,
-        identity: Fingerprint::read(b"2FD4E1C67A2D28FCED849EE1BB76E7391B93EB12")?,
-        address: Text::copy_of(alloc, b"auth1.example")?,
-        ip: 0xC0_00_02_01,
-        dir_port: 80,
-        or_port: 443,
-        contact: Some(Text::copy_of(alloc, b"operator 1")?),
-        vote_digest: Digest1(vote_digest),
-    })
-}
-
-#[test]
-fn a_consensus_is_written(rt: HostRuntime) -> Result<(), Fail> {
-    let alloc = rt.alloc();
-    let mut sources = Vec::new(alloc);
-    sources.push(authority(alloc)?)?;
-    let consensus = Consensus {
-        method: 32,
-        valid_after: 1767225600,
-        fresh_until: 1767229200,
-        valid_until: 1767236400,
-        vote_seconds: 300,
-        dist_seconds: 300,
-        known_flags: FlagSet::read(alloc, b"Running Valid NoEdConsensus")?,
-        sources: Seq::new(sources),
-    };
-    let out = unsigned(alloc, &consensus)?;
-    let text = b"network-status-version 3
-vote-status consensus
-consensus-method 32
-valid-after 2026-01-01 00:00:00
-fresh-until 2026-01-01 01:00:00
-valid-until 2026-01-01 03:00:00
-voting-delay 300 300
-known-flags NoEdConsensus Running Valid
-dir-source auth1 2FD4E1C67A2D28FCED849EE1BB76E7391B93EB12 auth1.example 192.0.2.1 80 443
-contact operator 1
-vote-digest B498D4421FF80B0AA162BC6C075B256137AEEA07
-directory-footer
-bandwidth-weights Wbd=3333 Wbe=0 Wbg=0 Wbm=10000 Wdb=10000 Web=10000 Wed=3333 Wee=10000 Weg=3333 Wem=10000 Wgb=10000 Wgd=3333 Wgg=10000 Wgm=10000 Wmb=10000 Wmd=3333 Wme=0 Wmg=0 Wmm=10000
-";
-    assert_eq!(rt; out.as_slice(), text.as_slice());
     Ok(())
 }

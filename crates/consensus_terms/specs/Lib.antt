@@ -1,1 +1,4 @@
+pub mod Lines
+pub mod Routers
+pub mod Moments
 pub mod Texts

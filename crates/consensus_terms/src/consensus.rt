@@ -1,4 +1,5 @@
 // The record of a consensus.
+use crate::router::Routerline;
 use dir_bytes::{Seq, Text};
 use dir_values::{Digest1, Fingerprint, FlagSet};
 
@@ -22,6 +23,8 @@ pub struct Consensus {
     pub known_flags: FlagSet,
     /// One line for each held vote, ascending by identity.
     pub sources: Seq<SourceLine>,
+    /// One line for each relay that is listed, ascending by RSA identity.
+    pub routers: Seq<Routerline>,
 }
 
 /// What a consensus says of an authority whose vote it counts.

@@ -2,5 +2,7 @@
 #![tactic(auto)]
 
 mod consensus;
+mod router;
 
 pub use consensus::{Consensus, SourceLine};
+pub use router::{Bandwidth, Routerline};

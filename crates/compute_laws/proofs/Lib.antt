@@ -1,0 +1,2 @@
+pub mod ListedLaw
+pub mod EmptyFlags

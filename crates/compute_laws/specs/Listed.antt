@@ -1,0 +1,34 @@
+-- Which relays a consensus lists (dir-spec, "Computing a consensus from a set of votes").
+use Rattle.std.specs.Prelude.{◌≡◌, ℕ, Bool, false, List}
+use Rattle.std.specs.Option.{option_map_or}
+use Rattle.std.specs.List.{list_any}
+use Rattle.dir_values.specs.declared.digest.Fingerprint.{Fingerprint}
+use Rattle.dir_values.specs.Digests.{same_identity}
+use Rattle.vote_terms.specs.Votes.{ReadVote}
+use Rattle.consensus_terms.specs.declared.router.Routerline.{Routerline}
+use Rattle.compute_terms.specs.declared.identity.EdPart.{EdPart}
+use Rattle.compute_terms.specs.Listings.{listings}
+use Rattle.compute_terms.specs.Identities.{eds_of, included_part}
+use Rattle.compute_terms.specs.RelayFlags.{router_flags, is_running_and_valid}
+use Rattle.compute_terms.specs.Routers.{belonging_listings}
+use Rattle.compute_terms.specs.Consensuses.{consensus}
+
+-- whether an RSA identity stands among routers
+abbrev pub has_router : List Routerline → Fingerprint → Bool
+has_router routers rsa = list_any (λ (r : Routerline). same_identity r.identity rsa) routers
+
+-- the flags of an RSA identity that is included with this part
+abbrev pub relay_flags : List ReadVote → Fingerprint → EdPart → List (List ℕ)
+relay_flags votes rsa ed = router_flags votes ed (belonging_listings ed (listings votes rsa))
+
+-- whether an RSA identity is included and its flags have `Running` and `Valid`
+abbrev pub is_listed_relay : ℕ → List ReadVote → Fingerprint → Bool
+is_listed_relay roster votes rsa =
+    option_map_or (λ ed. is_running_and_valid (relay_flags votes rsa ed))
+    (included_part roster (eds_of (listings votes rsa))) false
+
+-- An RSA identity stands among the routers of a consensus exactly where it is included and its flags have `Running`
+-- and `Valid`.
+abbrev pub ListedRelaysAreListed : Type 0
+ListedRelaysAreListed = (roster : ℕ) (votes : List ReadVote) (rsa : Fingerprint)
+    → has_router (consensus roster votes).routers rsa ≡ is_listed_relay roster votes rsa

@@ -1,0 +1,7 @@
+use Rattle.std.proofs.Common.{◌≡◌, take}
+use Rattle.std.specs.List.{filter_map}
+use Rattle.compute_terms.specs.Lines.{address_with}
+use Rattle.relay_select.proofs.lines.addresses.Given as goal
+
+abbrev pub invariant-entries : goal.invariant-entries
+invariant-entries l = l.lines.items ≡ filter_map (address_with l.tuple) (take l.entry-index l.entries)

@@ -1,0 +1,7 @@
+use Rattle.std.proofs.Common.{◌≡◌, take}
+use Rattle.compute_terms.specs.Listings.{listings_at}
+use Rattle.compute_terms.specs.Identities.{eds_of}
+use Rattle.relay_select.proofs.members.eds_at.Given as goal
+
+abbrev pub invariant-members : goal.invariant-members
+invariant-members l = l.eds.items ≡ eds_of (listings_at l.votes.votes (take l.at-index l.members))

@@ -1,0 +1,5 @@
+pub mod Walks
+pub mod Cursors
+pub mod TupleOrder
+pub mod Fields
+pub mod Choices

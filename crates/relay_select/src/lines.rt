@@ -1,0 +1,147 @@
+// The lines of entries, from which one is chosen.
+ghost use Rattle.std.specs.Prelude.{◌≡◌, ◌++◌, OnOk, option_map};
+ghost use Rattle.std.specs.Option.{option_to_list};
+ghost use Rattle.std.specs.List.{filter_map};
+ghost use Rattle.compute_terms.specs.Lines as terms;
+ghost use Rattle.relay_select.specs.Fields as fields;
+
+use crate::micro::Micro;
+use crate::tuple::RelayTuple;
+use dir_bytes::Memory;
+use dir_values::{Digest1, Digest2};
+use field_votes::{Ballot, Line, VersionLine};
+use vote_doc::Entry;
+
+/// A line of an entry.
+#[derive(Clone, Copy, Debug)]
+pub enum Field {
+    /// The `pr` line.
+    Protocols,
+    /// The `p` line, where the entry has this digest.
+    Policy(Digest1),
+}
+
+/// What an entry says in a line.
+fn said<'a>(entry: &Entry<'a>, field: Field) -> Option<&'a [u8]>
+    ensures { option_map (λ text. text.now) result ≡ fields.said field entry.now }
+{
+    match field {
+        Field::Protocols => entry.pr(),
+        Field::Policy(digest) => {
+            if entry.digest().0 == digest.0 {
+                entry.p()
+            } else {
+                None
+            }
+        }
+    }
+}
+
+/// Replaces what is in `lines` by what these entries say in a line, as far as they have it.
+pub fn texts<'a>(
+    entries: &[Entry<'a>],
+    field: Field,
+    lines: &mut Vec<Line<'a>>,
+) -> Result<(), Memory>
+    ensures { OnOk result (lines.new.items ≡ filter_map (fields.said field) entries.now) }
+{
+    lines.clear();
+    'entries: for entry in entries {
+        push_text(lines, said(entry, field))?;
+    }
+    Ok(())
+}
+
+/// Replaces what is in `lines` by the `v` lines of these entries.
+pub fn versions<'a>(entries: &[Entry<'a>], lines: &mut Vec<VersionLine<'a>>) -> Result<(), Memory>
+    ensures { OnOk result (lines.new.items ≡ filter_map (λ e. e.version) entries.now) }
+{
+    lines.clear();
+    'entries: for entry in entries {
+        push_version(lines, entry.v())?;
+    }
+    Ok(())
+}
+
+/// Adds a `v` line, where there is one.
+fn push_version<'a>(lines: &mut Vec<VersionLine<'a>>, text: Option<&'a [u8]>) -> Result<(), Memory>
+    ensures { OnOk result (lines.new.items ≡ lines.old.items ++ option_to_list (option_map (λ t. t.now) text.entry)) }
+{
+    if let Some(text) = text {
+        lines.push(VersionLine::new(text))?;
+    }
+    Ok(())
+}
+
+/// The first `a` line of an entry that has this tuple.
+fn address_with<'a>(entry: &Entry<'a>, tuple: &RelayTuple<'_>) -> Option<&'a [u8]>
+    ensures { option_map (λ text. text.now) result ≡ terms.address_with tuple.now entry.now }
+{
+    if RelayTuple::of(entry).compare(tuple).is_eq() {
+        entry.a()
+    } else {
+        None
+    }
+}
+
+/// Replaces what is in `lines` by the first `a` lines of those of these entries that have this tuple.
+pub fn addresses<'a>(
+    entries: &[Entry<'a>],
+    tuple: &RelayTuple<'_>,
+    lines: &mut Vec<Line<'a>>,
+) -> Result<(), Memory>
+    ensures { OnOk result (lines.new.items ≡ filter_map (terms.address_with tuple.now) entries.now) }
+{
+    lines.clear();
+    'entries: for entry in entries {
+        push_text(lines, address_with(entry, tuple))?;
+    }
+    Ok(())
+}
+
+/// The microdescriptor of an entry that has this digest.
+fn micro_with(entry: &Entry<'_>, method: u32, digest: Digest1) -> Option<Digest2>
+    ensures { result ≡ terms.micro_with method digest entry.now }
+{
+    if entry.digest().0 == digest.0 {
+        entry.m(method)
+    } else {
+        None
+    }
+}
+
+/// Replaces what is in `digests` by the microdescriptors of those of these entries that have this digest.
+pub fn micros(
+    entries: &[Entry<'_>],
+    method: u32,
+    digest: Digest1,
+    digests: &mut Vec<Micro>,
+) -> Result<(), Memory>
+    ensures { OnOk result (digests.new.items ≡ filter_map (terms.micro_with method digest) entries.now) }
+{
+    digests.clear();
+    'entries: for entry in entries {
+        push_micro(digests, micro_with(entry, method, digest))?;
+    }
+    Ok(())
+}
+
+/// Adds a text, where there is one.
+fn push_text<'a>(lines: &mut Vec<Line<'a>>, text: Option<&'a [u8]>) -> Result<(), Memory>
+    ensures { OnOk result (lines.new.items ≡ lines.old.items ++ option_to_list (option_map (λ t. t.now) text.entry)) }
+{
+    if let Some(text) = text {
+        lines.push(Line::new(text))?;
+    }
+    Ok(())
+}
+
+/// Adds a digest, where there is one.
+fn push_micro(digests: &mut Vec<Micro>, digest: Option<Digest2>) -> Result<(), Memory>
+    ensures { OnOk result (digests.new.items ≡ digests.old.items ++ option_to_list digest) }
+{
+    if let Some(digest) = digest {
+        digests.push(Micro::new(digest))?;
+    }
+    Ok(())
+}

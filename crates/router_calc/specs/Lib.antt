@@ -1,0 +1,5 @@
+pub mod Marks
+pub mod Counting
+pub mod Picking
+pub mod Places
+pub mod Routerlines
