@@ -1,10 +1,2 @@
-pub mod Votes
-pub mod Reading
-pub mod Compute
-pub mod Blanks
-pub mod Documents
 pub mod Commands
-pub mod Lines
 pub mod Runs
-pub mod Accepting
-pub mod Stops

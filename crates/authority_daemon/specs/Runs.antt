@@ -2,14 +2,13 @@
 use Rattle.std.specs.Prelude.{◌≡◌, ℕ, ◌<◌, ◌≤◌, List, [], ◌∷◌, length, take, Option, Some, None, Result, Ok, Err, Bool, true}
 use Rattle.std.specs.Bool.{OnTrue}
 use Rattle.std.specs.Io.KnownBytes.{Appends, Keeps}
-use Rattle.dir_bytes.specs.Causes.{Rose}
 use Rattle.key_port.specs.Answers.{Rules}
 use Rattle.authority_daemon.specs.Commands.{Answerable}
 use Rattle.daemon_words.specs.declared.command.Command.{Command}
 use Rattle.daemon_words.specs.declared.command.Command.TheVariants as command
-use Rattle.authority_daemon.specs.declared.status.Status.{Status}
-use Rattle.authority_daemon.specs.declared.status.Status.TheVariants as status
-use Rattle.authority_daemon.specs.declared.status.Refusal.{Refusal}
+use Rattle.exit_status.specs.declared.status.Status.{Status}
+use Rattle.exit_status.specs.declared.status.Status.TheVariants as status
+use Rattle.exit_status.specs.declared.status.Refusal.{Refusal}
 
 -- how many bytes an input may have
 abbrev pub input_limit : ℕ
@@ -70,12 +69,6 @@ ReadsThrough c old new status.Memory = Unit {0}
 ReadsThrough c old new status.BadWords = Unit {0}
 ReadsThrough c old new status.ReadFault = Unit {0}
 ReadsThrough c old new status.TooLong = Unit {0}
-
--- A front of the text was written, and all of it unless the count rose.
-pub record Reports (old new : Option (List ℕ)) (before now : ℕ) (text : List ℕ) : Type 0 where
-  pub sent : ℕ
-  pub written : Appends old new (take sent text)
-  pub cause : sent < length text → Rose before now
 
 -- the first count of some objects
 abbrev pub first_count : {X : Type 0} → (X → ℕ) → List X → ℕ

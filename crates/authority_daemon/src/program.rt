@@ -4,16 +4,17 @@ ghost use Rattle.dir_bytes.specs.Causes.{Rose};
 ghost use Rattle.key_port.specs.Answers.{rules};
 ghost use Rattle.daemon_words.specs.declared.command.Command.{Command};
 ghost use Rattle.daemon_words.specs.Words as grammar;
-ghost use Rattle.authority_daemon.specs.Lines.{line_of};
-ghost use Rattle.authority_daemon.specs.Commands.{Answers, Answered};
-ghost use Rattle.authority_daemon.specs.Runs.{Told, KnowsWords, KeepsLimit, Ends, WritesOnlyAnswers, ReadsThrough, Reports, first_count, MustAnswer, IsDoneOrMemory};
+ghost use Rattle.exit_status.specs.Lines.{line_of};
+ghost use Rattle.exit_status.specs.Reports.{Reports};
+ghost use Rattle.exit_status.specs.Stops.{Answered};
+ghost use Rattle.authority_daemon.specs.Commands.{Answers};
+ghost use Rattle.authority_daemon.specs.Runs.{Told, KnowsWords, KeepsLimit, Ends, WritesOnlyAnswers, ReadsThrough, first_count, MustAnswer, IsDoneOrMemory};
 
-use crate::compute::compute;
-use crate::documents::{check, show};
-use crate::report::report;
-use crate::status::{Refusal, Status, Stop};
+use compute_command::compute;
 use daemon_words::{Command, command_of};
 use dir_bytes::{ReadAllFault, Sink, Source, WriteAll, read_all, write_all};
+use document_commands::{check, show};
+use exit_status::{Refusal, Status, Stop, report};
 use key_port::Verifier;
 use std::alloc::Global;
 
@@ -82,6 +83,7 @@ pub fn run<S: Source + Drop, K: Sink + Drop, E: Sink + Drop, V: Verifier + Drop>
     status
 }
 
+/// Runs the command, and says nothing on the errors sink.
 fn run_command<S: Source, K: Sink, V: Verifier>(
     alloc: Global,
     words: &[String],

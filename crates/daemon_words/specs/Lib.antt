@@ -1,4 +1,5 @@
 pub mod CommandLine
+pub mod Keys
 pub mod Lending
 pub mod Values
 pub mod Words

@@ -3,9 +3,11 @@
 
 mod command;
 mod command_line;
+mod keys;
 mod values;
 
 pub use command::{Command, Compute, Kind, command_of};
+pub use keys::{Keys, keys_of};
 
 #[cfg(test)]
 mod tests;

@@ -4,8 +4,10 @@
 
 ghost use Rattle.std.specs.Prelude.{◌<◌, vec_len, IfOk};
 
-use authority_daemon::{Outside, Status, run};
-use dir_bytes::{StdSink, StdSource, write_all};
+use authority_daemon::{Outside, run};
+use daemon_words::{Keys, keys_of};
+use dir_bytes::{StdSink, StdSource};
+use exit_status::{Status, report};
 use key_port::{ServiceKeys, TestKeys, UnixDial, Verifier};
 use std::alloc::{AllocError, Global};
 use std::net::Net;
@@ -86,18 +88,16 @@ fn run_with<V: Verifier + Drop>(
 /// Says that there was no memory for the words or the verifiers.
 fn want_of_memory(rt: &HostRuntime) -> Status {
     let mut errors = StdSink::new(rt.stderr());
-    write_all(&mut errors, b"want of memory\n");
+    report(&mut errors, Status::Memory);
     Status::Memory
 }
 
-/// Runs the words: with the test scheme where the first is `--test-keys`, which is taken off, and else with the key
-/// service.
+/// Runs the words, with the verifiers that they choose.
 fn run_words(rt: &HostRuntime, words: &[String]) -> Status {
-    match words.split_first() {
-        Some((first, others)) if first.as_str() == "--test-keys" => {
-            run_with(rt, others, test_keys(rt.alloc()))
-        }
-        _ => run_with(rt, words, service_keys(rt.alloc(), rt)),
+    let (keys, words) = keys_of(words);
+    match keys {
+        Keys::Test => run_with(rt, words, test_keys(rt.alloc())),
+        Keys::Service => run_with(rt, words, service_keys(rt.alloc(), rt)),
     }
 }
 
@@ -108,5 +108,5 @@ fn main(rt: HostRuntime) -> ExitCode {
         // Words that are no text are none of the grammar, and no words are none either.
         Err(_) => run_words(&rt, &[]),
     };
-    ExitCode::from(status.number())
+    status.exit_code()
 }

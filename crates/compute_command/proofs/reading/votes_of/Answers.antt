@@ -1,0 +1,31 @@
+use Rattle.std.proofs.Common.{◌≡◌, ◌-◌, suc, None, rules, sym, arith}
+use Rattle.std.proofs.lemmas.Result.{err_from_is_err_and}
+use Rattle.compute_command.specs.Votes.{votes_of, one_more}
+use Rattle.compute_command.proofs.Chains.{too_many, fails, one_read_as, done}
+use Rattle.compute_command.proofs.reading.votes_of.Goals as goal
+
+pub returns-then-room-eq0-clause-votes : goal.returns-then-room-eq0-clause-votes
+returns-then-room-eq0-clause-votes c =
+    rw c.shifted.ensures (too_many c.votes.room c.votes.place c.votes.rest.now c.in-Some.refusal c.votes.found.items (votes_of c.args.bytes.now) c.if-room-eq0.true (sym c.in-Some.ensures) c.votes.invariant.read)
+
+pub returns-in_err-vote-clause-votes : goal.returns-in_err-vote-clause-votes
+returns-in_err-vote-clause-votes c =
+    let p = err_from_is_err_and c.from_residual.result c.from_residual.ensures.1 in
+    let step : c.votes.room ≡ suc (c.votes.room - 1) = omega arith in
+    rw (p.1, p.2) (fails c.votes.room (c.votes.room - 1) c.votes.place c.votes.rest.now c.in-Some.refusal c.in_err-vote.field-0.0 c.votes.found.items (votes_of c.args.bytes.now) step (sym c.in-Some.ensures) c.in_err-vote.ensures c.votes.invariant.read)
+
+pub votes-preserved : goal.votes-preserved
+votes-preserved c =
+    let step : c.votes.room ≡ suc (c.votes.room - 1) = omega arith in
+    record {
+      within = omega (arith, c.after-rest.ensures.within, c.votes.invariant.within);
+      room = omega (arith, c.in_ok-push.ensures.len, c.votes.invariant.room);
+      read = one_read_as c.votes.room (c.votes.room - 1) c.votes.place c.votes.rest.now c.in-Some.refusal c.in_ok-vote.vote c.in_ok-vote.used c.votes.found.items (votes_of c.args.bytes.now)
+          c.push.new.self.items c.saturating_add-place.result c.after-rest.result.now
+          step (sym c.in-Some.ensures) c.in_ok-vote.ensures c.votes.invariant.read c.in_ok-push.ensures.items c.saturating_add-place.ensures c.after-rest.ensures.rest;
+    }
+
+pub returns-clause-votes : goal.returns-clause-votes
+returns-clause-votes c =
+    let more : one_more c.votes.rest.now ≡ None = search rules in
+    done c.votes.room c.votes.place c.votes.rest.now c.votes.found.items (votes_of c.args.bytes.now) more c.votes.invariant.read

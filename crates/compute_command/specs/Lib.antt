@@ -1,0 +1,4 @@
+pub mod Votes
+pub mod Answers
+pub mod Accepting
+pub mod Private

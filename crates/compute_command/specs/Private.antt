@@ -1,0 +1,32 @@
+-- What the private functions of this crate return.
+use Rattle.std.specs.Prelude.{◌≡◌, ℕ, true, false, List, length, Result, Ok, Err}
+use Rattle.std.specs.Global.{Vec}
+use Rattle.frame_terms.specs.declared.fault.ReadRefusal.{ReadRefusal}
+use Rattle.frame_terms.specs.Refusals.{Fails}
+use Rattle.vote_terms.specs.Votes.{ReadVote}
+use Rattle.count_terms.specs.Counts.{over}
+use Rattle.compute_terms.specs.Consensuses.{consensus}
+use Rattle.consensus_terms.specs.declared.consensus.Consensus.{Consensus}
+use Rattle.exit_status.specs.declared.status.Refusal.TheVariants as refusal
+use Rattle.exit_status.specs.declared.stop.Stop.{Stop}
+use Rattle.exit_status.specs.declared.stop.Stop.TheVariants as stop
+use Rattle.exit_status.specs.declared.vote_refusal.VoteListRefusal.TheVariants as list
+use Rattle.compute_command.specs.Votes.{vote_at}
+
+-- the vote that begins at a place, or its fault
+abbrev pub ReadsAt : ℕ → List ℕ → Result (ReadVote × ℕ) ReadRefusal → Type 0
+ReadsAt place rest (Ok (vote, used)) = vote_at place rest ≡ Ok (vote, used)
+ReadsAt place rest (Err refusal) = Fails refusal (vote_at place rest)
+
+-- what was read are the votes, or the refusal is their fault
+abbrev pub ReadsVotes : Result (List ReadVote) ReadRefusal → Result (Vec ReadVote) ReadRefusal → Type 0
+ReadsVotes read (Ok votes) = read ≡ Ok votes.items
+ReadsVotes read (Err refusal) = Fails refusal read
+
+-- the consensus of the held votes where they are of more than half of the roster, and else how many there are
+abbrev pub GivesConsensus : ℕ → List ReadVote → Result Consensus Stop → Type 0
+GivesConsensus roster held (Ok calculated) = (over (length held) roster ≡ true) × (calculated ≡ consensus roster held)
+GivesConsensus roster held (Err (stop.Refused (refusal.Votes (list.TooFew count of_roster)))) =
+    (over (length held) roster ≡ false) × (count ≡ length held) × (of_roster ≡ roster)
+GivesConsensus roster held (Err stop.Memory) = Unit {0}
+GivesConsensus roster held (Err (stop.Refused _)) = ⊥

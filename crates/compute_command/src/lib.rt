@@ -1,0 +1,8 @@
+//! The command `compute`: the votes that the input is, which of them are held, and the text of their consensus.
+#![tactic(auto)]
+
+mod accepting;
+mod consensus;
+mod reading;
+
+pub use consensus::compute;

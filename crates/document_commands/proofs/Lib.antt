@@ -1,0 +1,3 @@
+pub mod LinesBehind
+pub mod Telling
+pub mod NotRefused

@@ -1,0 +1,10 @@
+use Rattle.document_commands.specs.Answers.{canonical_text}
+use Rattle.document_commands.specs.Documents.{one_cert, one_vote}
+use Rattle.document_commands.proofs.Telling.{of_cert, of_vote, one_read}
+use Rattle.document_commands.proofs.documents.show.Goals as goal
+
+pub returns-in_ok-text-in-Vote : goal.returns-in_ok-text-in-Vote
+returns-in_ok-text-in-Vote c = of_vote canonical_text c.args.kind c.args.bytes.now c.in_ok-text-in-Vote.text.items c.in_ok-vote-in-Vote.vote c.in-Vote.is (one_read c.args.kind (one_vote c.args.bytes.now) c.one_vote.result c.in_ok-vote-in-Vote.vote c.one_vote.ensures c.in_ok-vote-in-Vote.ensures) c.in_ok-text-in-Vote.ensures
+
+pub returns-in_ok-text-in-Cert : goal.returns-in_ok-text-in-Cert
+returns-in_ok-text-in-Cert c = of_cert canonical_text c.args.kind c.args.bytes.now c.in_ok-text-in-Cert.text.items c.in_ok-cert-in-Cert.cert c.in-Cert.is (one_read c.args.kind (one_cert c.args.bytes.now) c.one_cert.result c.in_ok-cert-in-Cert.cert c.one_cert.ensures c.in_ok-cert-in-Cert.ensures) c.in_ok-text-in-Cert.ensures

@@ -1,0 +1,45 @@
+-- What the commands over one document answer to an input.
+use Rattle.std.specs.Prelude.{◌≡◌, ℕ, List, [], ◌∷◌, codes, ◌++◌, Result, Ok, Err}
+use Rattle.item_terms.specs.Bytes.{line_feed}
+use Rattle.frame_terms.specs.declared.fault.ReadRefusal.TheVariants.{Frame}
+use Rattle.authority_certs.specs.Texts.{cert_text}
+use Rattle.vote_text.specs.Texts.{vote_text}
+use Rattle.daemon_words.specs.declared.command.Kind.{Kind}
+use Rattle.exit_status.specs.declared.status.Refusal.{Refusal}
+use Rattle.exit_status.specs.declared.status.Refusal.TheVariants as refusal
+use Rattle.document_commands.specs.Documents.{Document, cert, document_of, vote}
+
+-- The input is one document of this kind, and the text is that of it.
+pub record Tells (text_of : Document → List ℕ) (kind : Kind) (bytes text : List ℕ) : Type 0 where
+  pub document : Document
+  pub read : document_of kind bytes ≡ Ok document
+  pub written : text ≡ text_of document
+
+-- what a command answers that tells something of a document: a text, or the first fault, and no other refusal
+abbrev pub ReadAnswers : (Document → List ℕ) → Kind → List ℕ → Result (List ℕ) Refusal → Type 0
+ReadAnswers text_of kind bytes (Ok text) = Tells text_of kind bytes text
+ReadAnswers text_of kind bytes (Err (refusal.Document why)) =
+    (why.kind ≡ kind) × (document_of kind bytes ≡ Err (Frame why.fault))
+ReadAnswers text_of kind bytes (Err _) = ⊥
+
+-- what `check` says of a document that is one
+abbrev pub check_text : Document → List ℕ
+check_text document = codes "ok" ++ line_feed ∷ []
+
+-- the canonical text of a document: a line for each kind
+abbrev pub canonical_text : Document → List ℕ
+canonical_text (vote read) = vote_text read.says
+canonical_text (cert read) = cert_text read
+
+-- what `check` answers
+abbrev pub CheckAnswers : Kind → List ℕ → Result (List ℕ) Refusal → Type 0
+CheckAnswers kind bytes answer = ReadAnswers check_text kind bytes answer
+
+-- what `show` answers
+abbrev pub ShowAnswers : Kind → List ℕ → Result (List ℕ) Refusal → Type 0
+ShowAnswers kind bytes answer = ReadAnswers canonical_text kind bytes answer
+
+-- The input is one document of this kind: `check` and `show` have to answer it with a text.
+pub record IsDocument (kind : Kind) (bytes : List ℕ) : Type 0 where
+  pub document : Document
+  pub read : document_of kind bytes ≡ Ok document

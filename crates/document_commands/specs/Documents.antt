@@ -1,0 +1,45 @@
+-- The document that an input is: one, with nothing but blank lines before and after it.
+use Rattle.std.specs.Prelude.{ℕ, List, Option, Some, None, Result, Ok, Err}
+use Rattle.frame_terms.specs.declared.fault.FrameReason.TheVariants.{Order}
+use Rattle.frame_terms.specs.declared.fault.ReadRefusal.{ReadRefusal}
+use Rattle.frame_terms.specs.Refusals.{refused}
+use Rattle.authority_certs.specs.declared.cert.Cert.{Cert}
+use Rattle.authority_certs.specs.Reading.{cert_of}
+use Rattle.vote_terms.specs.Votes.{ReadVote}
+use Rattle.vote_doc.specs.Reading.{vote_of}
+use Rattle.daemon_words.specs.declared.command.Kind.{Kind}
+use Rattle.daemon_words.specs.declared.command.Kind.TheVariants as kind
+use Rattle.document_commands.specs.Blanks.{after_blanks}
+
+-- what was read: a line for each kind
+pub data Document : Type 0 where
+  vote : ReadVote → Document
+  cert : Cert → Document
+
+-- what was read, unless another line stands at a place behind it: that line is out of order
+abbrev pub unless_more : {X : Type 0} → X → Option ℕ → Result X ReadRefusal
+unless_more document None = Ok document
+unless_more document (Some place) = Err (refused place Order)
+
+-- what was read, where nothing but blank lines follows
+abbrev pub whole : {X : Type 0} → List ℕ → Result (X × ℕ) ReadRefusal → Result X ReadRefusal
+whole bytes (Ok (document, used)) = unless_more document (after_blanks used bytes)
+whole bytes (Err refusal) = Err refusal
+
+-- the vote that the input is, or its first fault
+abbrev pub one_vote : List ℕ → Result ReadVote ReadRefusal
+one_vote bytes = whole bytes (vote_of bytes)
+
+-- the certificate that the input is, or its first fault
+abbrev pub one_cert : List ℕ → Result Cert ReadRefusal
+one_cert bytes = whole bytes (cert_of bytes)
+
+-- what was read, as a document
+abbrev pub as_document : {X : Type 0} → (X → Document) → Result X ReadRefusal → Result Document ReadRefusal
+as_document wrap (Ok read) = Ok (wrap read)
+as_document wrap (Err refusal) = Err refusal
+
+-- the document of a kind that the input is, or its first fault: a line for each kind
+abbrev pub document_of : Kind → List ℕ → Result Document ReadRefusal
+document_of kind.Vote bytes = as_document vote (one_vote bytes)
+document_of kind.Cert bytes = as_document cert (one_cert bytes)

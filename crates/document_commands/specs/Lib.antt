@@ -1,0 +1,4 @@
+pub mod Blanks
+pub mod Documents
+pub mod Answers
+pub mod Private

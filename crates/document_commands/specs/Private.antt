@@ -1,0 +1,9 @@
+-- What the private functions of this crate return.
+use Rattle.std.specs.Prelude.{◌≡◌, Result, Ok, Err}
+use Rattle.frame_terms.specs.declared.fault.ReadRefusal.{ReadRefusal}
+use Rattle.frame_terms.specs.Refusals.{Fails}
+
+-- what was read is the document, or the refusal is its fault
+abbrev pub ReadsOne : {D : Type 0} → Result D ReadRefusal → Result D ReadRefusal → Type 0
+ReadsOne read (Ok document) = read ≡ Ok document
+ReadsOne read (Err refusal) = Fails refusal read

@@ -1,0 +1,123 @@
+// Runs of `check` and `show` on votes that list relays.
+use super::assert_gives;
+use run_stage::{ONE, Vote, input, place_of, whole};
+use std::alloc::Global;
+use std::process::Abort;
+use std::test::Fail;
+
+const CHECK: [&str; 2] = ["check", "vote"];
+
+const SHOW: [&str; 2] = ["show", "vote"];
+
+const ZERO: &str =
+    "r relay1 AAAAAAAAAAAAAAAAAAAAAAAAAAA AgICAgICAgICAgICAgICAgICAgI 2025-12-31 22:00:00 198.51.100.7 9001 0\n";
+
+const X: &str =
+    "r relay1 AQEBAQEBAQEBAQEBAQEBAQEBAQE AgICAgICAgICAgICAgICAgICAgI 2025-12-31 22:00:00 198.51.100.7 9001 0\n";
+
+const Y: &str =
+    "r relay1 AgICAgICAgICAgICAgICAgICAgI AgICAgICAgICAgICAgICAgICAgI 2025-12-31 22:00:00 198.51.100.7 9001 0\n";
+
+const SET: &str = "s Running Valid\n";
+
+const KEY: &str = "id ed25519 AwMDAwMDAwMDAwMDAwMDAwMDAwMDAwMDAwMDAwMDAwM\n";
+
+/// The lines of some entries, the line of them in which something is wrong, which stands there last, and what that is.
+#[derive(Clone, Copy)]
+struct Faulty {
+    entries: &'static [&'static str],
+    line: &'static str,
+    fault: &'static str,
+    number: u8,
+}
+
+const DESCENDING: Faulty = Faulty {
+    entries: &[X, SET, ZERO, SET],
+    line: ZERO,
+    fault: "unsorted",
+    number: 5,
+};
+
+const A_KEY_TWICE: Faulty = Faulty {
+    entries: &[X, SET, KEY, Y, SET, KEY],
+    line: KEY,
+    fault: "duplicate ed25519",
+    number: 5,
+};
+
+const BANDWIDTHS: Faulty = Faulty {
+    entries: &[X, SET, "w Bandwidth=1\n"],
+    line: "w Bandwidth=1\n",
+    fault: "w",
+    number: 14,
+};
+
+// The vote of the first authority with these entries.
+fn vote_of(alloc: Global, entries: &'static [&'static str]) -> Result<String, Fail> {
+    let vote = Vote { entries, ..ONE };
+    Ok(input(alloc, &[vote])?)
+}
+
+// Asserts that a vote with such entries is refused at the last line that is the faulty one.
+fn assert_refused(rt: &impl Abort, alloc: Global, faulty: Faulty) -> Result<(), Fail> {
+    let text = vote_of(alloc, faulty.entries)?;
+    let (before, _) = text.rsplit_once(faulty.line).ok_or("no such line")?;
+    let cause = match faulty.number {
+        14 => "not built",
+        _ => "document fault",
+    };
+    let line = format!(in alloc; "{cause} at {}: {}\n", before.len(), faulty.fault)?;
+    for words in [CHECK, SHOW] {
+        assert_gives(
+            rt,
+            alloc,
+            whole(&words, text.as_bytes()),
+            faulty.number,
+            "",
+            &line,
+        )?;
+    }
+    Ok(())
+}
+
+#[test]
+fn entries_ascend_and_share_no_key(rt: HostRuntime) -> Result<(), Fail> {
+    for faulty in [DESCENDING, A_KEY_TWICE, BANDWIDTHS] {
+        assert_refused(&rt, rt.alloc(), faulty)?;
+    }
+    Ok(())
+}
+
+#[test]
+fn entries_are_shown_as_they_are(rt: HostRuntime) -> Result<(), Fail> {
+    let alloc = rt.alloc();
+    let full: &[&str] = &[
+        X,
+        "a [2001:db8::1]:9001\n",
+        "a 192.0.2.7:443\n",
+        "s Fast Running Valid\n",
+        "v Tor 0.4.8.12\n",
+        "pr Cons=1-2 Link=1-5\n",
+        "p reject 1-65535\n",
+        "m 28,29 sha256=BQUFBQUFBQUFBQUFBQUFBQUFBQUFBQUFBQUFBQUFBQU\n",
+        "m 31,32 sha256=BQUFBQUFBQUFBQUFBQUFBQUFBQUFBQUFBQUFBQUFBQU\n",
+        "id ed25519 none\n",
+        Y,
+        SET,
+        KEY,
+    ];
+    let text = vote_of(alloc, full)?;
+    assert_gives(&rt, alloc, whole(&SHOW, text.as_bytes()), 0, &text, "")?;
+    let cases = [
+        ("s Fast Running Valid", "s  Valid\tRunning Fast "),
+        ("id ed25519 none", "id rsa1024 x\nid ed25519 none more"),
+        ("m 28,29 sha256=", "m 028,29 sha1=x sha256="),
+        ("9001 0\na", "09001 0 more\nnew-thing\na"),
+    ];
+    for (from, to) in cases {
+        assert!(rt; place_of(&text, from) < text.len());
+        let other = text.replacen(alloc, from, to, 1)?;
+        assert_gives(&rt, alloc, whole(&SHOW, other.as_bytes()), 0, &text, "")?;
+    }
+    Ok(())
+}

@@ -1,0 +1,81 @@
+// Runs of `show`.
+use super::assert_gives;
+use run_stage::{ONE, input, place_of, whole};
+use std::alloc::Global;
+use std::test::Fail;
+
+const SHOW: [&str; 2] = ["show", "vote"];
+
+// A vote in whose text one piece is another, everywhere.
+fn changed(alloc: Global, from: &str, to: &str) -> Result<String, Fail> {
+    let vote = input(alloc, &[ONE])?;
+    Ok(vote.replace(alloc, from, to)?)
+}
+
+#[test]
+fn a_vote_has_one_text(rt: HostRuntime) -> Result<(), Fail> {
+    let alloc = rt.alloc();
+    let text = input(alloc, &[ONE])?;
+    let cases = [
+        ("valid-after", "valid-after"),
+        (
+            "voting-delay 300 300\n",
+            "\nvoting-delay\t0300 \t 300 \t more \n",
+        ),
+        ("Running Valid", "Valid Running"),
+        ("ID SIGNATURE", "SIGNATURE"),
+        ("consensus-methods 32", "consensus-methods 0032"),
+        ("directory-signature ", "directory-signature sha1 "),
+        ("2FD4E1C6", "2fd4e1c6"),
+        ("c2lnbi0x\n", "c2ln\nbi0x\n"),
+        (
+            "valid-after",
+            "new-thing a b\n-----BEGIN THING-----\nYWJj\n-----END THING-----\nvalid-after",
+        ),
+    ];
+    for (from, to) in cases {
+        let other = changed(alloc, from, to)?;
+        let given = whole(&SHOW, other.as_bytes());
+        assert_gives(&rt, alloc, given, 0, &text, "")?;
+    }
+    Ok(())
+}
+
+#[test]
+fn what_a_vote_says_is_kept(rt: HostRuntime) -> Result<(), Fail> {
+    let alloc = rt.alloc();
+    let cases = [
+        ("directory-signature ", "directory-signature sha256 "),
+        ("consensus-methods 32", "consensus-methods 32 31 5"),
+        ("consensus-methods 32\n", ""),
+        ("contact operator 1", "contact"),
+        ("contact operator 1\n", ""),
+        (
+            "dir-source",
+            "flag-thresholds stable-uptime=1  fast-speed=2\ndir-source",
+        ),
+        ("fingerprint", "dir-address 192.0.2.1:80\nfingerprint"),
+        ("c2lnbi0x\n", ""),
+    ];
+    for (from, to) in cases {
+        let text = changed(alloc, from, to)?;
+        let given = whole(&SHOW, text.as_bytes());
+        assert_gives(&rt, alloc, given, 0, &text, "")?;
+    }
+    Ok(())
+}
+
+#[test]
+fn what_is_no_vote_is_not_shown(rt: HostRuntime) -> Result<(), Fail> {
+    let alloc = rt.alloc();
+    let missing = "document fault at 0: missing network-status-version\n";
+    assert_gives(&rt, alloc, whole(&SHOW, b""), 5, "", missing)?;
+    let mut more = input(alloc, &[ONE])?;
+    more.push_str("x\n")?;
+    let line = "document fault at 1174: order\n";
+    assert_gives(&rt, alloc, whole(&SHOW, more.as_bytes()), 5, "", line)?;
+    let params = changed(alloc, "dir-source", "params\ndir-source")?;
+    let place = place_of(&params, "params");
+    let line = format!(in alloc; "not built at {place}: params\n")?;
+    assert_gives(&rt, alloc, whole(&SHOW, params.as_bytes()), 14, "", &line)
+}

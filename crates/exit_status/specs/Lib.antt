@@ -1,0 +1,6 @@
+pub mod Parts
+pub mod Reports
+pub mod DocumentLines
+pub mod VoteLines
+pub mod Lines
+pub mod Stops

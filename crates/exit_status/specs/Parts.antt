@@ -1,0 +1,16 @@
+-- A line of several parts.
+use Rattle.std.specs.Prelude.{ℕ, List, [], ◌∷◌, codes, decimal}
+use Rattle.std.specs.List.{flat_map}
+use Rattle.item_terms.specs.Bytes.{line_feed}
+
+-- what ends a line
+abbrev pub end : List ℕ
+end = line_feed ∷ []
+
+-- the text of some parts
+abbrev pub joined : List (List ℕ) → List ℕ
+joined pieces = flat_map (λ piece. piece) pieces
+
+-- what is wrong at a place, with a keyword where one belongs to it
+abbrev pub at_place : ℕ → List ℕ → List ℕ → List (List ℕ)
+at_place place what keyword = codes "document fault at " ∷ decimal place ∷ codes ": " ∷ what ∷ keyword ∷ end ∷ []

@@ -1,0 +1,127 @@
+// Why an input is refused as documents of a kind, with the line and the number of each fault.
+ghost use Rattle.std.specs.Prelude.{◌≡◌, ◌≤◌, List, ℕ, [], map};
+ghost use Rattle.exit_status.specs.DocumentLines as lines;
+ghost use Rattle.exit_status.specs.Parts.{joined};
+ghost use Rattle.exit_status.specs.Reports.{Reports};
+
+use crate::parts::{report_at, write_parts};
+use daemon_words::Kind;
+use dir_bytes::Sink;
+use frame_terms::{FrameFault, FrameReason};
+use item_terms::DocReason;
+
+/// The input is no list of documents of a kind.
+#[derive(Clone, Copy, Debug, PartialEq, Eq)]
+pub struct DocumentRefusal {
+    /// The kind of document that the command reads.
+    pub kind: Kind,
+    /// The input's first fault.
+    pub fault: FrameFault,
+}
+
+impl DocumentRefusal {
+    /// The number with which the process ends.
+    pub fn number(self) -> u8
+        ensures { result ≡ lines.fault_number self.fault.reason }
+    {
+        fault_number(self.fault.reason)
+    }
+}
+
+/// 9 where the fault is a limit, 14 where an item is not built, and else 5.
+fn fault_number(reason: FrameReason) -> u8
+    ensures { result ≡ lines.fault_number reason }
+{
+    match reason {
+        FrameReason::Doc(reason) => match reason {
+            DocReason::LineTooLong | DocReason::DocumentTooLong | DocReason::ObjectTooLong => 9,
+            _ => 5,
+        },
+        FrameReason::TooMany(_) => 9,
+        FrameReason::NotBuilt(_) => 14,
+        FrameReason::Missing(_)
+        | FrameReason::Order
+        | FrameReason::Twice(_)
+        | FrameReason::Value
+        | FrameReason::Unsorted
+        | FrameReason::DuplicateEd => 5,
+    }
+}
+
+/// The limit of a document of a kind, with its number.
+fn document_limit(kind: Kind) -> &'static [u8]
+    ensures { result.now ≡ lines.document_limit kind }
+{
+    match kind {
+        Kind::Vote => b"vote 16777216",
+        Kind::Cert => b"certificate 65536",
+    }
+}
+
+/// What a line says of a fault of a document of a kind.
+fn doc_text(kind: Kind, reason: DocReason) -> &'static [u8]
+    ensures { result.now ≡ lines.doc_text kind reason }
+{
+    match reason {
+        DocReason::Keyword => b"keyword",
+        DocReason::Nul => b"nul",
+        DocReason::Unterminated => b"unterminated",
+        DocReason::ObjectWords => b"object words",
+        DocReason::ObjectBase64 => b"object base64",
+        DocReason::ObjectEnd => b"object end",
+        DocReason::LineTooLong => b"line 1048576",
+        DocReason::DocumentTooLong => document_limit(kind),
+        DocReason::ObjectTooLong => b"object 65536",
+    }
+}
+
+/// Writes what is wrong with a line or an object of a document of a kind.
+fn report_doc<E: Sink>(errors: &mut E, kind: Kind, place: u64, reason: DocReason)
+    ensures { Reports (E.written errors.old) (E.written errors.new) (E.faults errors.old) (E.faults errors.new)
+        (joined (lines.doc_parts kind place reason)) }
+{
+    match reason {
+        DocReason::LineTooLong | DocReason::DocumentTooLong | DocReason::ObjectTooLong => {
+            write_parts(errors, &[b"limit ", doc_text(kind, reason), b"\n"])
+        }
+        _ => report_at(errors, place, doc_text(kind, reason), b""),
+    }
+}
+
+/// Writes what is wrong with a document of a kind.
+pub fn report_fault<E: Sink>(errors: &mut E, kind: Kind, place: u64, reason: FrameReason)
+    ensures { Reports (E.written errors.old) (E.written errors.new) (E.faults errors.old) (E.faults errors.new)
+        (joined (lines.fault_parts kind place reason)) }
+{
+    match reason {
+        FrameReason::Doc(reason) => report_doc(errors, kind, place, reason),
+        FrameReason::NotBuilt(keyword) => {
+            let mut at = itoa::Buffer::new();
+            let at = at.format(place);
+            write_parts(
+                errors,
+                &[
+                    b"not built at ",
+                    at.as_bytes(),
+                    b": ",
+                    keyword.text(),
+                    b"\n",
+                ],
+            )
+        }
+        FrameReason::Missing(keyword) => report_at(errors, place, b"missing ", keyword.text()),
+        FrameReason::Twice(keyword) => report_at(errors, place, b"twice ", keyword.text()),
+        FrameReason::Order => report_at(errors, place, b"order", b""),
+        FrameReason::Value => report_at(errors, place, b"value", b""),
+        FrameReason::Unsorted => report_at(errors, place, b"unsorted", b""),
+        FrameReason::DuplicateEd => report_at(errors, place, b"duplicate ed25519", b""),
+        FrameReason::TooMany(limit) => {
+            let mut most = itoa::Buffer::new();
+            let most = most.format(limit.number());
+            write_parts(
+                errors,
+                &[b"limit ", limit.name(), b" ", most.as_bytes(), b"\n"],
+            )
+        }
+    }
+}

@@ -1,0 +1,18 @@
+//! How a run ends: the statuses, the number of each, and the line that each writes.
+#![tactic(auto)]
+
+mod document_refusal;
+mod parts;
+mod status;
+mod status_line;
+mod stop;
+mod vote_refusal;
+
+pub use document_refusal::DocumentRefusal;
+pub use status::{Refusal, Status};
+pub use status_line::report;
+pub use stop::{Stop, of_kind};
+pub use vote_refusal::VoteListRefusal;
+
+#[cfg(test)]
+mod tests;

@@ -1,0 +1,44 @@
+// The line of a status on the errors sink. It takes no memory.
+ghost use Rattle.std.specs.Prelude.{◌≡◌, ◌≤◌, List, ℕ, [], map};
+ghost use Rattle.exit_status.specs.Lines.{line_of, refusal_parts};
+ghost use Rattle.exit_status.specs.Parts.{joined};
+ghost use Rattle.exit_status.specs.Reports.{Reports};
+
+use crate::document_refusal::report_fault;
+use crate::parts::write_parts;
+use crate::status::{Refusal, Status};
+use crate::vote_refusal::report_votes;
+use dir_bytes::Sink;
+
+/// Writes the line of a status, or a front of it where the sink fails.
+pub fn report<E: Sink>(errors: &mut E, status: Status)
+    ensures { Reports (E.written errors.old) (E.written errors.new) (E.faults errors.old) (E.faults errors.new)
+        (line_of status) }
+{
+    match status {
+        Status::Done => write_parts(errors, &[]),
+        Status::Memory => write_parts(errors, &[b"want of memory", b"\n"]),
+        Status::BadWords => write_parts(errors, &[b"bad words", b"\n"]),
+        Status::ReadFault => write_parts(errors, &[b"read fault", b"\n"]),
+        Status::WriteFault => write_parts(errors, &[b"write fault", b"\n"]),
+        Status::TooLong => write_parts(errors, &[b"limit input 268435456", b"\n"]),
+        Status::Refused(refusal) => report_refusal(errors, refusal),
+    }
+}
+
+/// Writes the line of a refusal: a line here for each family of commands.
+fn report_refusal<E: Sink>(errors: &mut E, refusal: Refusal)
+    ensures { Reports (E.written errors.old) (E.written errors.new) (E.faults errors.old) (E.faults errors.new)
+        (joined (refusal_parts refusal)) }
+{
+    match refusal {
+        Refusal::Document(refusal) => report_fault(
+            errors,
+            refusal.kind,
+            refusal.fault.place,
+            refusal.fault.reason,
+        ),
+        Refusal::Votes(refusal) => report_votes(errors, refusal),
+        Refusal::Verifier => write_parts(errors, &[b"verifier fault", b"\n"]),
+    }
+}
