@@ -60,8 +60,12 @@ fn a_relay_in_the_middle_is_no_guard(rt: HostRuntime) -> Result<(), Fail> {
     for flags in lists(alloc)? {
         set.push(Some(flags))?;
     }
+    let known = lists(alloc)?;
+    if known.len() != set.len() {
+        return Err("as many lists of both".into());
+    }
     let mut out = Vec::new(alloc);
-    majority_flags(alloc, &lists(alloc)?, &set)?.push(&mut out)?;
+    majority_flags(alloc, &known, &set)?.push(&mut out)?;
     assert_eq!(rt;
         out.as_slice(),
         b"BadExit MiddleOnly Running Valid".as_slice()
