@@ -1,4 +1,8 @@
 // The text of a consensus that lists a relay.
+ghost use Rattle.std.specs.Prelude.{◌≤◌, IfOk};
+ghost use Rattle.dir_bytes.specs.Causes.{last_moment};
+ghost use Rattle.consensus_terms.specs.Moments.{HasMoments};
+
 use crate::unsigned;
 use consensus_terms::{Bandwidth, Consensus, Routerline, SourceLine};
 use dir_bytes::{Seq, Text, read_hex};
@@ -26,7 +30,9 @@ fn authority(alloc: Global) -> Result<SourceLine, Fail> {
     })
 }
 
-fn relay(alloc: Global) -> Result<Routerline, Fail> {
+fn relay(alloc: Global) -> Result<Routerline, Fail>
+    ensures { IfOk result (λ router. router.published ≤ last_moment) }
+{
     Ok(Routerline {
         nickname: Text::copy_of(alloc, b"relay1")?,
         identity: Fingerprint([1; 20]),
@@ -48,7 +54,9 @@ fn relay(alloc: Global) -> Result<Routerline, Fail> {
     })
 }
 
-fn consensus(alloc: Global) -> Result<Consensus, Fail> {
+fn consensus(alloc: Global) -> Result<Consensus, Fail>
+    ensures { IfOk result (λ c. HasMoments c) }
+{
     let mut sources = Vec::new(alloc);
     sources.push(authority(alloc)?)?;
     let mut routers = Vec::new(alloc);
