@@ -58,6 +58,20 @@ fn vote_of(alloc: Global, entries: &'static [&'static str]) -> Result<String, Fa
     Ok(input(alloc, &[vote])?)
 }
 
+// Asserts that `check` and `show` give no text of an input, with this number and line.
+fn assert_none(
+    rt: &impl Abort,
+    alloc: Global,
+    text: &[u8],
+    number: u8,
+    line: &str,
+) -> Result<(), Fail> {
+    for words in [CHECK, SHOW] {
+        assert_gives(rt, alloc, whole(&words, text), number, "", line)?;
+    }
+    Ok(())
+}
+
 // Asserts that a vote with such entries is refused at the last line that is the faulty one.
 fn assert_refused(rt: &impl Abort, alloc: Global, faulty: Faulty) -> Result<(), Fail> {
     let text = vote_of(alloc, faulty.entries)?;
@@ -67,17 +81,7 @@ fn assert_refused(rt: &impl Abort, alloc: Global, faulty: Faulty) -> Result<(), 
         _ => "document fault",
     };
     let line = format!(in alloc; "{cause} at {}: {}\n", before.len(), faulty.fault)?;
-    for words in [CHECK, SHOW] {
-        assert_gives(
-            rt,
-            alloc,
-            whole(&words, text.as_bytes()),
-            faulty.number,
-            "",
-            &line,
-        )?;
-    }
-    Ok(())
+    assert_none(rt, alloc, text.as_bytes(), faulty.number, &line)
 }
 
 #[test]
