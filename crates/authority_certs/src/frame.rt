@@ -136,10 +136,6 @@ impl Frame for CertFrame {
         &ROWS
     }
 
-    fn is_not_built(self, _: Keyword) -> bool {
-        false
-    }
-
     fn ignores(self, _: CertKind, _: &Item<'_>) -> bool {
         false
     }

@@ -54,7 +54,6 @@ itself_has = record {
   rows = refl;
   shape = refl;
   plain = plain;
-  built = refl;
   known = λ of item. refl;
   values = λ across of item. refl;
 }
@@ -78,7 +77,7 @@ kept_says cert rest are =
 -- the first item of a certificate
 begins_it : IsFirst cert_tables (row the.DirKeyCertificateVersion One Version)
 unfolding same
-begins_it = record { built = refl; begins = refl; row_there = refl }
+begins_it = record { begins = refl; row_there = refl }
 
 -- it ends where its text ends
 ends_there : (cert : Cert) → after_all 0 (cert_entries {W = Own} cert) ≡ length (cert_text cert)

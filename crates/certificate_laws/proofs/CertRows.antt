@@ -156,7 +156,6 @@ pub record HasCertificates {S K W X : Type 0} (tables : Tables S K (Value W) X) 
   pub rows : tables.rows name ≡ cert_rows kind
   pub shape : tables.shape name ≡ cert_shape
   pub plain : (cert : Cert) → are_plain tables name (certificate_rows kind cert) ≡ true
-  pub built : tables.is_not_built the.DirKeyCertification ≡ false
   pub known : (of : CertKind) (item : Item) → tables.ignores (kind of) item ≡ false
   pub values : (across : X) (of : CertKind) (item : Item)
       → tables.value_of across (kind of) item ≡ at_place (cert_value of item)
@@ -241,7 +240,6 @@ module _ {S K W X : Type 0} (tables : Tables S K (Value W) X) (name : S) (kind :
       opens = refl;
       said = rows_said cert are;
     };
-    built = has.built;
     ends_it = record {
       row_there = ap (λ (rows : List (Row K)). row_of rows the.DirKeyCertification) has.rows ∙ last_there;
       last = ap (λ (shape : Shape S). is_keyword shape.last the.DirKeyCertification) has.shape ∙ last_ends;

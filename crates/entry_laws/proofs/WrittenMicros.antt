@@ -58,7 +58,7 @@ pub micro_again : MicroLinesAreReadAgain
 micro_again place keyword methods digest are is =
     let a = methods_text methods in
     let b = codes "sha256=" ++ digest2_text digest in
-    let text = micro_text methods (Some digest) in
+    let text = micro_text methods digest in
     let start = rest_start place keyword text in
     let second = start + length a + 1 in
     let named_word : IsWord b = bytes_of (digest2_text digest) (word_of_thirty_two digest.0 is) in (

@@ -64,8 +64,8 @@ abbrev pub MicroLinesAreReadAgain : Type 0
 MicroLinesAreReadAgain = (place : ℕ) (keyword : Keyword) (methods : List ℕ) (digest : Digest2)
     → AreMethodsInRange methods
     → AreThirtyTwo digest.0
-    → (micro_of (written place (bare keyword (micro_text methods (Some digest))))
-    ≡ Ok (micro_at (rest_start place keyword (micro_text methods (Some digest))) methods digest))
+    → (micro_of (written place (bare keyword (micro_text methods digest)))
+    ≡ Ok (micro_at (rest_start place keyword (micro_text methods digest)) methods digest))
     × (methods_in (methods_text methods) ≡ methods)
 
 -- a line of an opinion is read as that opinion, and is not passed over

@@ -14,6 +14,7 @@ use Rattle.exit_status.specs.Parts.{at_place, end}
 abbrev pub document_limit : Kind → List ℕ
 document_limit kind.Vote = codes "vote 16777216"
 document_limit kind.Cert = codes "certificate 65536"
+document_limit kind.Consensus = codes "consensus 67108864"
 
 -- what is wrong with a line or an object of a document of a kind; a limit with its number
 abbrev pub doc_text : Kind → DocReason → List ℕ
@@ -37,8 +38,6 @@ doc_parts kind place other = at_place place (doc_text kind other) []
 -- what is wrong with an item of a document of a kind
 abbrev pub fault_parts : Kind → ℕ → FrameReason → List (List ℕ)
 fault_parts kind place (reason.Doc other) = doc_parts kind place other
-fault_parts kind place (reason.NotBuilt keyword) =
-    codes "not built at " ∷ decimal place ∷ codes ": " ∷ text_of keyword ∷ end ∷ []
 fault_parts kind place (reason.Missing keyword) = at_place place (codes "missing ") (text_of keyword)
 fault_parts kind place (reason.Twice keyword) = at_place place (codes "twice ") (text_of keyword)
 fault_parts kind place reason.Order = at_place place (codes "order") []
@@ -62,10 +61,9 @@ doc_number doc.LineTooLong = 9
 doc_number doc.DocumentTooLong = 9
 doc_number doc.ObjectTooLong = 9
 
--- 9 is a limit, 14 an item that is not built, and 5 any other fault
+-- 9 is a limit, and 5 any other fault
 abbrev pub fault_number : FrameReason → ℕ
 fault_number (reason.Doc other) = doc_number other
-fault_number (reason.NotBuilt keyword) = 14
 fault_number (reason.Missing keyword) = 5
 fault_number (reason.Twice keyword) = 5
 fault_number reason.Order = 5

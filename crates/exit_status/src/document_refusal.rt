@@ -28,7 +28,7 @@ impl DocumentRefusal {
     }
 }
 
-/// 9 where the fault is a limit, 14 where an item is not built, and else 5.
+/// 9 where the fault is a limit, and else 5.
 fn fault_number(reason: FrameReason) -> u8
     ensures { result ≡ lines.fault_number reason }
 {
@@ -38,7 +38,6 @@ fn fault_number(reason: FrameReason) -> u8
             _ => 5,
         },
         FrameReason::TooMany(_) => 9,
-        FrameReason::NotBuilt(_) => 14,
         FrameReason::Missing(_)
         | FrameReason::Order
         | FrameReason::Twice(_)
@@ -55,6 +54,7 @@ fn document_limit(kind: Kind) -> &'static [u8]
     match kind {
         Kind::Vote => b"vote 16777216",
         Kind::Cert => b"certificate 65536",
+        Kind::Consensus => b"consensus 67108864",
     }
 }
 
@@ -95,20 +95,6 @@ pub fn report_fault<E: Sink>(errors: &mut E, kind: Kind, place: u64, reason: Fra
 {
     match reason {
         FrameReason::Doc(reason) => report_doc(errors, kind, place, reason),
-        FrameReason::NotBuilt(keyword) => {
-            let mut at = itoa::Buffer::new();
-            let at = at.format(place);
-            write_parts(
-                errors,
-                &[
-                    b"not built at ",
-                    at.as_bytes(),
-                    b": ",
-                    keyword.text(),
-                    b"\n",
-                ],
-            )
-        }
         FrameReason::Missing(keyword) => report_at(errors, place, b"missing ", keyword.text()),
         FrameReason::Twice(keyword) => report_at(errors, place, b"twice ", keyword.text()),
         FrameReason::Order => report_at(errors, place, b"order", b""),

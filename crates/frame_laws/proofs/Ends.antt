@@ -37,7 +37,6 @@ use Rattle.frame_laws.proofs.Steps.{IsAmong, IsLastOf, among, last_of, made_by-l
 pub record IsEnded {S K V X : Type 0} (tables : Tables S K V X) (section : Section S K V) (row : Row K)
     (last : Entry V) : Type 0 where
   pub written : IsWritten tables section (row ∷ [])
-  pub built : tables.is_not_built row.keyword ≡ false
   pub ends_it : IsLastOf tables section.name row
   pub inside : inner tables section.name row.keyword ≡ None
   pub suits : AlwaysSuits tables row last
@@ -99,7 +98,6 @@ module _ {S K V X : Type 0} (tables : Tables S K V X) (length : ℕ) (after : X)
       let here = opening section.name (taken_in place section) around in
       made_by-later tables across section.name (taken_at place section.opener)
       (others_in place section) around end last
-      (subst (λ (w : Keyword). tables.is_not_built w ≡ false) k is.built)
       (fits tables section.name (taken_at place section.opener) (others_in place section) around end last last.keyword
       (subst (λ (w : Keyword). inner tables section.name w ≡ None) k is.inside) in_last)
       ∙ ap (λ (w : Keyword). by_keyword tables across here item (Some w)) (sym k)
@@ -219,14 +217,14 @@ module _ {S K V X : Type 0} where
   -- The first item of a section inside another, which is an item of both.
   pub entering : (tables : Tables S K V X) (across : X) (outer section : S) (first : Taken V) (taken : List (Taken V))
       (place : ℕ) (entry : Entry V)
-      (row : Row K) → tables.is_not_built row.keyword ≡ false → IsAmong tables outer row
+      (row : Row K) → IsAmong tables outer row
       → inner tables outer row.keyword ≡ Some section
       → stands row.keyword (first ∷ taken) ≡ false
       → FitsIn ((tables.shape section).limit) place (after_one place entry)
       → Suits tables across row place entry
       → made_by tables across (opening outer (first ∷ taken) None) (written place (item_of entry))
       ≡ Ok (Enters section (taken_at place entry))
-  entering tables across outer section first taken place entry row built here inside new within suits =
+  entering tables across outer section first taken place entry row here inside new within suits =
       let item = written place (item_of entry) in
       let k = suits.keyword in
       let open_ = opening outer (first ∷ taken) None in
@@ -235,7 +233,6 @@ module _ {S K V X : Type 0} where
       ∙ ap (λ (s : Option S). beyond_inside tables item s) inside
       ∙ not_beyond ((tables.shape section).limit) place item within in
       made_by-later tables across outer first taken None place entry
-      (subst (λ (w : Keyword). tables.is_not_built w ≡ false) k built)
       (subst (λ (w : Keyword). beyond_inner tables outer (first ∷ taken) None item (Some w) ≡ None) k no_fault)
       ∙ ap (λ (w : Keyword). by_keyword tables across open_ item (Some w)) (sym k)
       ∙ among tables across open_ place entry row here

@@ -5,7 +5,7 @@ use Rattle.std.specs.Prelude.{map, if◌then◌else◌}
 use Rattle.item_terms.specs.Items.{Item}
 use Rattle.item_terms.specs.declared.fault.DocFault.{DocFault}
 use Rattle.dirdoc_grammar.specs.Writing.{all_written, written}
-use Rattle.frame_terms.specs.Decisions.{first_item, made_by, made_first, not_built_reason, unless_refused}
+use Rattle.frame_terms.specs.Decisions.{first_item, made_by, made_first, unless_refused}
 use Rattle.frame_terms.specs.Documents.{Document, group, onto, read_items, start}
 use Rattle.frame_terms.specs.Order.{begins_document, inner, opener}
 use Rattle.frame_terms.specs.Sections.{lacking, row_of}
@@ -15,7 +15,7 @@ use Rattle.frame_terms.specs.declared.document.Group.{Group}
 use Rattle.frame_terms.specs.declared.document.Made.{Made}
 use Rattle.frame_terms.specs.declared.document.Made.TheVariants.{Pushes, Opens}
 use Rattle.frame_terms.specs.declared.document.Taken.{Taken}
-use Rattle.frame_terms.specs.declared.fault.FrameReason.TheVariants.{Missing, NotBuilt}
+use Rattle.frame_terms.specs.declared.fault.FrameReason.TheVariants.{Missing}
 use Rattle.frame_terms.specs.declared.fault.ReadRefusal.{ReadRefusal}
 use Rattle.frame_terms.specs.declared.keyword.Keyword.{Keyword}
 use Rattle.frame_terms.specs.declared.row.Row.{Row}
@@ -49,13 +49,12 @@ module _ {S K V X : Type 0} where
   -- what an item makes is by its keyword, where it begins no section inside the one that is open
   by_its_keyword : (tables : Tables S K V X) (across : X) (section : S) (first : Taken V) (taken : List (Taken V))
       (place : ℕ) (entry : Entry V)
-      (keyword : Keyword) → keyword ≡ entry.keyword → tables.is_not_built keyword ≡ false
+      (keyword : Keyword) → keyword ≡ entry.keyword
       → inner tables section keyword ≡ None
       → made_by tables across (opening section (first ∷ taken) None) (written place (item_of entry))
       ≡ by_keyword tables across (opening section (first ∷ taken) None) (written place (item_of entry)) (Some keyword)
-  by_its_keyword tables across section first taken place entry keyword k built inside =
+  by_its_keyword tables across section first taken place entry keyword k inside =
       made_by-later tables across section first taken None place entry
-      (subst (λ (w : Keyword). tables.is_not_built w ≡ false) k built)
       (fits tables section first taken None place entry entry.keyword
       (subst (λ (w : Keyword). inner tables section w ≡ None) k inside) tt)
       ∙ ap (λ (w : Keyword). by_keyword tables across (opening section (first ∷ taken) None)
@@ -63,19 +62,17 @@ module _ {S K V X : Type 0} where
 
   -- a later section may follow
   pub opener_follows : (tables : Tables S K V X) (before next : S) (row : Row K)
-      → tables.is_not_built row.keyword ≡ false
       → inner tables before row.keyword ≡ None → IsOpener tables before next row → MayFollow tables before next row
-  opener_follows tables before next row built inside opens across first taken place entry whole suits =
-      by_its_keyword tables across before first taken place entry row.keyword suits.keyword built inside
+  opener_follows tables before next row inside opens across first taken place entry whole suits =
+      by_its_keyword tables across before first taken place entry row.keyword suits.keyword inside
       ∙ opener_of tables across (opening before (first ∷ taken) None) next place entry row opens whole suits
 
   -- a section that repeats may follow itself
   pub repeated_follows : (tables : Tables S K V X) (section : S) (row : Row K)
-      → tables.is_not_built row.keyword ≡ false
       → inner tables section row.keyword ≡ None → IsAgain tables section row again.Section
       → MayFollow tables section section row
-  repeated_follows tables section row built inside here across first taken place entry whole suits =
-      by_its_keyword tables across section first taken place entry row.keyword suits.keyword built inside
+  repeated_follows tables section row inside here across first taken place entry whole suits =
+      by_its_keyword tables across section first taken place entry row.keyword suits.keyword inside
       ∙ again_of tables across (opening section (first ∷ taken) None) place entry row here whole suits
 
   -- a section that follows another is read
@@ -218,7 +215,6 @@ module _ {S K V X : Type 0} where
 
 -- what the tables say of the first item of a document
 pub record IsFirst {S K V X : Type 0} (tables : Tables S K V X) (row : Row K) : Type 0 where
-  pub built : tables.is_not_built row.keyword ≡ false
   pub begins : begins_document tables (Some row.keyword) ≡ true
   pub row_there : row_of (tables.rows tables.first) row.keyword ≡ Some row
 
@@ -232,11 +228,9 @@ module _ {S K V X : Type 0} where
       let item = written place (item_of entry) in
       let k = row.keyword in
       let made : Option Keyword → Result (Made S V) ReadRefusal =
-      λ word. unless_refused place (not_built_reason tables word) (made_first tables across item word) in
+      λ word. made_first tables across item word in
       let begun : Result (Made S V) ReadRefusal = first_item tables across item (Some k) in
       ap made (known entry.keyword ∙ ap (λ (w : Keyword). Some w) (sym suits.keyword))
-      ∙ ap (λ (t : Bool). unless_refused place (if t then Some (NotBuilt k) else None)
-      (made_first tables across item (Some k))) is.built
       ∙ ap (λ (t : Bool). unless_refused place
       (if t then None else Some (Missing (opener tables tables.first))) begun) is.begins
       ∙ ap (λ (r : Option (Row K)). begins tables across Pushes item r) is.row_there

@@ -4,8 +4,7 @@ use Rattle.std.proofs.Common.{ap, subst, ◌∙◌}
 use Rattle.std.specs.Prelude.{not, ◌&&◌, if◌then◌else◌}
 use Rattle.item_terms.specs.Items.{Item}
 use Rattle.dirdoc_grammar.specs.Writing.{written}
-use Rattle.frame_terms.specs.Decisions.{beyond_inner, made_by, made_later, not_built_reason, unless_fault}
-use Rattle.frame_terms.specs.Decisions.{unless_refused}
+use Rattle.frame_terms.specs.Decisions.{beyond_inner, made_by, made_later, unless_fault}
 use Rattle.frame_terms.specs.Order.{first_of, following, inner, is_keyword, opened_by, passed_over}
 use Rattle.frame_terms.specs.Refusals.{refused}
 use Rattle.frame_terms.specs.Rows.{is_many}
@@ -19,7 +18,7 @@ use Rattle.frame_terms.specs.declared.document.Made.TheVariants.{Passes, Pushes,
 use Rattle.frame_terms.specs.declared.document.Open.{Open}
 use Rattle.frame_terms.specs.declared.document.Taken.{Taken}
 use Rattle.frame_terms.specs.declared.fault.FrameFault.{FrameFault}
-use Rattle.frame_terms.specs.declared.fault.FrameReason.TheVariants.{NotBuilt, Twice}
+use Rattle.frame_terms.specs.declared.fault.FrameReason.TheVariants.{Twice}
 use Rattle.frame_terms.specs.declared.fault.ReadRefusal.{ReadRefusal}
 use Rattle.frame_terms.specs.declared.keyword.Keyword.{Keyword}
 use Rattle.frame_terms.specs.declared.row.Row.{Row}
@@ -67,22 +66,19 @@ module _ {S K V X : Type 0} where
 
   -- ---- a later item
 
-  -- what a later item makes that is built and beyond no limit is by its keyword
+  -- what a later item makes that is beyond no limit is by its keyword
   pub made_by-later : (tables : Tables S K V X) (across : X) (section : S) (first : Taken V) (taken : List (Taken V))
       (around : Option (Group S V))
-      (place : ℕ) (entry : Entry V) → tables.is_not_built entry.keyword ≡ false
+      (place : ℕ) (entry : Entry V)
       → beyond_inner tables section (first ∷ taken) around (written place (item_of entry)) (Some entry.keyword) ≡ None
       → made_by tables across (opening section (first ∷ taken) around) (written place (item_of entry))
       ≡ by_keyword tables across (opening section (first ∷ taken) around) (written place (item_of entry))
       (Some entry.keyword)
-  made_by-later tables across section first taken around place entry built fits =
+  made_by-later tables across section first taken around place entry fits =
       let item = written place (item_of entry) in
       let open_ = opening section (first ∷ taken) around in
       let k = entry.keyword in
-      ap (λ (word : Option Keyword). unless_refused place (not_built_reason tables word)
-      (made_later tables across open_ item word)) (known k)
-      ∙ ap (λ (t : Bool). unless_refused place (if t then Some (NotBuilt k) else None)
-      (made_later tables across open_ item (Some k))) built
+      ap (λ (word : Option Keyword). made_later tables across open_ item word) (known k)
       ∙ ap (λ (f : Option FrameFault). unless_fault f (by_keyword tables across open_ item (Some k))) fits
 
 -- ---- by the row of its keyword in the section that is open
@@ -218,9 +214,8 @@ module _ {S K V X : Type 0} where
 
 -- ---- one more item of a section
 
--- an item is built, and what its section's table says of it: it ends nothing and begins nothing
+-- what its section's table says of it: it ends nothing and begins nothing
 pub record IsInTable {S K V X : Type 0} (tables : Tables S K V X) (section : S) (row : Row K) : Type 0 where
-  pub built : tables.is_not_built row.keyword ≡ false
   pub here : IsAmong tables section row
   pub enters_none : inner tables section row.keyword ≡ None
 
@@ -238,7 +233,6 @@ module _ {S K V X : Type 0} where
       let open_ = opening section (first ∷ taken) around in
       let k = suits.keyword in
       made_by-later tables across section first taken around place entry
-      (subst (λ (w : Keyword). tables.is_not_built w ≡ false) k table.built)
       (subst (λ (w : Keyword). beyond_inner tables section (first ∷ taken) around item (Some w) ≡ None) k
       (fits tables section first taken around place entry row.keyword table.enters_none within))
       ∙ ap (λ (w : Keyword). by_keyword tables across open_ item (Some w)) (sym k)

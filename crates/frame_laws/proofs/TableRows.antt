@@ -76,11 +76,11 @@ module _ {S : Type 0} where
   no_section (Some section) is = absurd (cc)
 
 module _ {S K V X : Type 0} where
-  -- a row is built, and its item opens nothing and ends nothing
+  -- the item of a row opens nothing and ends nothing
   abbrev pub is_plain : Tables S K V X → S → Row K → Bool
   is_plain tables section row =
-      not (tables.is_not_built row.keyword) && (not (is_keyword ((tables.shape section).last) row.keyword)
-      && (not (same (opener tables section) row.keyword) && is_none (inner tables section row.keyword)))
+      not (is_keyword ((tables.shape section).last) row.keyword)
+      && (not (same (opener tables section) row.keyword) && is_none (inner tables section row.keyword))
 
 module _ {V : Type 0} where
   -- nothing is written of a row
@@ -100,22 +100,19 @@ module _ {S K V X : Type 0} where
       → is_plain tables section row ≡ true → IsInTable tables section row
   in_table tables section row there plain =
       let k = row.keyword in
-      let not_built = tables.is_not_built k in
       let is_last = is_keyword ((tables.shape section).last) k in
       let opens = same (opener tables section) k in
       let enters_none = is_none (inner tables section k) in
-      let first = and_parts (not not_built) (not is_last && (not opens && enters_none)) plain in
-      let second = and_parts (not is_last) (not opens && enters_none) first.1 in
-      let third = and_parts (not opens) enters_none second.1 in
+      let first = and_parts (not is_last) (not opens && enters_none) plain in
+      let second = and_parts (not opens) enters_none first.1 in
       record {
-        built = not-true not_built first.0;
         here = record {
           row_there = there;
-          not_last = not-true is_last second.0;
+          not_last = not-true is_last first.0;
           begins_nothing =
-              ap (λ (t : Bool). if t then (tables.shape section).again else again.Nothing) (not-true opens third.0);
+              ap (λ (t : Bool). if t then (tables.shape section).again else again.Nothing) (not-true opens second.0);
         };
-        enters_none = no_section (inner tables section k) third.1;
+        enters_none = no_section (inner tables section k) second.1;
       }
 
   in_table_if : (tables : Tables S K V X) (section : S) (row : Row K) (entries : List (Entry V))

@@ -13,21 +13,6 @@ use frame_terms::{
     FrameFault, FrameReason, Group, Keyword, Limit, Made, Open, ReadRefusal, Taken, keyword_of,
 };
 
-fn not_built_reason<F: Frame>(frame: F, keyword: Option<Keyword>) -> Option<FrameReason>
-    ensures { result ≡ decisions.not_built_reason (F.tables frame) keyword }
-{
-    match keyword {
-        Some(keyword) => {
-            if frame.is_not_built(keyword) {
-                Some(FrameReason::NotBuilt(keyword))
-            } else {
-                None
-            }
-        }
-        None => None,
-    }
-}
-
 fn beginning_reason<F: Frame>(frame: F, keyword: Option<Keyword>) -> Option<FrameReason>
     ensures { result ≡ decisions.beginning_reason (F.tables frame) keyword }
 {
@@ -38,21 +23,12 @@ fn beginning_reason<F: Frame>(frame: F, keyword: Option<Keyword>) -> Option<Fram
     }
 }
 
-fn first_reason<F: Frame>(frame: F, keyword: Option<Keyword>) -> Option<FrameReason>
-    ensures { result ≡ decisions.first_reason (F.tables frame) keyword }
-{
-    match not_built_reason(frame, keyword) {
-        Some(reason) => Some(reason),
-        None => beginning_reason(frame, keyword),
-    }
-}
-
-/// Why an item can not be the first of a document of a kind, whatever it says: it is not built, or
-/// the document begins with another keyword. None where it can.
+/// Why an item can not be the first of a document of a kind, whatever it says: the document
+/// begins with another keyword. None where it can.
 pub fn first_fault<F: Frame>(frame: F, item: &Item<'_>) -> Option<FrameFault>
     ensures { result ≡ decisions.first_fault (F.tables frame) (seen item.now) }
 {
-    match first_reason(frame, keyword_of(item.keyword)) {
+    match beginning_reason(frame, keyword_of(item.keyword)) {
         Some(reason) => Some(FrameFault {
             place: item.place,
             reason,
@@ -199,9 +175,6 @@ pub fn made_by<F: Frame>(
     ensures { Tells (decisions.made_by (F.tables frame) across.now state.now (seen item.now)) result }
 {
     let keyword = keyword_of(item.keyword);
-    if let Some(reason) = not_built_reason(frame, keyword) {
-        return Err(refused(item.place, reason));
-    }
     match state.taken.as_slice() {
         [] => made_first(frame, across, item, keyword),
         [_, ..] => made_later(frame, across, state, item, keyword),

@@ -7,7 +7,7 @@ ghost use Rattle.frame_reader.specs.Giving as giving;
 ghost use Rattle.frame_reader.specs.Giving.{Gives};
 
 use dirdoc_grammar::Item;
-use frame_terms::{FrameFault, Keyword, ReadRefusal, Row, Shape, Taken};
+use frame_terms::{FrameFault, ReadRefusal, Row, Shape, Taken};
 use std::alloc::Global;
 
 /// A kind of document, by the tables of its sections.
@@ -42,10 +42,6 @@ pub trait Frame: Copy {
     /// The items of a section. The first row is that of the item that opens it.
     fn rows(self, section: Self::Section) -> &'static [Row<Self::Kind>]
         ensures { result.now ≡ (tables self).rows section };
-
-    /// Whether an item of this keyword is one that is not built yet.
-    fn is_not_built(self, keyword: Keyword) -> bool
-        ensures { result ≡ (tables self).is_not_built keyword };
 
     /// Whether an item of this kind is passed over, as one that the document does not know.
     fn ignores(self, kind: Self::Kind, item: &Item<'_>) -> bool

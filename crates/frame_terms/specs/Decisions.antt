@@ -1,5 +1,5 @@
 -- What an item makes of a document, of which the open section and its items are known. The faults of its lines are told
--- before. Of its others the first is given: NotBuilt, TooMany of an inner section's bytes, Missing, Order, Twice, and
+-- before. Of its others the first is given: TooMany of an inner section's bytes, Missing, Order, Twice, and
 -- what is wrong with what it says.
 use Rattle.std.specs.Prelude.{ℕ, ◌+◌, ◌-◌, nat_lt, List, [], ◌∷◌, Option, Some, None, Result, Ok, Err, if◌then◌else◌}
 use Rattle.std.specs.Option.{option_map}
@@ -11,7 +11,7 @@ use Rattle.frame_terms.specs.declared.document.Open.{Open}
 use Rattle.frame_terms.specs.declared.document.Taken.{Taken}
 use Rattle.frame_terms.specs.declared.fault.FrameFault.{FrameFault}
 use Rattle.frame_terms.specs.declared.fault.FrameReason.{FrameReason}
-use Rattle.frame_terms.specs.declared.fault.FrameReason.TheVariants.{Missing, NotBuilt, TooMany}
+use Rattle.frame_terms.specs.declared.fault.FrameReason.TheVariants.{Missing, TooMany}
 use Rattle.frame_terms.specs.declared.fault.ReadRefusal.{ReadRefusal}
 use Rattle.frame_terms.specs.declared.fault.ReadRefusal.TheVariants.{Frame}
 use Rattle.frame_terms.specs.declared.keyword.Keyword.{Keyword}
@@ -26,11 +26,6 @@ use Rattle.frame_terms.specs.Tables.{Tables}
 
 -- ---- what is refused wherever it stands
 
--- the first reason of two that is there
-abbrev pub reason_of : Option FrameReason → Option FrameReason → Option FrameReason
-reason_of None other = other
-reason_of (Some reason) other = Some reason
-
 module _ {S V : Type 0} where
   -- what an item makes, unless there is a reason to refuse it
   abbrev pub unless_refused : ℕ → Option FrameReason → Result (Made S V) ReadRefusal → Result (Made S V) ReadRefusal
@@ -43,24 +38,15 @@ module _ {S V : Type 0} where
   unless_fault (Some fault) other = Err (Frame fault)
 
 module _ {S K V X : Type 0} where
-  -- the refusal of an item that is not built yet
-  abbrev pub not_built_reason : Tables S K V X → Option Keyword → Option FrameReason
-  not_built_reason tables None = None
-  not_built_reason tables (Some keyword) = if tables.is_not_built keyword then Some (NotBuilt keyword) else None
-
-  -- the refusal of an item that begins no document
+  -- why an item is refused as the first of a document, whatever it says: it begins none
   abbrev pub beginning_reason : Tables S K V X → Option Keyword → Option FrameReason
   beginning_reason tables word =
       if begins_document tables word then None else Some (Missing (opener tables tables.first))
 
-  -- why an item is refused as the first of a document, whatever it says
-  abbrev pub first_reason : Tables S K V X → Option Keyword → Option FrameReason
-  first_reason tables word = reason_of (not_built_reason tables word) (beginning_reason tables word)
-
   -- the same with its place
   abbrev pub first_fault : Tables S K V X → Item → Option FrameFault
   first_fault tables item =
-      option_map (λ reason. record { place = item.place; reason = reason }) (first_reason tables (word_of item.keyword))
+      option_map (λ reason. record { place = item.place; reason = reason }) (beginning_reason tables (word_of item.keyword))
 
   -- the first item of a document
   abbrev pub first_item : Tables S K V X → X → Item → Option Keyword → Result (Made S V) ReadRefusal
@@ -105,18 +91,18 @@ module _ {S K V X : Type 0} where
 
   -- ---- an item
 
-  -- what the first item of a document makes, which is built
+  -- what the first item of a document makes
   abbrev pub made_first : Tables S K V X → X → Item → Option Keyword → Result (Made S V) ReadRefusal
   made_first tables across item word =
       unless_refused item.place (beginning_reason tables word) (first_item tables across item word)
 
-  -- what a later item makes, which is built
+  -- what a later item makes
   abbrev pub made_later : Tables S K V X → X → Open S V → Item → Option Keyword → Result (Made S V) ReadRefusal
   made_later tables across open_ item word =
       unless_fault (beyond_inner tables open_.section open_.taken open_.around item word)
       (by_keyword tables across open_ item word)
 
-  -- what an item makes that is built, by the items of the open section
+  -- what an item makes, by the items of the open section
   abbrev pub made_after : Tables S K V X → X → Open S V → Item → Option Keyword → List (Taken V)
       → Result (Made S V) ReadRefusal
   made_after tables across open_ item word [] = made_first tables across item word
@@ -124,6 +110,4 @@ module _ {S K V X : Type 0} where
 
   -- what an item makes of a document of which this is open
   abbrev pub made_by : Tables S K V X → X → Open S V → Item → Result (Made S V) ReadRefusal
-  made_by tables across open_ item =
-      let word = word_of item.keyword in
-      unless_refused item.place (not_built_reason tables word) (made_after tables across open_ item word open_.taken)
+  made_by tables across open_ item = made_after tables across open_ item (word_of item.keyword) open_.taken

@@ -9,13 +9,11 @@ use item_terms::{DocFault, DocReason};
 use std::alloc::{AllocError, AllocFailed};
 
 /// What is wrong with an item of a document. Of several that apply to one item, the first of this
-/// list is given; only `TooMany` of a certificate's bytes comes right after `NotBuilt`.
+/// list is given; only `TooMany` of a certificate's bytes comes right after `Doc`.
 #[derive(Clone, Copy, Debug, PartialEq, Eq)]
 pub enum FrameReason {
     /// A line or an object has a fault, whatever its keyword.
     Doc(DocReason),
-    /// An item of this keyword is not built yet. The place is the item's first byte.
-    NotBuilt(Keyword),
     /// An item that has to stand does not, where the section ends that it belongs to, or the input:
     /// the first such item of the table. The place is the first byte of the item that ends the
     /// section, or the input's length.

@@ -11,7 +11,7 @@ use Rattle.dir_values.specs.declared.algorithm.Algorithm.{Algorithm}
 use Rattle.frame_values.specs.declared.found.Span.{Span}
 use Rattle.frame_values.specs.declared.found.VoteSignature.{VoteSignature}
 use Rattle.frame_values.specs.Arguments.{arguments_of, front, others, field, next}
-use Rattle.frame_values.specs.Fields.{span}
+use Rattle.frame_values.specs.Fields.{is_there, span}
 
 -- whether there is an object, and it has these words
 abbrev pub has_words : Option Object → List ℕ → Bool
@@ -48,10 +48,26 @@ signed_by name arguments item =
     next (object_of (has_words item.object (codes "SIGNATURE")) item) (λ signature.
     Ok (record { algorithm = name; identity = signer; key_digest = digest; signature = signature }))))
 
--- whether a space is the byte right after the keyword, which the signed part of a vote ends with
+-- what a signature says by an algorithm that is known or none, and nothing where it names another
+abbrev pub signed_if : Item → Result (Option Algorithm) ℕ → Result (Option VoteSignature) ℕ
+signed_if item (Err place) = Ok None
+signed_if item (Ok name) =
+    next (signed_by name (after_algorithm name (arguments_of item)) item) (λ signature. Ok (Some signature))
+
+-- one of several signatures: an argument has to stand there; nothing is said by an algorithm that is not known
+abbrev pub known_signature_of : Item → Result (Option VoteSignature) ℕ
+known_signature_of item =
+    let first = front item.place (arguments_of item) in
+    if is_there first.text then signed_if item (algorithm_if first) else Err item.place
+
+-- whether a space is the byte right after the keyword, which the signed part of a document ends with
 abbrev pub is_space : Option ℕ → Bool
 is_space None = false
 is_space (Some b) = b == space
+
+-- nothing, where a space stands right after the keyword; the place is that of another byte there
+abbrev pub space_of : Item → Result (Unit {0}) ℕ
+space_of item = if is_space item.separator then Ok tt else Err (item.place + length item.keyword)
 
 -- a space, an algorithm or none, and by whom the document is signed
 abbrev pub signature_of : Item → Result VoteSignature ℕ

@@ -19,7 +19,8 @@ pub fn rest_of(item: &Item<'_>) -> Span
     span(item.start, item.arguments)
 }
 
-fn rest_unless(wrong: Option<u64>, item: &Item<'_>) -> Result<Span, u64>
+/// Where the arguments stand, unless something is wrong at a place.
+pub fn rest_unless(wrong: Option<u64>, item: &Item<'_>) -> Result<Span, u64>
     requires { IsInside item.now }
     ensures { result ≡ lines.rest_unless wrong (seen item.now) }
 {

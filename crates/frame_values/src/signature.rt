@@ -94,3 +94,29 @@ pub fn signature_of(item: &Item<'_>) -> Result<VoteSignature, u64>
     let name = algorithm_if(&first)?;
     signed_by(name, &mut after_algorithm(name, item), item)
 }
+
+/// What one of several signatures says, and nothing by an algorithm that is not known.
+pub fn known_signature_of(item: &Item<'_>) -> Result<Option<VoteSignature>, u64>
+    requires { IsInside item.now }
+    ensures { result ≡ signatures.known_signature_of (seen item.now) }
+{
+    let first = take_argument(&mut arguments_of(item), item.place);
+    if first.text.is_empty() {
+        return Err(item.place);
+    }
+    match algorithm_if(&first) {
+        Ok(name) => Ok(Some(signed_by(name, &mut after_algorithm(name, item), item)?)),
+        Err(_) => Ok(None),
+    }
+}
+
+/// Nothing, where a space stands right after the keyword; else the place of the byte that stands there.
+pub fn space_of(item: &Item<'_>) -> Result<(), u64>
+    requires { IsInside item.now }
+    ensures { result ≡ signatures.space_of (seen item.now) }
+{
+    match item.separator {
+        Some(b' ') => Ok(()),
+        _ => Err(item.place + item.keyword.len() as u64),
+    }
+}

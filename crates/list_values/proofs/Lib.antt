@@ -7,3 +7,5 @@ pub mod ListedRanges
 pub mod ListedProtocols
 pub mod MapLaws
 pub mod RangeLaws
+pub mod Putting
+pub mod NamePlaces

@@ -1,10 +1,13 @@
 -- What the private functions of this crate say.
-use Rattle.std.specs.Prelude.{ℕ, List, [], ◌∷◌, ◌++◌, map, unwrap_or, ℤ, pos, Option}
+use Rattle.std.specs.Prelude.{ℕ, List, [], ◌∷◌, ◌++◌, map, unwrap_or, ℤ, pos, Option, Some, None, option_and_then, slice_get}
+use Rattle.std.specs.Prelude.{if◌then◌else◌}
 use Rattle.std.specs.Borrow.{Bor}
+use Rattle.std.specs.List.{prefix_len}
 use Rattle.std.specs.Option.{option_map}
+use Rattle.dir_values.specs.Digests.{bytes_below}
 use Rattle.list_values.specs.declared.named.Named.{Named}
 use Rattle.list_values.specs.declared.number_range.NumberRange.{NumberRange}
-use Rattle.list_values.specs.Maps.{named}
+use Rattle.list_values.specs.Maps.{named, has_name}
 use Rattle.list_values.specs.NumberSets.{numbers_that, in_ranges}
 use Rattle.list_values.specs.Params.{number_in}
 use Rattle.list_values.specs.Parts.{parts_of}
@@ -14,6 +17,15 @@ module _ {V : Type 0} where
   -- the values by the names that are borrowed
   abbrev pub entries_in : List (Bor (List ℕ) × V) → List (Named V)
   entries_in entries = map (λ entry. named entry.0.now entry.1) entries
+
+  -- how many values stand before the first whose name does not come before a name
+  abbrev pub place_of : List (Named V) → List ℕ → ℕ
+  place_of entries name = prefix_len (λ (entry : Named V). bytes_below entry.name name) entries
+
+  -- the value of the entry at a place, if it has a name
+  abbrev pub value_there : List (Named V) → ℕ → List ℕ → Option V
+  value_there entries place name =
+      option_and_then (λ (entry : Named V). if has_name name entry then Some entry.value else None) (slice_get entries place)
 
 -- the number of the param that a text spells, and 0 of another
 abbrev pub number_or_zero : List ℕ → ℤ

@@ -23,6 +23,10 @@ united one other = numbers_that (λ number. has_number one number || has_number 
 
 -- ---- ranges
 
+-- the numbers from a low to a high one
+abbrev pub Range : Type 0
+Range = NumberRange
+
 -- whether a range has a number
 abbrev pub in_range : NumberRange → ℕ → Bool
 in_range range number = nat_le range.low number && nat_le number range.high

@@ -3,8 +3,8 @@ ghost use Rattle.std.specs.Prelude.{◌≡◌, ◌<◌, ◌≤◌, IfSome};
 ghost use Rattle.list_values.specs.Protocols as protocols;
 
 use crate::spelled::Spelled;
-use dir_bytes::{Memory, push_decimal};
 use dir_values::{after, before, has, number_of};
+use text_page::Page;
 
 /// The numbers from a low to a high one. Its text is `low-high`, or the number where it is one.
 #[derive(Clone, Copy, Debug, PartialEq, Eq)]
@@ -18,14 +18,13 @@ impl Spelled for NumberRange {
 
     ghost text = { range_text };
 
-    #[tactic(auto, unfolding(crate::specs::NumberSets::range_text))]
-    fn spell(&self, out: &mut Vec<u8>) -> Result<(), Memory> {
-        push_decimal(out, self.low as u64)?;
+    #[tactic(auto, using(text_page::proofs::Pages::pages), unfolding(crate::specs::NumberSets::range_text))]
+    fn put(&self, page: &mut Page) {
+        page.put_number(self.low as u64);
         if self.low != self.high {
-            out.push(b'-')?;
-            push_decimal(out, self.high as u64)?;
+            page.put(b"-");
+            page.put_number(self.high as u64);
         }
-        Ok(())
     }
 }
 

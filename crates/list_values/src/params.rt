@@ -1,18 +1,20 @@
 // Params of the network.
-ghost use Rattle.std.specs.Prelude.{◌≡◌, ◌==◌, ◌+◌, ◌<◌, ◌≤◌, ◌++◌, Some, IsOk, OnOk, OnErr, length, slice_get, vec_len, vec_capacity};
+ghost use Rattle.std.specs.Prelude.{◌≡◌, ◌==◌, ◌+◌, ◌<◌, ◌≤◌, ◌++◌, Some, IfOk, IsOk, OnOk, OnErr, length, slice_get, vec_len, vec_capacity};
 ghost use Rattle.std.specs.List.{fold};
 ghost use Rattle.dir_values.specs.FlagSets.{with_flag};
 ghost use Rattle.dir_values.specs.Refusals.{Reads};
+ghost use Rattle.text_page.specs.Pages.{with_text};
 ghost use Rattle.list_values.specs.Maps as maps;
 ghost use Rattle.list_values.specs.Params as its;
 
-use crate::named::{Named, add_names};
+use crate::named::{Named, add_names, copies_of, value_for};
 use crate::param_list::{first_wrong_param, params_in};
-use crate::spelled::push_joined;
+use crate::spelled::{push_joined, put_joined};
 use dir_bytes::Memory;
 use dir_values::{ValueRefusal, WordSet};
 use std::alloc::Global;
 use std::marker::Model;
+use text_page::Page;
 
 /// Params of the network: numbers by their names. Contracts see them as a list that ascends by name.
 #[derive(Debug, Drop)]
@@ -64,11 +66,22 @@ impl Params {
         &self.items[i]
     }
 
-    /// The number of the param with a name, if there is one.
+    /// The number of the param with a name, if there is one. It is found by halves.
     pub fn value(&self, name: &[u8]) -> Option<i32>
         ensures { result ≡ maps.value_at self.now name.now }
     {
-        number_at(&self.items, name)
+        value_for(&self.items, name)
+    }
+
+    /// The same params again.
+    ///
+    /// # Errors
+    /// `Memory` is want of memory.
+    pub fn copy(&self, alloc: Global) -> Result<Params, Memory>
+        ensures { IfOk result (λ copy. copy ≡ self.now) }
+    {
+        let items = copies_of(alloc, &self.items)?;
+        Ok(Params { items })
     }
 
     /// Puts the names into a set of words.
@@ -95,6 +108,13 @@ impl Params {
         Ok(Params { items })
     }
 
+    /// Puts the params on a page, with single spaces between them.
+    pub fn put(&self, page: &mut Page)
+        ensures { page.new ≡ with_text page.old (its.params_text self.now) }
+    {
+        put_joined(page, &self.items, b' ');
+    }
+
     /// Appends the params, with single spaces between them. Without memory `out` stays as it was.
     ///
     /// # Errors
@@ -107,16 +127,4 @@ impl Params {
     {
         push_joined(&self.items, b' ', out)
     }
-}
-
-/// The number of the param with a name, if there is one.
-fn number_at(params: &[Named<i32>], name: &[u8]) -> Option<i32>
-    ensures { result ≡ maps.value_at params.now name.now }
-{
-    for param in params {
-        if param.name.as_bytes() == name {
-            return Some(param.value);
-        }
-    }
-    None
 }

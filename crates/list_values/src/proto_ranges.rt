@@ -1,20 +1,22 @@
 // Versions of protocols.
-ghost use Rattle.std.specs.Prelude.{◌≡◌, ◌==◌, ◌+◌, ◌<◌, ◌≤◌, ◌++◌, IsOk, OnOk, OnErr, length, map, option_map, slice_get, vec_len, vec_capacity};
+ghost use Rattle.std.specs.Prelude.{◌≡◌, ◌==◌, ◌+◌, ◌<◌, ◌≤◌, ◌++◌, IfOk, IsOk, OnOk, OnErr, length, map, option_map, slice_get, vec_len, vec_capacity};
 ghost use Rattle.std.specs.List.{fold};
 ghost use Rattle.dir_values.specs.FlagSets.{with_flag};
 ghost use Rattle.dir_values.specs.Refusals.{Reads};
+ghost use Rattle.text_page.specs.Pages.{with_text};
 ghost use Rattle.list_values.specs.Maps as maps;
 ghost use Rattle.list_values.specs.Masks as masks;
 ghost use Rattle.list_values.specs.Protocols as protocols;
 
 use crate::mask::is_set;
-use crate::named::{Named, add_names};
+use crate::named::{Named, add_names, copies_of, value_for};
 use crate::protocol_list::{protocols_in, wrong_protocol};
-use crate::spelled::push_joined;
+use crate::spelled::{push_joined, put_joined};
 use dir_bytes::Memory;
 use dir_values::{ValueRefusal, WordSet};
 use std::alloc::Global;
 use std::marker::Model;
+use text_page::Page;
 
 /// Versions of protocols: for each name a set of numbers from 0 to 63, which may be empty. Contracts see them as a list that
 /// ascends by name, with the numbers of each in ascending order.
@@ -60,11 +62,22 @@ impl ProtoRanges {
         self.items.is_empty()
     }
 
-    /// Whether a protocol has a number.
+    /// Whether a protocol has a number. The protocol is found by halves.
     pub fn contains(&self, name: &[u8], number: u8) -> bool
         ensures { result ≡ protocols.has_version self.now name.now number }
     {
         has_version(&self.items, name, number)
+    }
+
+    /// The same protocols again.
+    ///
+    /// # Errors
+    /// `Memory` is want of memory.
+    pub fn copy(&self, alloc: Global) -> Result<ProtoRanges, Memory>
+        ensures { IfOk result (λ copy. copy ≡ self.now) }
+    {
+        let items = copies_of(alloc, &self.items)?;
+        Ok(ProtoRanges { items })
     }
 
     /// Puts the names into a set of words.
@@ -92,6 +105,13 @@ impl ProtoRanges {
         Ok(ProtoRanges { items })
     }
 
+    /// Puts the protocols on a page, with single spaces between them, each with the fewest ranges.
+    pub fn put(&self, page: &mut Page)
+        ensures { page.new ≡ with_text page.old (protocols.protocols_text self.now) }
+    {
+        put_joined(page, &self.items, b' ');
+    }
+
     /// Appends the protocols, with single spaces between them, each with the fewest ranges. Without memory `out` stays as it was.
     ///
     /// # Errors
@@ -108,6 +128,7 @@ impl ProtoRanges {
 
 /// Whether a protocol has a number.
 fn has_version(items: &[Named<u64>], name: &[u8], number: u8) -> bool
+    requires { maps.Ascend items.now }
     ensures { result ≡ protocols.has_version (masks.all_listed items.now) name.now number }
 {
     number < 64 && is_set(mask_at(items, name), number)
@@ -115,19 +136,8 @@ fn has_version(items: &[Named<u64>], name: &[u8], number: u8) -> bool
 
 /// The bits of the numbers of a protocol.
 fn mask_at(items: &[Named<u64>], name: &[u8]) -> u64
+    requires { maps.Ascend items.now }
     ensures { masks.numbers_of result ≡ protocols.numbers_at (masks.all_listed items.now) name.now }
 {
-    found_mask(items, name).unwrap_or(0)
-}
-
-/// The same, if the protocol is there.
-fn found_mask(items: &[Named<u64>], name: &[u8]) -> Option<u64>
-    ensures { result ≡ maps.value_at items.now name.now }
-{
-    for item in items {
-        if item.name.as_bytes() == name {
-            return Some(item.value);
-        }
-    }
-    None
+    value_for(items, name).unwrap_or(0)
 }

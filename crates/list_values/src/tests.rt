@@ -69,3 +69,25 @@ fn wrong_protocols_are_refused_where_they_stand(rt: HostRuntime) -> Result<(), F
     assert_eq!(rt; wrong_protocol(0, b"=1"), Some(0));
     Ok(())
 }
+
+#[test]
+fn a_copy_has_the_same_text(rt: HostRuntime) -> Result<(), Fail> {
+    let alloc = rt.alloc();
+    let mut out = Vec::new(alloc);
+    Params::read(alloc, b"a=1 b=-2")?
+        .copy(alloc)?
+        .push(&mut out)?;
+    out.push(b' ')?;
+    ProtoRanges::read(alloc, b"Cons=1-2 Desc=")?
+        .copy(alloc)?
+        .push(&mut out)?;
+    out.push(b' ')?;
+    VersionList::read(alloc, b"0.4.8.12,0.4.8.9")?
+        .copy(alloc)?
+        .push(&mut out)?;
+    assert_eq!(rt;
+        out.as_slice(),
+        b"a=1 b=-2 Cons=1-2 Desc= 0.4.8.12,0.4.8.9".as_slice()
+    );
+    Ok(())
+}

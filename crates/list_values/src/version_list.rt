@@ -3,15 +3,17 @@ ghost use Rattle.std.specs.Prelude.{◌≡◌, ◌==◌, ◌+◌, ◌<◌, ◌�
 ghost use Rattle.dir_values.specs.Arguments.{arguments_at};
 ghost use Rattle.dir_values.specs.FlagSets.{has_flag};
 ghost use Rattle.dir_values.specs.Refusals.{Reads};
+ghost use Rattle.text_page.specs.Pages.{with_text};
 ghost use Rattle.list_values.specs.Parts.{parts_of};
 ghost use Rattle.list_values.specs.VersionLists as versions;
 
 use crate::parts::Parts;
-use crate::spelled::push_joined;
+use crate::spelled::{push_joined, put_joined};
 use dir_bytes::{Memory, Text};
 use dir_values::{Arguments, TorVersion, ValueRefusal};
 use std::alloc::Global;
 use std::marker::Model;
+use text_page::Page;
 
 /// A list of versions of Tor. Contracts see it as the list of their texts.
 #[derive(Debug, Drop)]
@@ -66,6 +68,17 @@ impl VersionList {
             .any(|other| other.as_bytes() == version)
     }
 
+    /// The same versions again.
+    ///
+    /// # Errors
+    /// `Memory` is want of memory.
+    pub fn copy(&self, alloc: Global) -> Result<VersionList, Memory>
+        ensures { IfOk result (λ copy. copy ≡ self.now) }
+    {
+        let versions = copies_of(alloc, &self.versions)?;
+        Ok(VersionList { versions })
+    }
+
     /// The versions that stand in a text with commas between them: those of its first argument, and none where it has none.
     ///
     /// # Errors
@@ -83,6 +96,13 @@ impl VersionList {
         }
         let versions = parts_in(alloc, list.text)?;
         Ok(VersionList { versions })
+    }
+
+    /// Puts the versions on a page, with commas between them.
+    pub fn put(&self, page: &mut Page)
+        ensures { page.new ≡ with_text page.old (versions.versions_text self.now) }
+    {
+        put_joined(page, &self.versions, b',');
     }
 
     /// Appends the versions, with commas between them. Without memory `out` stays as it was.
@@ -135,6 +155,20 @@ fn parts_in(alloc: Global, text: &[u8]) -> Result<Vec<Text>, Memory>
     let mut parts = Parts::of(text);
     'parts: while let Some(part) = parts.next() {
         copies.push(Text::copy_of(alloc, part)?)?;
+    }
+    Ok(copies)
+}
+
+/// Copies of texts.
+///
+/// # Errors
+/// `Memory` is want of memory.
+fn copies_of(alloc: Global, texts: &[Text]) -> Result<Vec<Text>, Memory>
+    ensures { IfOk result (λ copies. copies.items ≡ texts.now) }
+{
+    let mut copies = Vec::with_capacity(alloc, texts.len())?;
+    for text in texts {
+        copies.push(Text::copy_of(alloc, text.as_bytes())?)?;
     }
     Ok(copies)
 }

@@ -40,13 +40,12 @@ bandwidths_text w =
 abbrev pub methods_text : List ℕ → List ℕ
 methods_text methods = join_with_byte comma (map decimal methods)
 
--- a digest behind a space and the name of its algorithm, where there is one
-abbrev pub sha256_text : Option Digest2 → List ℕ
-sha256_text None = []
-sha256_text (Some digest) = codes " sha256=" ++ digest2_text digest
+-- a digest behind a space and the name of its algorithm
+abbrev pub sha256_text : Digest2 → List ℕ
+sha256_text digest = codes " sha256=" ++ digest2_text digest
 
 -- methods, and the digest of the microdescriptor that is made under them
-abbrev pub micro_text : List ℕ → Option Digest2 → List ℕ
+abbrev pub micro_text : List ℕ → Digest2 → List ℕ
 micro_text methods digest = methods_text methods ++ sha256_text digest
 
 -- an opinion of a relay's Ed25519 identity, where there is one

@@ -12,6 +12,7 @@ mod said;
 mod texts;
 mod value;
 
+pub use fields::{identity, with_argument};
 pub use flags::flags_of;
 pub use frame::entry_shape;
 pub use key_set::KeySet;

@@ -1,4 +1,4 @@
-// `w` lines, which no vote has yet.
+// `w` lines.
 ghost use Rattle.std.specs.Prelude.{◌<◌, ◌^◌, length};
 
 use super::*;

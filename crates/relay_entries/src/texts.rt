@@ -69,7 +69,7 @@ pub fn push_bandwidths(rest: &mut Vec<u8>, w: Bandwidths) -> Result<(), Memory>
     }
 }
 
-// Appends methods, with commas between them.
+/// Appends methods, with commas between them.
 fn push_methods(rest: &mut Vec<u8>, methods: &[u32]) -> Result<(), Memory>
     ensures { OnOk result (rest.new.items ≡ rest.old.items ++ texts.methods_text methods.now) }
 {
@@ -84,29 +84,19 @@ fn push_methods(rest: &mut Vec<u8>, methods: &[u32]) -> Result<(), Memory>
     Ok(())
 }
 
-// Appends a digest behind the name of its algorithm, where there is one.
-fn push_sha256(rest: &mut Vec<u8>, digest: Option<Digest2>) -> Result<(), Memory>
+/// Appends a digest behind the name of its algorithm.
+fn push_sha256(rest: &mut Vec<u8>, digest: Digest2) -> Result<(), Memory>
     ensures { OnOk result (rest.new.items ≡ rest.old.items ++ texts.sha256_text digest) }
 {
-    match digest {
-        None => Ok(()),
-        Some(digest) => {
-            rest.extend_from_slice(b" sha256=")?;
-            digest.push(rest)
-        }
-    }
+    rest.extend_from_slice(b" sha256=")?;
+    digest.push(rest)
 }
 
-/// Appends methods, with commas between them, and the digest of the microdescriptor that is made under them, where there
-/// is one.
+/// Appends methods, with commas between them, and the digest of the microdescriptor that is made under them.
 ///
 /// # Errors
 /// `Memory` is want of memory.
-pub fn push_micro(
-    rest: &mut Vec<u8>,
-    methods: &[u32],
-    digest: Option<Digest2>,
-) -> Result<(), Memory>
+pub fn push_micro(rest: &mut Vec<u8>, methods: &[u32], digest: Digest2) -> Result<(), Memory>
     ensures { OnOk result (rest.new.items ≡ rest.old.items ++ texts.micro_text methods.now digest) }
 {
     push_methods(rest, methods)?;

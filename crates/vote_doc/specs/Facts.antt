@@ -6,7 +6,6 @@ use Rattle.dir_values.specs.declared.algorithm.Algorithm.{Algorithm}
 use Rattle.dir_values.specs.declared.algorithm.Algorithm.TheVariants.{Sha1}
 use Rattle.frame_values.specs.declared.found.VoteSignature.{VoteSignature}
 use Rattle.frame_values.specs.Parts.{bytes_in, moment_of, part}
-use Rattle.authority_certs.specs.declared.cert.Cert.{Cert}
 use Rattle.authority_certs.specs.Certs.{cert_in, whole_part}
 use Rattle.dir_values.specs.Numbers.{numbers_in}
 use Rattle.vote_terms.specs.Votes.{ReadVote}
@@ -15,6 +14,8 @@ use Rattle.vote_terms.specs.declared.facts.VoteFacts.{VoteFacts}
 use Rattle.vote_entries.specs.Entries.{entry_in}
 use Rattle.vote_doc.specs.declared.head.Head.{Head}
 use Rattle.vote_doc.specs.declared.kept.Kept.{Kept}
+use Rattle.vote_doc.specs.declared.head_values.HeadValues.{HeadValues}
+use Rattle.vote_doc.specs.Lists.{vote_lists}
 
 -- the hash of a signature that names this one, or none
 abbrev pub algorithm_of : Option Algorithm → Algorithm
@@ -29,13 +30,18 @@ signature_facts bytes kept = record {
   signature = bytes_in bytes kept.signature;
 }
 
--- the flags that the vote knows
-abbrev pub flags_of : List ℕ → Head → List (List ℕ)
-flags_of bytes head = as_set (words_of (part bytes head.known_flags))
+-- what the vote says in values of their own of which this was kept, in these bytes
+abbrev pub values_of : List ℕ → Head → HeadValues
+values_of bytes head = record {
+  known_flags = as_set (words_of (part bytes head.known_flags));
+  lists = vote_lists bytes head.lists;
+  certificate = cert_in bytes head.certificate;
+  signature = signature_facts bytes head.signature;
+}
 
 -- what the vote says of which this was kept, in these bytes
 abbrev pub facts_of : List ℕ → Kept → VoteFacts
-facts_of bytes kept = let head = kept.head in record {
+facts_of bytes kept = let head = kept.head in let values = values_of bytes head in record {
   methods = option_map numbers_in (option_map (part bytes) head.methods);
   published = moment_of head.published;
   valid_after = moment_of head.valid_after;
@@ -43,8 +49,9 @@ facts_of bytes kept = let head = kept.head in record {
   valid_until = moment_of head.valid_until;
   vote_seconds = head.vote_seconds;
   dist_seconds = head.dist_seconds;
-  known_flags = flags_of bytes head;
+  known_flags = values.known_flags;
   flag_thresholds = option_map (part bytes) head.flag_thresholds;
+  lists = values.lists;
   nickname = part bytes head.source.nickname;
   identity = head.source.identity;
   address = part bytes head.source.address;
@@ -52,9 +59,9 @@ facts_of bytes kept = let head = kept.head in record {
   dir_port = head.source.dir_port;
   or_port = head.source.or_port;
   contact = option_map (part bytes) head.contact;
-  certificate = cert_in bytes head.certificate;
+  certificate = values.certificate;
   entries = map (entry_in bytes) kept.entries;
-  signature = signature_facts bytes head.signature;
+  signature = values.signature;
 }
 
 -- the vote of which this was kept, in these bytes
@@ -66,9 +73,7 @@ vote_in bytes kept = record {
   says = facts_of bytes kept;
 }
 
--- What a vote keeps beside its bytes and what was kept of its sections: its certificate, its signature and its flags as values.
-pub record IsKept (bytes : List ℕ) (head : Head) (certificate : Cert) (signature : SignatureFacts) (flags : List (List ℕ)) : Type 0 where
+-- what a vote keeps beside its bytes and what was kept of its sections: what that says in values of their own
+pub record IsKept (bytes : List ℕ) (head : Head) (values : HeadValues) : Type 0 where
   pub short : length bytes < 2 ^ 62
-  pub certificate_is : certificate ≡ cert_in bytes head.certificate
-  pub signature_is : signature ≡ signature_facts bytes head.signature
-  pub flags_are : flags ≡ flags_of bytes head
+  pub are_values : values ≡ values_of bytes head

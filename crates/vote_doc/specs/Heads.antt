@@ -1,7 +1,10 @@
 -- What is kept of a vote's sections. The tables of the document see to it that each item is there which has to stand;
 -- where one is not, its value is nothing.
 use Rattle.std.specs.Prelude.{ℕ, ◌+◌, ◌-◌, ◌^◌, min, List, Option, Some, None}
-use Rattle.frame_terms.specs.declared.keyword.Keyword.TheVariants.{NetworkStatusVersion, ConsensusMethods, Published, ValidAfter, FreshUntil, ValidUntil, VotingDelay, KnownFlags, FlagThresholds, DirSource as DirSourceLine, Contact, DirectorySignature}
+use Rattle.frame_terms.specs.declared.keyword.Keyword.TheVariants.{NetworkStatusVersion, ConsensusMethods, Published}
+use Rattle.frame_terms.specs.declared.keyword.Keyword.TheVariants.{ValidAfter, FreshUntil, ValidUntil, VotingDelay}
+use Rattle.frame_terms.specs.declared.keyword.Keyword.TheVariants.{KnownFlags, FlagThresholds, Contact}
+use Rattle.frame_terms.specs.declared.keyword.Keyword.TheVariants.{DirSource as DirSourceLine, DirectorySignature}
 use Rattle.frame_terms.specs.declared.document.Taken.{Taken}
 use Rattle.frame_values.specs.declared.values.Value.{Value}
 use Rattle.authority_certs.specs.Heads as cert
@@ -10,6 +13,7 @@ use Rattle.frame_values.specs.Values.{item_at, place_in, after_in, nowhere, numb
 use Rattle.vote_frame.specs.declared.frame.VoteSection.{VoteSection}
 use Rattle.vote_frame.specs.declared.frame.VoteSection.TheVariants.{Preamble, Authority, Certificate, Entry, Footer}
 use Rattle.vote_frame.specs.declared.frame.VoteValue.{VoteValue}
+use Rattle.vote_doc.specs.Lists.{lists_in, no_lists}
 use Rattle.vote_doc.specs.Saying.{delays_in, no_source, source_in, no_signature, signature_in}
 
 -- what is kept where nothing was read
@@ -25,6 +29,7 @@ no_head = record {
   dist_seconds = 0;
   known_flags = nowhere;
   flag_thresholds = None;
+  lists = no_lists;
   source = no_source;
   contact = None;
   certificate = cert.no_head;
@@ -46,18 +51,20 @@ with_preamble head taken = record head {
   dist_seconds = (delays_in (item_at taken VotingDelay)).1;
   known_flags = text_in (text_if (item_at taken KnownFlags));
   flag_thresholds = text_if (item_at taken FlagThresholds);
+  lists = lists_in taken;
 }
 
 -- what is kept after the section of the authority
 abbrev pub with_authority : Head → List (Taken (Value VoteValue)) → Head
-with_authority head taken = record head { source = source_in (item_at taken DirSourceLine); contact = text_if (item_at taken Contact) }
+with_authority head taken =
+    record head { source = source_in (item_at taken DirSourceLine); contact = text_if (item_at taken Contact) }
 
 -- what is kept after a certificate
 abbrev pub with_certificate : Head → List (Taken (Value VoteValue)) → Head
 with_certificate head taken = record head { certificate = cert.head_of taken }
 
--- The place after the signed part, which ends with the byte after the word `directory-signature` (dir-spec, "Vote and consensus
--- status document formats").
+-- The place after the signed part, which ends with the byte after the word `directory-signature` (dir-spec, "Vote and
+-- consensus status document formats").
 abbrev pub signed_to : Option (Taken (Value VoteValue)) → ℕ
 signed_to None = 0
 signed_to (Some one) = min (one.separator + 1) (2 ^ 64 - 1)

@@ -1,4 +1,5 @@
 pub mod Saying
+pub mod Lists
 pub mod Heads
 pub mod Kept
 pub mod Facts

@@ -31,7 +31,7 @@ pub enum VoteRefusal {
     VerifierFault,
 }
 
-// Whether the certificate is the vote's authority's, and holds at a moment.
+/// Whether the certificate is the vote's authority's, and holds at a moment.
 fn check_certificate<V: Verifier>(vote: &Vote, at: u64, verifier: &mut V) -> CertAnswer
     ensures answer { ChecksCert (rules V.may_accept V.may_refuse) at vote.now result }
     ensures fault { result ≡ CertAnswer.VerifierFault → Rose (V.faults verifier.old) (V.faults verifier.new) }
@@ -43,7 +43,7 @@ fn check_certificate<V: Verifier>(vote: &Vote, at: u64, verifier: &mut V) -> Cer
     check(vote.certificate(), at, verifier)
 }
 
-// Whether the vote's signature names the authority and the signing key of its certificate.
+/// Whether the vote's signature names the authority and the signing key of its certificate.
 fn names_signer(vote: &Vote) -> bool
     ensures { result ≡ acceptable.names_signer vote.now }
 {
@@ -53,7 +53,7 @@ fn names_signer(vote: &Vote) -> bool
     signature.identity.is_same(&certificate.fingerprint) && signature.key_digest.0 == key
 }
 
-// Whether the vote's signature is right, where the digest of its signed part that names the vote is known.
+/// Whether the vote's signature is right, where the digest of its signed part that names the vote is known.
 fn check_signature<V: Verifier>(vote: &Vote, digest: &Digest1, verifier: &mut V) -> VerifyAnswer
     requires { digest.now ≡ vote_digest vote.now }
     ensures answer { ChecksSignature (rules V.may_accept V.may_refuse) vote.now result }
@@ -72,6 +72,39 @@ fn check_signature<V: Verifier>(vote: &Vote, digest: &Digest1, verifier: &mut V)
             let digest = Sha256::digest(vote.signed_part());
             verifier.verify(KeyKind::Signing, key, &digest, bytes)
         }
+    }
+}
+
+/// The digest that names the vote, if it is acceptable, or the first reason why it is not.
+fn digest_if_acceptable<V: Verifier>(
+    vote: &Vote,
+    roster: &Roster,
+    valid_after: u64,
+    verifier: &mut V,
+) -> Result<Digest1, VoteRefusal>
+    ensures digest { IfOk result (λ digest. digest ≡ vote_digest vote.now) }
+    ensures accepted { IfOk result (λ _. IsAcceptable (rules V.may_accept V.may_refuse) roster.now valid_after vote.now) }
+    ensures refused { IfErr result (λ refusal. RefusedBy (rules V.may_accept V.may_refuse) roster.now valid_after vote.now refusal) }
+    ensures fault { IfErr result (λ refusal. refusal ≡ VoteRefusal.VerifierFault → Rose (V.faults verifier.old) (V.faults verifier.new)) }
+    ensures faults { V.faults verifier.old ≤ V.faults verifier.new }
+{
+    if vote.valid_after() != valid_after {
+        let valid_after = vote.valid_after();
+        return Err(VoteRefusal::WrongPeriod { valid_after });
+    }
+    if !roster.contains(&vote.identity()) {
+        return Err(VoteRefusal::UnknownAuthority);
+    }
+    match check_certificate(vote, valid_after, verifier) {
+        CertAnswer::Checked => (),
+        CertAnswer::VerifierFault => return Err(VoteRefusal::VerifierFault),
+        answer => return Err(VoteRefusal::Cert(answer)),
+    }
+    let digest = vote.vote_digest();
+    match check_signature(vote, &digest, verifier) {
+        VerifyAnswer::Yes => Ok(digest),
+        VerifyAnswer::No => Err(VoteRefusal::BadSignature),
+        VerifyAnswer::Fault => Err(VoteRefusal::VerifierFault),
     }
 }
 
@@ -95,22 +128,8 @@ pub fn check_vote<V: Verifier>(
     ensures fault { IfErr result (λ refusal. refusal ≡ VoteRefusal.VerifierFault → Rose (V.faults verifier.old) (V.faults verifier.new)) }
     ensures faults { V.faults verifier.old ≤ V.faults verifier.new }
 {
-    if vote.valid_after() != valid_after {
-        let valid_after = vote.valid_after();
-        return Err(VoteRefusal::WrongPeriod { valid_after });
-    }
-    if !roster.contains(&vote.identity()) {
-        return Err(VoteRefusal::UnknownAuthority);
-    }
-    match check_certificate(&vote, valid_after, verifier) {
-        CertAnswer::Checked => (),
-        CertAnswer::VerifierFault => return Err(VoteRefusal::VerifierFault),
-        answer => return Err(VoteRefusal::Cert(answer)),
-    }
-    let digest = vote.vote_digest();
-    match check_signature(&vote, &digest, verifier) {
-        VerifyAnswer::Yes => Ok(CheckedVote::new(vote, digest)),
-        VerifyAnswer::No => Err(VoteRefusal::BadSignature),
-        VerifyAnswer::Fault => Err(VoteRefusal::VerifierFault),
+    match digest_if_acceptable(&vote, roster, valid_after, verifier) {
+        Ok(digest) => Ok(CheckedVote::new(vote, digest)),
+        Err(refusal) => Err(refusal),
     }
 }

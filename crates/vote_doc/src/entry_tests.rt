@@ -52,6 +52,7 @@ s Running Stable Valid\n\
 v Tor 0.4.8\n\
 pr Cons=1-2\n\
 p reject 25\n\
+m 31,35 sha1=x sha512=y\n\
 m 32,33,34,28 sha256=yg3yyVqhRMHQ/y/zyPln/cHenvDEEgs3JkFnAbUZ1hk\n\
 m 31,34,32,33,28 sha256=yg3yyVqhRMHQ/y/zyPln/cHenvDEEgs3JkFnAbUZ1hk\n\
 id ed25519 /ITXaO2r+6/zJqdSh5jEZ55Rv5UUJuc0GfzEj+P4VgU\n\
@@ -62,7 +63,7 @@ qWJ6fKmypIHrx/lFoBxdLmRnVJOGTuQhVIrgRBSxKrs=\n\
 -----END SIGNATURE-----\n\
 ";
 
-// What an entry says, in plain values.
+/// What an entry says, in plain values.
 #[derive(Clone, Copy, Debug, PartialEq, Eq)]
 struct Said {
     identity: Fingerprint,
@@ -74,7 +75,7 @@ struct Said {
     ed: EdOpinion,
 }
 
-// What each of the two entries says, where there are two.
+/// What each of the two entries says, where there are two.
 fn both_entries(alloc: Global) -> Result<Option<[Said; 2]>, ReadRefusal> {
     let (vote, _) = read(alloc, VOTE)?;
     if vote.len() != 2 {
@@ -83,7 +84,7 @@ fn both_entries(alloc: Global) -> Result<Option<[Said; 2]>, ReadRefusal> {
     Ok(Some([said_by(&vote.entry(0)), said_by(&vote.entry(1))]))
 }
 
-// What an entry says.
+/// What an entry says.
 fn said_by(entry: &Entry<'_>) -> Said {
     Said {
         identity: entry.identity(),
@@ -123,25 +124,7 @@ fn reads_the_entries_of_a_vote(rt: HostRuntime) -> Result<(), Fail> {
     Ok(())
 }
 
-// Whether the texts of the first entry are those of its lines.
-fn has_its_texts(entry: &Entry<'_>) -> bool {
-    entry.nickname() == b"ab".as_slice()
-        && entry.a() == Some(b"192.0.2.9:80")
-        && entry.flags() == b"Fast MiddleOnly Running Stable Sybil Valid".as_slice()
-        && entry.v() == Some(b"Tor 1")
-        && entry.pr() == Some(b"Cons=1-2")
-        && entry.p().is_none()
-}
-
-#[test]
-fn the_texts_of_an_entry_are_those_of_its_lines(rt: HostRuntime) -> Result<(), Fail> {
-    let (vote, _) = read(rt.alloc(), VOTE)?;
-    let holds = vote.len() == 2 && has_its_texts(&vote.entry(0));
-    assert!(rt; holds);
-    Ok(())
-}
-
-// The digests that the second entry gives for these methods.
+/// The digests that the second entry gives for these methods.
 fn micros(alloc: Global, methods: [u32; 2]) -> Result<[Option<Digest2>; 2], ReadRefusal> {
     let (vote, _) = read(alloc, VOTE)?;
     if vote.len() != 2 {
@@ -152,7 +135,7 @@ fn micros(alloc: Global, methods: [u32; 2]) -> Result<[Option<Digest2>; 2], Read
 }
 
 #[test]
-fn gives_a_digest_for_the_methods_that_it_lists(rt: HostRuntime) -> Result<(), Fail> {
+fn a_line_without_a_sha256_has_no_say(rt: HostRuntime) -> Result<(), Fail> {
     let digest = Digest2::read(b"yg3yyVqhRMHQ/y/zyPln/cHenvDEEgs3JkFnAbUZ1hk")?;
     assert_eq!(rt; micros(rt.alloc(), [31, 35])?, [Some(digest), None]);
     Ok(())

@@ -4,15 +4,14 @@ ghost use Rattle.dir_values.specs.Numbers.{numbers_in};
 ghost use Rattle.frame_values.specs.Parts as parts;
 ghost use Rattle.vote_doc.specs.Facts as facts;
 
+use crate::head_values::values_of;
 use crate::kept::Kept;
 use crate::vote::Vote;
-use authority_certs::cert_at;
 use dir_bytes::{Memory, Seq};
-use dir_values::{Algorithm, numbers_in};
-use frame_values::{Span, VoteSignature, copy_part, copy_part_if, decode_part, moment, part};
+use dir_values::numbers_in;
+use frame_values::{Span, copy_part, copy_part_if, moment, part};
 use std::alloc::Global;
-use vote_entries::set_of;
-use vote_terms::{SignatureFacts, VoteFacts};
+use vote_terms::VoteFacts;
 
 /// The numbers of a text, where there is one.
 fn numbers_if(alloc: Global, bytes: &[u8], span: Option<Span>) -> Result<Option<Seq<u32>>, Memory>
@@ -25,41 +24,13 @@ fn numbers_if(alloc: Global, bytes: &[u8], span: Option<Span>) -> Result<Option<
     }
 }
 
-// The hash of a signature that names this one, or none.
-fn algorithm(named: Option<Algorithm>) -> Algorithm
-    ensures { result ≡ facts.algorithm_of named }
-{
-    match named {
-        Some(algorithm) => algorithm,
-        None => Algorithm::Sha1,
-    }
-}
-
-/// What the signature says that was kept.
-///
-/// # Errors
-/// `Memory` is want of memory.
-pub(crate) fn signature(
-    alloc: Global,
-    bytes: &[u8],
-    kept: &VoteSignature,
-) -> Result<SignatureFacts, Memory>
-    ensures { IfOk result (λ found. found ≡ facts.signature_facts bytes.now kept.now) }
-{
-    Ok(SignatureFacts {
-        algorithm: algorithm(kept.algorithm),
-        identity: kept.identity,
-        key_digest: kept.key_digest,
-        signature: decode_part(alloc, bytes, kept.signature)?,
-    })
-}
-
-// What the vote says of which this was kept.
+/// What the vote says of which this was kept.
 fn facts_of(alloc: Global, bytes: &[u8], kept: &Kept) -> Result<VoteFacts, Memory>
     requires { length bytes.now < 2 ^ 62 }
     ensures { IfOk result (λ found. found ≡ facts.facts_of bytes.now kept.now) }
 {
     let head = &kept.head;
+    let values = values_of(alloc, bytes, head)?;
     Ok(VoteFacts {
         methods: numbers_if(alloc, bytes, head.methods)?,
         published: moment(head.published),
@@ -68,8 +39,9 @@ fn facts_of(alloc: Global, bytes: &[u8], kept: &Kept) -> Result<VoteFacts, Memor
         valid_until: moment(head.valid_until),
         vote_seconds: head.vote_seconds,
         dist_seconds: head.dist_seconds,
-        known_flags: set_of(alloc, part(bytes, head.known_flags))?,
+        known_flags: values.known_flags,
         flag_thresholds: copy_part_if(alloc, bytes, head.flag_thresholds)?,
+        lists: values.lists,
         nickname: copy_part(alloc, bytes, head.source.nickname)?,
         identity: head.source.identity,
         address: copy_part(alloc, bytes, head.source.address)?,
@@ -77,9 +49,9 @@ fn facts_of(alloc: Global, bytes: &[u8], kept: &Kept) -> Result<VoteFacts, Memor
         dir_port: head.source.dir_port,
         or_port: head.source.or_port,
         contact: copy_part_if(alloc, bytes, head.contact)?,
-        certificate: cert_at(alloc, bytes, &head.certificate)?,
+        certificate: values.certificate,
         entries: kept.entries.facts(alloc, bytes)?,
-        signature: signature(alloc, bytes, &head.signature)?,
+        signature: values.signature,
     })
 }
 

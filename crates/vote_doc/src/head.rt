@@ -3,6 +3,7 @@ ghost use Rattle.std.specs.Prelude.{◌≡◌};
 ghost use Rattle.frame_values.specs.Values as values;
 ghost use Rattle.vote_doc.specs.Heads as heads;
 
+use crate::lists::{ListSpans, lists_at, no_lists};
 use crate::says::{delays_at, no_signature, no_source, signature_at, source_at};
 use authority_certs::{CertHead, head_of, no_head};
 use frame_terms::{Keyword, Taken};
@@ -35,6 +36,8 @@ pub(crate) struct Head {
     pub known_flags: Span,
     /// The thresholds of its flags.
     pub flag_thresholds: Option<Span>,
+    /// The lists of versions, protocols and params.
+    pub lists: ListSpans,
     /// Its authority.
     pub source: DirSource,
     /// The authority's contact.
@@ -64,6 +67,7 @@ pub(crate) fn empty_head() -> Head
         dist_seconds: 0,
         known_flags: nowhere(),
         flag_thresholds: None,
+        lists: no_lists(),
         source: no_source(),
         contact: None,
         certificate: no_head(),
@@ -73,7 +77,7 @@ pub(crate) fn empty_head() -> Head
     }
 }
 
-// What is kept after a preamble.
+/// What is kept after a preamble.
 fn with_preamble(head: Head, taken: &[Taken<Value<VoteValue>>]) -> Head
     ensures { result ≡ heads.with_preamble head taken.now }
 {
@@ -89,11 +93,12 @@ fn with_preamble(head: Head, taken: &[Taken<Value<VoteValue>>]) -> Head
         dist_seconds,
         known_flags: text_at(taken, Keyword::KnownFlags),
         flag_thresholds: text_if(taken, Keyword::FlagThresholds),
+        lists: lists_at(taken),
         ..head
     }
 }
 
-// What is kept after the section of the authority.
+/// What is kept after the section of the authority.
 fn with_authority(head: Head, taken: &[Taken<Value<VoteValue>>]) -> Head
     ensures { result ≡ heads.with_authority head taken.now }
 {
@@ -104,7 +109,7 @@ fn with_authority(head: Head, taken: &[Taken<Value<VoteValue>>]) -> Head
     }
 }
 
-// What is kept after a certificate.
+/// What is kept after a certificate.
 fn with_certificate(head: Head, taken: &[Taken<Value<VoteValue>>]) -> Head
     ensures { result ≡ heads.with_certificate head taken.now }
 {
@@ -114,7 +119,7 @@ fn with_certificate(head: Head, taken: &[Taken<Value<VoteValue>>]) -> Head
     }
 }
 
-// The place after the part that is signed.
+/// The place after the part that is signed.
 fn signed_to(taken: &[Taken<Value<VoteValue>>]) -> u64
     ensures { result ≡ heads.signed_to (values.item_at taken.now Keyword.DirectorySignature) }
 {
@@ -124,7 +129,7 @@ fn signed_to(taken: &[Taken<Value<VoteValue>>]) -> u64
     }
 }
 
-// What is kept after a footer.
+/// What is kept after a footer.
 fn with_footer(head: Head, taken: &[Taken<Value<VoteValue>>]) -> Head
     ensures { result ≡ heads.with_footer head taken.now }
 {

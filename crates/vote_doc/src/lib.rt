@@ -6,8 +6,10 @@ mod check;
 mod checked;
 mod facts;
 mod head;
+mod head_values;
 mod held;
 mod kept;
+mod lists;
 mod reading;
 mod says;
 mod vote;
@@ -22,7 +24,7 @@ pub use relay_entries::EdOpinion;
 pub use vote::Vote;
 pub use vote_entries::Entry;
 pub use vote_frame::{VoteFrame, VoteKind, VoteSection, VoteValue};
-pub use vote_terms::{EntryFacts, Rank, SignatureFacts, VoteFacts, VoteWord};
+pub use vote_terms::{EntryFacts, Rank, SignatureFacts, VoteFacts, VoteLists, VoteWord};
 pub use vote_text::write;
 
 #[cfg(test)]

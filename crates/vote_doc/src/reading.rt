@@ -3,17 +3,16 @@ ghost use Rattle.std.specs.Prelude.{◌≡◌, ◌<◌, ◌^◌, length, IfOk};
 ghost use Rattle.vote_doc.specs.Facts.{vote_in};
 ghost use Rattle.vote_doc.specs.Reading.{ReadsVote};
 
-use crate::facts::signature;
+use crate::head_values::values_of;
 use crate::kept::{Kept, nothing_kept};
 use crate::vote::Vote;
-use authority_certs::cert_at;
 use dir_bytes::Memory;
 use dirdoc_grammar::Items;
 use frame_reader::read_document;
 use frame_terms::ReadRefusal;
-use frame_values::{between, part};
+use frame_values::between;
 use std::alloc::Global;
-use vote_entries::{count_entries, set_of};
+use vote_entries::count_entries;
 use vote_frame::VoteFrame;
 
 /// How many bytes a vote may have.
@@ -27,12 +26,9 @@ fn vote_of(alloc: Global, bytes: &[u8], kept: Kept) -> Result<Vote, Memory>
     requires { length bytes.now < 2 ^ 62 }
     ensures { IfOk result (λ vote. vote ≡ vote_in bytes.now kept) }
 {
-    let head = kept.head;
-    let certificate = cert_at(alloc, bytes, &head.certificate)?;
-    let signature = signature(alloc, bytes, &head.signature)?;
-    let known_flags = set_of(alloc, part(bytes, head.known_flags))?;
+    let values = values_of(alloc, bytes, &kept.head)?;
     let owned = Vec::from_slice(alloc, bytes)?;
-    Ok(Vote::new(owned, kept, certificate, signature, known_flags))
+    Ok(Vote::new(owned, kept, values))
 }
 
 /// The vote that the bytes begin with, behind blank lines if there are some, and how many bytes that are: it ends with

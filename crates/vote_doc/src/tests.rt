@@ -1,4 +1,4 @@
-// A vote without relays, and two votes of one authority.
+// Votes without relays: what one says, that it is written as it was, and which of two of one authority is held.
 use super::*;
 use dir_bytes::{BadField, Memory, read_hex};
 use dir_values::{Digest1, Digest2, Fingerprint, Roster};
@@ -7,7 +7,7 @@ use key_port::TestKeys;
 use std::alloc::Global;
 use std::test::Fail;
 
-const BEFORE_CONTACT: &[u8] = b"network-status-version 3\n\
+const TIMES: &[u8] = b"network-status-version 3\n\
 vote-status vote\n\
 consensus-methods 32\n\
 published 2025-12-31 23:50:00\n\
@@ -15,9 +15,12 @@ valid-after 2026-01-01 00:00:00\n\
 fresh-until 2026-01-01 01:00:00\n\
 valid-until 2026-01-01 03:00:00\n\
 voting-delay 300 300\n\
-known-flags Running Valid\n\
-dir-source auth1 2FD4E1C67A2D28FCED849EE1BB76E7391B93EB12 auth1.example 192.0.2.1 80 443\n\
 ";
+
+const FLAGS: &[u8] = b"known-flags Running Valid\n";
+
+const SOURCE: &[u8] =
+    b"dir-source auth1 2FD4E1C67A2D28FCED849EE1BB76E7391B93EB12 auth1.example 192.0.2.1 80 443\n";
 
 const AFTER_CONTACT: &[u8] = b"dir-key-certificate-version 3\n\
 fingerprint 2FD4E1C67A2D28FCED849EE1BB76E7391B93EB12\n\
@@ -44,27 +47,30 @@ directory-signature 2FD4E1C67A2D28FCED849EE1BB76E7391B93EB12 6F72C48DADD6EFEB0DC
 -----BEGIN SIGNATURE-----\n\
 ";
 
-// The last line of a vote.
+/// The last line of a vote.
 const END: &[u8] = b"\n-----END SIGNATURE-----\n";
 
-// The signatures of the votes with the contacts `operator 1` and `another` under the test scheme.
+/// The signatures of the votes with the contacts `operator 1` and `another` under the test scheme.
 const SIGNATURE: &[u8] = b"MqbYcq3B0vw+uX6qJMMwdeX1QHgvqQkqHisTccO6uRg=";
 
 const SIGNATURE_OF_ANOTHER: &[u8] = b"w5FrEJPZUZgf3P9ngVLY1Cqvw1iWVhfBWF65ivzxq9s=";
 
 const AUTHORITY: &[u8] = b"2FD4E1C67A2D28FCED849EE1BB76E7391B93EB12";
 
-// 2026-01-01 00:00:00
+/// 2026-01-01 00:00:00
 const PERIOD: u64 = 1767225600;
 
-// The vote with this `contact` line and this signature, and how many bytes were read.
-fn vote_with(
+/// The vote of these pieces, with this signature, and how many bytes were read.
+fn vote_of(
     alloc: Global,
-    contact: &[u8],
+    pieces: &[&[u8]],
     signature: &[u8],
 ) -> Result<(Vote, usize), ReadRefusal> {
     let mut bytes = Vec::new(alloc);
-    for piece in [BEFORE_CONTACT, contact, AFTER_CONTACT, signature, END] {
+    for piece in pieces {
+        bytes.extend_from_slice(*piece)?;
+    }
+    for piece in [AFTER_CONTACT, signature, END] {
         bytes.extend_from_slice(piece)?;
     }
     if bytes.len() > 100_000 {
@@ -73,7 +79,16 @@ fn vote_with(
     read(alloc, &bytes)
 }
 
-// The rank of a vote that was published on 2025-12-31 23:50:00 and has this SHA-256.
+/// The vote with this `contact` line and this signature, and how many bytes were read.
+fn vote_with(
+    alloc: Global,
+    contact: &[u8],
+    signature: &[u8],
+) -> Result<(Vote, usize), ReadRefusal> {
+    vote_of(alloc, &[TIMES, FLAGS, SOURCE, contact], signature)
+}
+
+/// The rank of a vote that was published on 2025-12-31 23:50:00 and has this SHA-256.
 fn rank(digest: &[u8]) -> Result<Rank, BadField> {
     let mut whole = [0; 32];
     read_hex(digest, &mut whole)?;
@@ -83,7 +98,7 @@ fn rank(digest: &[u8]) -> Result<Rank, BadField> {
     })
 }
 
-// What the first authority's vote says, in plain values, and how many bytes it has.
+/// What the first authority's vote says, in plain values, and how many bytes it has.
 #[derive(Clone, Copy, Debug, PartialEq, Eq)]
 struct Found {
     used: usize,
@@ -108,7 +123,7 @@ fn said(alloc: Global) -> Result<Found, ReadRefusal> {
     })
 }
 
-// The digest with this hex.
+/// The digest with this hex.
 fn digest(hex: &[u8]) -> Result<Digest1, BadField> {
     let mut digest = [0; 20];
     read_hex(hex, &mut digest)?;
@@ -131,19 +146,7 @@ fn reads_a_vote(rt: HostRuntime) -> Result<(), Fail> {
     Ok(())
 }
 
-// Whether the certificate's bytes stand in the vote behind the contact.
-fn has_its_certificate(vote: &Vote) -> bool {
-    AFTER_CONTACT.starts_with(vote.certificate_bytes())
-}
-
-#[test]
-fn keeps_the_bytes_of_its_certificate(rt: HostRuntime) -> Result<(), Fail> {
-    let (vote, _) = vote_with(rt.alloc(), b"contact operator 1\n", SIGNATURE)?;
-    assert!(rt; has_its_certificate(&vote));
-    Ok(())
-}
-
-// The vote of the first authority that has this `contact` line, checked.
+/// The vote of the first authority that has this `contact` line, checked.
 fn checked(alloc: Global, contact: &[u8], signature: &[u8]) -> Result<CheckedVote<TestKeys>, Fail> {
     let roster = Roster::new(vec![in alloc; Fingerprint::read(AUTHORITY)?]?)?;
     let mut keys = TestKeys::new(Vec::new(alloc));
@@ -151,63 +154,8 @@ fn checked(alloc: Global, contact: &[u8], signature: &[u8]) -> Result<CheckedVot
     Ok(check_vote(vote, &roster, PERIOD, &mut keys)?)
 }
 
-// The digest that names the vote, once it is checked and may be held.
-fn held_digest(alloc: Global) -> Result<Digest1, Fail> {
-    let checked = checked(alloc, b"contact operator 1\n", SIGNATURE)?;
-    Ok(checked.into_held().vote_digest())
-}
-
-#[test]
-fn a_right_vote_may_be_held(rt: HostRuntime) -> Result<(), Fail> {
-    let wanted = digest(b"B498D4421FF80B0AA162BC6C075B256137AEEA07")?;
-    assert_eq!(rt; held_digest(rt.alloc())?, wanted);
-    Ok(())
-}
-
-// Why the vote with this signature is refused in this period by a roster of this authority, where these answers of the
-// verifier fail.
-fn refusal(
-    alloc: Global,
-    authority: &[u8],
-    period: u64,
-    signature: &[u8],
-    failing: &[u64],
-) -> Result<Option<VoteRefusal>, Fail> {
-    let roster = Roster::new(vec![in alloc; Fingerprint::read(authority)?]?)?;
-    let mut keys = TestKeys::new(failing.to_vec(alloc)?);
-    let (vote, _) = vote_with(alloc, b"contact operator 1\n", signature)?;
-    Ok(check_vote(vote, &roster, period, &mut keys).err())
-}
-
-#[test]
-fn other_votes_are_refused(rt: HostRuntime) -> Result<(), Fail> {
-    let alloc = rt.alloc();
-    let wrong_period = VoteRefusal::WrongPeriod {
-        valid_after: PERIOD,
-    };
-    let found = refusal(alloc, AUTHORITY, PERIOD + 1, SIGNATURE, &[])?;
-    assert_eq!(rt; found, Some(wrong_period));
-    let other = b"84983E441C3BD26EBAAE4AA1F95129E5E54670F1";
-    let found = refusal(alloc, other, PERIOD, SIGNATURE, &[])?;
-    assert_eq!(rt; found, Some(VoteRefusal::UnknownAuthority));
-    let found = refusal(alloc, AUTHORITY, PERIOD, SIGNATURE_OF_ANOTHER, &[])?;
-    assert_eq!(rt; found, Some(VoteRefusal::BadSignature));
-    Ok(())
-}
-
-#[test]
-fn a_verifier_fails_at_each_question(rt: HostRuntime) -> Result<(), Fail> {
-    for question in 1..4 {
-        let found = refusal(rt.alloc(), AUTHORITY, PERIOD, SIGNATURE, &[question])?;
-        assert_eq!(rt; found, Some(VoteRefusal::VerifierFault));
-    }
-    let found = refusal(rt.alloc(), AUTHORITY, PERIOD, SIGNATURE, &[4])?;
-    assert_eq!(rt; found, None);
-    Ok(())
-}
-
-// What placing the votes with the contacts `operator 1` and `another` answers, in this order or the other, how many are
-// held then, and the rank of the first.
+/// What placing the votes with the contacts `operator 1` and `another` answers, in this order or the other, how many are
+/// held then, and the rank of the first.
 fn place_two(alloc: Global, reverse: bool) -> Result<(Placed, Placed, usize, Rank), Fail> {
     let plain = checked(alloc, b"contact operator 1\n", SIGNATURE)?.into_held();
     let another = checked(alloc, b"contact another\n", SIGNATURE_OF_ANOTHER)?.into_held();
@@ -241,82 +189,41 @@ fn holds_the_vote_of_the_greater_digest(rt: HostRuntime) -> Result<(), Fail> {
     Ok(())
 }
 
-// A vote without a `contact` line, spelled otherwise: its items in another order, other blanks, leading zeros, digits in
-// lower case, flags in another order, keys in shorter lines, other words and names, and items that are passed over.
-const OTHERWISE: &[u8] = b"\n\
-network-status-version\t3 and more\n\
-known-flags Valid \t Running \n\
-vote-status vote\n\
-\t \n\
-voting-delay 0300 300 5\n\
-consensus-methods 00032\n\
-x-unknown \n\
------BEGIN ANY WORDS-----\n\
------END ANY WORDS-----\n\
-valid-until 2026-01-01 03:00:00\n\
-fresh-until 2026-01-01\t01:00:00\n\
-valid-after 2026-01-01 00:00:00\n\
-published 2025-12-31 23:50:00\n\
-dir-source auth1 2fd4e1c67a2d28fced849ee1bb76e7391b93eb12  auth1.example 192.000.02.1 0080 443\n\
-dir-key-certificate-version 3\n\
-dir-signing-key\n\
------BEGIN RSA PUBLIC KEY-----\n\
-c2lnb\n\
-i0x\n\
------END RSA PUBLIC KEY-----\n\
-dir-key-expires 2026-12-01 00:00:00\n\
-dir-key-published 2025-12-01 00:00:00\n\
-dir-identity-key\n\
------BEGIN RSA PUBLIC KEY-----\n\
-VGhlIHF1aWNrIGJyb3duIGZveCBqdW1wcyBvdmVyIHRoZSBs\n\
-YXp5IGRvZw==\n\
------END RSA PUBLIC KEY-----\n\
-fingerprint 2fd4e1c67a2d28fced849ee1bb76e7391b93eb12\n\
-dir-key-crosscert\n\
------BEGIN SIGNATURE-----\n\
-W7g1vpnAfFlPotdxglWgJ9ZctyQMrB4xhHhiZVRrp/Q=\n\
------END SIGNATURE-----\n\
-dir-key-certification\n\
------BEGIN SIGNATURE-----\n\
-Zw20WLCU5zapzeLufxICg2CtoDETZ1JgmEU5tdnIBmA=\n\
------END SIGNATURE-----\n\
-directory-footer\n\
-directory-signature sha1 2FD4E1C67A2D28FCED849EE1BB76E7391B93EB12 6f72c48dadd6efeb0dcb997e00f90619ca181eec\n\
------BEGIN SIGNATURE-----\n\
-MqbYcq3B0vw+uX6qJMMwdeX1QHgvqQkqHisTccO6uRg=\n\
------END SIGNATURE-----\n\
+const VERSIONS: &[u8] = b"client-versions 0.4.9.1-alpha,0.4.8.12\n\
+server-versions\n\
 ";
 
-// What is written for a vote that was read.
+const LISTS: &[u8] = b"recommended-relay-protocols Cons=2 Desc=2 Link=4-5\n\
+params CircuitPriorityHalflifeMsec=30000 bwweightscale=10000\n\
+";
+
+/// Whether the lists of a vote are those.
+fn are_its_lists(lists: &VoteLists) -> bool {
+    let (Some(clients), Some(relays)) = (&lists.client_versions, &lists.server_versions) else {
+        return false;
+    };
+    let (Some(protocols), Some(params)) = (&lists.recommended_relay_protocols, &lists.params) else {
+        return false;
+    };
+    clients.len() == 2
+        && clients.contains(b"0.4.8.12")
+        && relays.is_empty()
+        && protocols.contains(b"Link", 5)
+        && params.value(b"bwweightscale") == Some(10000)
+        && lists.required_client_protocols.is_none()
+}
+
+/// What is written for a vote that was read.
 fn written(alloc: Global, vote: &Vote) -> Result<Vec<u8>, Memory> {
     write(alloc, &vote.facts(alloc)?)
 }
 
-// Whether a vote is written as these bytes.
-fn is_written_as(alloc: Global, vote: &Vote, bytes: &[u8]) -> Result<bool, Memory> {
-    let text = written(alloc, vote)?;
-    Ok(text.as_slice() == bytes)
-}
-
 #[test]
-fn writes_a_vote_as_it_was(rt: HostRuntime) -> Result<(), Fail> {
+fn a_vote_with_lists_says_them_and_is_written_as_it_was(rt: HostRuntime) -> Result<(), Fail> {
     let alloc = rt.alloc();
-    let (vote, _) = vote_with(alloc, b"contact operator 1\n", SIGNATURE)?;
-    assert!(rt; is_written_as(alloc, &vote, vote.bytes())?);
-    Ok(())
-}
-
-// The bytes of the vote without a contact.
-fn plain_bytes(alloc: Global) -> Result<Vec<u8>, ReadRefusal> {
-    let (plain, _) = vote_with(alloc, b"", SIGNATURE)?;
-    Ok(Vec::from_slice(alloc, plain.bytes())?)
-}
-
-#[test]
-fn spellings_of_a_vote_have_one_text(rt: HostRuntime) -> Result<(), Fail> {
-    let alloc = rt.alloc();
-    let plain = plain_bytes(alloc)?;
-    let (vote, _) = read(alloc, OTHERWISE)?;
-    assert!(rt; is_written_as(alloc, &vote, &plain)?);
+    let (vote, _) = vote_of(alloc, &[TIMES, VERSIONS, FLAGS, LISTS, SOURCE], SIGNATURE)?;
+    assert!(rt; are_its_lists(vote.lists()));
+    let text = written(alloc, &vote)?;
+    assert_eq!(rt; text.as_slice(), vote.bytes());
     Ok(())
 }

@@ -5,6 +5,7 @@ ghost use Rattle.vote_terms.specs.Entries.{Ascending};
 ghost use Rattle.vote_terms.specs.Votes.{rank_of, vote_digest};
 ghost use Rattle.vote_doc.specs.Facts as facts;
 
+use crate::head_values::HeadValues;
 use crate::kept::Kept;
 use authority_certs::Cert;
 use dir_values::{Digest1, Digest2, Fingerprint, FlagSet};
@@ -13,16 +14,14 @@ use sha1::Sha1;
 use sha2::{Digest, Sha256};
 use std::marker::Model;
 use vote_entries::Entry;
-use vote_terms::{Rank, SignatureFacts};
+use vote_terms::{Rank, SignatureFacts, VoteLists};
 
 /// A vote (dir-spec, "Vote and consensus status document formats"). Its texts are slices of its bytes.
 #[derive(Drop)]
 pub struct Vote {
     pub(crate) bytes: Vec<u8>,
     pub(crate) kept: Kept,
-    certificate: Cert,
-    signature: SignatureFacts,
-    known_flags: FlagSet,
+    values: HeadValues,
 }
 
 impl Model for Vote {
@@ -33,27 +32,19 @@ impl Model for Vote {
 
     ghost view = { λ v. vote_in v.bytes.items v.kept };
 
-    ghost invariant = { λ v. IsKept v.bytes.items v.kept.head v.certificate v.signature v.known_flags };
+    ghost invariant = { λ v. IsKept v.bytes.items v.kept.head v.values };
 }
 
 impl Vote {
     /// The vote of these bytes, of which this was kept.
-    pub(crate) fn new(
-        bytes: Vec<u8>,
-        kept: Kept,
-        certificate: Cert,
-        signature: SignatureFacts,
-        known_flags: FlagSet,
-    ) -> Vote
-        requires { facts.IsKept bytes.items kept.head certificate signature known_flags }
+    pub(crate) fn new(bytes: Vec<u8>, kept: Kept, values: HeadValues) -> Vote
+        requires { facts.IsKept bytes.items kept.head values }
         ensures { result ≡ facts.vote_in bytes.items kept }
     {
         Vote {
             bytes,
             kept,
-            certificate,
-            signature,
-            known_flags,
+            values,
         }
     }
 
@@ -138,7 +129,14 @@ impl Vote {
     pub fn known_flags(&self) -> &FlagSet
         ensures { result.now ≡ self.now.says.known_flags }
     {
-        &self.known_flags
+        &self.values.known_flags
+    }
+
+    /// The lists of versions, protocols and params, of those that the vote has.
+    pub fn lists(&self) -> &VoteLists
+        ensures { result.now ≡ self.now.says.lists }
+    {
+        &self.values.lists
     }
 
     /// The text of the `flag-thresholds` line, where there is one.
@@ -217,7 +215,7 @@ impl Vote {
     pub fn certificate(&self) -> &Cert
         ensures { result.now ≡ self.now.says.certificate }
     {
-        &self.certificate
+        &self.values.certificate
     }
 
     /// The certificate's bytes, from its first item through its last object.
@@ -232,6 +230,6 @@ impl Vote {
     pub fn signature(&self) -> &SignatureFacts
         ensures { result.now ≡ self.now.says.signature }
     {
-        &self.signature
+        &self.values.signature
     }
 }

@@ -7,13 +7,13 @@ use Rattle.std.specs.Prelude.{option_map, slice_get}
 use Rattle.frame_terms.specs.declared.document.Taken.{Taken}
 use Rattle.frame_values.specs.declared.found.Span.{Span}
 use Rattle.frame_values.specs.declared.values.Value.{Value}
-use Rattle.relay_entries.specs.declared.said.MicroLine.{MicroLine}
 use Rattle.vote_frame.specs.declared.frame.VoteValue.{VoteValue}
 use Rattle.vote_entries.specs.Entries.{entry_in}
 use Rattle.vote_entries.specs.Kept.{KeptEntry, entry_of}
 use Rattle.vote_entries.specs.Saying.{addresses_in, micros_in}
 use Rattle.vote_entries.specs.Rows.{AreWithin, LiesWithin, kept_in, kept_rows, row_of, run_of, whole_in}
 use Rattle.vote_entries.specs.declared.row.EntryRow.{EntryRow}
+use Rattle.vote_entries.specs.declared.row.KeptMicro.{KeptMicro}
 use Rattle.vote_entries.specs.declared.row.Run.{Run}
 
 -- the part that a run names stays where more follows
@@ -26,7 +26,7 @@ part_stays list more run lies =
     ∙ take-append-le (run.end - run.start) (drop run.start list) more few
 
 -- what is kept of entries stays where more addresses and `m` lines follow
-rows_stay : (addresses others : List Span) (micros more : List MicroLine) (rows : List EntryRow)
+rows_stay : (addresses others : List Span) (micros more : List KeptMicro) (rows : List EntryRow)
     → AreWithin (length addresses) (length micros) rows
     → kept_rows (addresses ++ others) (micros ++ more) rows ≡ kept_rows addresses micros rows
 rows_stay addresses others micros more [] lie = refl
@@ -47,7 +47,7 @@ part_behind list more run first last =
     ∙ take-length more
 
 -- an entry by its number
-pub entry_at : (bytes : List ℕ) (addresses : List Span) (micros : List MicroLine) (rows : List EntryRow) (i : ℕ) (row : EntryRow)
+pub entry_at : (bytes : List ℕ) (addresses : List Span) (micros : List KeptMicro) (rows : List EntryRow) (i : ℕ) (row : EntryRow)
     → slice_get rows i ≡ Some row
     → slice_get (map (entry_in bytes) (kept_rows addresses micros rows)) i ≡ Some (entry_in bytes (whole_in addresses micros row))
 entry_at bytes addresses micros rows i row found =
@@ -56,12 +56,12 @@ entry_at bytes addresses micros rows i row found =
     (slice_get-map (whole_in addresses micros) rows i ∙ ap (λ (one : Option EntryRow). option_map (whole_in addresses micros) one) found)
 
 -- there are as many rows as entries
-pub row_inside : (addresses : List Span) (micros : List MicroLine) (rows : List EntryRow) (i : ℕ)
+pub row_inside : (addresses : List Span) (micros : List KeptMicro) (rows : List EntryRow) (i : ℕ)
     → i < length (kept_rows addresses micros rows) → i < length rows
 row_inside addresses micros rows i inside = let same = length-map rows (whole_in addresses micros) in omega (arith, same, inside)
 
 -- one more row, and what it names behind the rest
-pub one_more_row : (addresses others : List Span) (micros more : List MicroLine) (rows : List EntryRow)
+pub one_more_row : (addresses others : List Span) (micros more : List KeptMicro) (rows : List EntryRow)
     (taken : List (Taken (Value VoteValue))) (a m : Run)
     → AreWithin (length addresses) (length micros) rows
     → others ≡ addresses_in taken → more ≡ micros_in taken

@@ -1,5 +1,5 @@
 -- The order of rows, and of the entries that they keep.
-use Rattle.std.proofs.Common.{◌≡◌, ℕ, zero, suc, ◌+◌, ◌<◌, Bool, true, false, ◌&&◌, List, [], ◌∷◌, ◌++◌, length, map, Some, refl, sym, ap, subst, ◌∙◌, arith}
+use Rattle.std.proofs.Common.{◌≡◌, ℕ, zero, suc, ◌+◌, Bool, true, false, ◌&&◌, List, [], ◌∷◌, ◌++◌, length, map, Some, refl, sym, ap, subst, ◌∙◌, arith}
 use Rattle.std.proofs.lemmas.List.Folds.{list_all-map}
 use Rattle.std.proofs.lemmas.List.Quantifiers.{all_pairs_push}
 use Rattle.std.proofs.lemmas.List.Sums.{AllPass-from_list_all}
@@ -10,7 +10,6 @@ use Rattle.dir_values.proofs.Orders.{AllPairs-cons, AllPairs-head, AllPairs-nil,
 use Rattle.dir_values.specs.Digests.{identity_below}
 use Rattle.dir_values.specs.declared.digest.Fingerprint.{Fingerprint}
 use Rattle.frame_values.specs.declared.found.Span.{Span}
-use Rattle.relay_entries.specs.declared.said.MicroLine.{MicroLine}
 use Rattle.vote_terms.proofs.Orders.{below_trans}
 use Rattle.vote_terms.specs.Entries.{Ascending}
 use Rattle.vote_terms.specs.declared.entry.EntryFacts.{EntryFacts}
@@ -18,6 +17,7 @@ use Rattle.vote_entries.specs.Entries.{entry_in}
 use Rattle.vote_entries.specs.Kept.{KeptEntry, is_after}
 use Rattle.vote_entries.specs.Rows.{Ascend, kept_rows, whole_in}
 use Rattle.vote_entries.specs.declared.row.EntryRow.{EntryRow}
+use Rattle.vote_entries.specs.declared.row.KeptMicro.{KeptMicro}
 
 -- a row comes before another
 abbrev RowBelow : EntryRow → EntryRow → Type 0
@@ -38,7 +38,7 @@ both true = refl
 both false = refl
 
 -- an identity comes after all entries where it comes after the last
-pub last_decides : (addresses : List Span) (micros : List MicroLine) (rows : List EntryRow) (i : ℕ) (row : EntryRow) (identity : Fingerprint)
+pub last_decides : (addresses : List Span) (micros : List KeptMicro) (rows : List EntryRow) (i : ℕ) (row : EntryRow) (identity : Fingerprint)
     → Ascend rows → length rows ≡ i + 1 → slice_get rows i ≡ Some row
     → identity_below row.relay.identity identity ≡ is_after (kept_rows addresses micros rows) identity
 last_decides addresses micros [] i row identity ascend count found = absurd (omega (arith, count))
@@ -57,7 +57,7 @@ last_decides addresses micros (first ∷ next ∷ rows) (suc i) row identity asc
     ∙ ap (λ (b : Bool). identity_below first.relay.identity identity && b) more
 
 -- rows ascend with one more behind them, whose identity comes after those of all
-pub and_one_ascends : (addresses : List Span) (micros : List MicroLine) (rows : List EntryRow) (row : EntryRow)
+pub and_one_ascends : (addresses : List Span) (micros : List KeptMicro) (rows : List EntryRow) (row : EntryRow)
     → Ascend rows → is_after (kept_rows addresses micros rows) row.relay.identity ≡ true → Ascend (rows ++ row ∷ [])
 and_one_ascends addresses micros rows row ascend after =
     let below : EntryRow → Bool = λ other. identity_below other.relay.identity row.relay.identity in
@@ -66,7 +66,7 @@ and_one_ascends addresses micros rows row ascend after =
     all_pairs_push RowBelow rows row ascend (λ k d inside. AllPass-from_list_all below rows each k d inside)
 
 -- what comes after an identity comes after it as an entry too
-heads : (bytes : List ℕ) (addresses : List Span) (micros : List MicroLine) (first : EntryRow) (rows : List EntryRow)
+heads : (bytes : List ℕ) (addresses : List Span) (micros : List KeptMicro) (first : EntryRow) (rows : List EntryRow)
     → All (λ (later : EntryRow). identity_below first.relay.identity later.relay.identity ≡ true) rows
     → All (λ (later : EntryFacts). identity_below first.relay.identity later.identity ≡ true) (map (entry_in bytes) (kept_rows addresses micros rows))
 heads bytes addresses micros first [] after k d inside = absurd (omega arith)
@@ -75,7 +75,7 @@ heads bytes addresses micros first (row ∷ rows) after (suc k) d inside =
     heads bytes addresses micros first rows (λ j e within. after (suc j) e (omega arith)) k d (omega arith)
 
 -- entries whose rows ascend do so too
-pub entries_ascend : (bytes : List ℕ) (addresses : List Span) (micros : List MicroLine) (rows : List EntryRow) → Ascend rows
+pub entries_ascend : (bytes : List ℕ) (addresses : List Span) (micros : List KeptMicro) (rows : List EntryRow) → Ascend rows
     → Ascending (map (entry_in bytes) (kept_rows addresses micros rows))
 entries_ascend bytes addresses micros [] ascend = AllPairs-nil EntryBelow
 entries_ascend bytes addresses micros (row ∷ rows) ascend =

@@ -10,9 +10,9 @@ use Rattle.frame_values.specs.declared.values.Value.{Value}
 use Rattle.frame_values.specs.Values.{item_at, text_if, text_in}
 use Rattle.relay_entries.specs.declared.said.Bandwidths.{Bandwidths}
 use Rattle.relay_entries.specs.declared.said.EdOpinion.{EdOpinion}
-use Rattle.relay_entries.specs.declared.said.MicroLine.{MicroLine}
 use Rattle.relay_entries.specs.declared.said.RelayLine.{RelayLine}
 use Rattle.vote_frame.specs.declared.frame.VoteValue.{VoteValue}
+use Rattle.vote_entries.specs.declared.row.KeptMicro.{KeptMicro}
 use Rattle.vote_entries.specs.Saying.{relay_in, addresses_in, bandwidths_in, micros_in, ed_in}
 
 -- what is kept of an entry: numbers, and where its texts stand
@@ -24,7 +24,7 @@ pub record KeptEntry : Type 0 where
   pub protocols : Option Span
   pub bandwidths : Option Bandwidths
   pub policy : Option Span
-  pub micros : List MicroLine
+  pub micros : List KeptMicro
   pub ed : EdOpinion
 
 -- what is kept of an entry with these items

@@ -7,9 +7,9 @@ use Rattle.frame_terms.specs.declared.keyword.Keyword.TheVariants.{R, S, V, Pr, 
 use Rattle.frame_values.specs.declared.found.Span.{Span}
 use Rattle.frame_values.specs.declared.values.Value.{Value}
 use Rattle.frame_values.specs.Values.{item_at, text_if, text_in}
-use Rattle.relay_entries.specs.declared.said.MicroLine.{MicroLine}
 use Rattle.vote_frame.specs.declared.frame.VoteValue.{VoteValue}
 use Rattle.vote_entries.specs.declared.row.EntryRow.{EntryRow}
+use Rattle.vote_entries.specs.declared.row.KeptMicro.{KeptMicro}
 use Rattle.vote_entries.specs.declared.row.Run.{Run}
 use Rattle.vote_entries.specs.Saying.{relay_in, bandwidths_in, ed_in}
 use Rattle.vote_entries.specs.Kept.{KeptEntry}
@@ -29,7 +29,7 @@ row_of taken addresses micros = record {
 }
 
 -- what is kept of an entry with this row, and with these addresses and `m` lines
-abbrev pub kept_in : EntryRow → List Span → List MicroLine → KeptEntry
+abbrev pub kept_in : EntryRow → List Span → List KeptMicro → KeptEntry
 kept_in row addresses micros = record {
   relay = row.relay;
   addresses = addresses;
@@ -47,11 +47,11 @@ abbrev pub run_of : {X : Type 0} → List X → Run → List X
 run_of list run = slice_range list run.start run.end
 
 -- what is kept of an entry with this row, among the addresses and `m` lines of all entries
-abbrev pub whole_in : List Span → List MicroLine → EntryRow → KeptEntry
+abbrev pub whole_in : List Span → List KeptMicro → EntryRow → KeptEntry
 whole_in addresses micros row = kept_in row (run_of addresses row.addresses) (run_of micros row.micros)
 
 -- what is kept of the entries with these rows
-abbrev pub kept_rows : List Span → List MicroLine → List EntryRow → List KeptEntry
+abbrev pub kept_rows : List Span → List KeptMicro → List EntryRow → List KeptEntry
 kept_rows addresses micros rows = map (whole_in addresses micros) rows
 
 -- ---- what rows keep to

@@ -1,19 +1,21 @@
 -- What the items of an entry of a vote say. Where an item is not there, or says something else, its value is nothing.
 use Rattle.std.specs.Prelude.{List, [], ◌∷◌, Option, Some, None, if◌then◌else◌}
+use Rattle.dir_values.specs.declared.digest.Digest2.{Digest2}
 use Rattle.frame_terms.specs.declared.document.Taken.{Taken}
 use Rattle.frame_terms.specs.declared.keyword.Keyword.TheVariants.{A}
 use Rattle.frame_terms.specs.Keywords.{same}
 use Rattle.frame_values.specs.declared.found.Span.{Span}
 use Rattle.frame_values.specs.declared.values.Value.{Value}
-use Rattle.frame_values.specs.Values.{no_digest, nowhere, own_in, own_of_value, text_of_value}
+use Rattle.frame_values.specs.declared.values.Value.TheVariants as value
+use Rattle.frame_values.specs.Values.{no_digest, nowhere, own_in, text_of_value}
 use Rattle.relay_entries.specs.declared.said.Bandwidths.{Bandwidths as BandwidthsSaid}
 use Rattle.relay_entries.specs.declared.said.EdOpinion.{EdOpinion}
 use Rattle.relay_entries.specs.declared.said.EdOpinion.TheVariants as opinion
 use Rattle.relay_entries.specs.declared.said.EntryValue.TheVariants.{Relay, Bandwidths, Micro, Ed}
-use Rattle.relay_entries.specs.declared.said.MicroLine.{MicroLine}
 use Rattle.relay_entries.specs.declared.said.RelayLine.{RelayLine}
 use Rattle.vote_frame.specs.declared.frame.VoteValue.{VoteValue}
 use Rattle.vote_frame.specs.declared.frame.VoteValue.TheVariants.{Entry}
+use Rattle.vote_entries.specs.declared.row.KeptMicro.{KeptMicro}
 
 -- a relay of which nothing is known
 abbrev pub no_relay : RelayLine
@@ -70,12 +72,17 @@ abbrev pub addresses_in : List (Taken (Value VoteValue)) → List Span
 addresses_in [] = []
 addresses_in (one ∷ taken) = onto_if (address_if one) (addresses_in taken)
 
--- the `m` line that a value is, if it is one
-abbrev pub micro_of_value : Option VoteValue → Option MicroLine
-micro_of_value (Some (Entry (Micro line))) = Some line
-micro_of_value _ = None
+-- what is kept of an `m` line with these methods, if it gives a digest: one of other algorithms alone has no say
+abbrev pub micro_with : Span → Option Digest2 → Option KeptMicro
+micro_with methods None = None
+micro_with methods (Some digest) = Some (record { methods = methods; digest = digest })
 
--- the `m` lines of all items
-abbrev pub micros_in : List (Taken (Value VoteValue)) → List MicroLine
+-- what is kept of a value, if it is such a line
+abbrev pub micro_if : Value VoteValue → Option KeptMicro
+micro_if (value.Own (Entry (Micro line))) = micro_with line.methods line.digest
+micro_if _ = None
+
+-- what is kept of all such items
+abbrev pub micros_in : List (Taken (Value VoteValue)) → List KeptMicro
 micros_in [] = []
-micros_in (one ∷ taken) = onto_if (micro_of_value (own_of_value one.value)) (micros_in taken)
+micros_in (one ∷ taken) = onto_if (micro_if one.value) (micros_in taken)

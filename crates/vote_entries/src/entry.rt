@@ -1,7 +1,6 @@
 // An entry of a vote.
 ghost use Rattle.std.specs.Prelude.{◌≡◌, ◌≤◌, ◌<◌, ◌^◌, length, map, nat_eq, option_map};
 ghost use Rattle.std.specs.List.{find, list_any};
-ghost use Rattle.std.specs.Option.{option_and_then};
 ghost use Rattle.dir_bytes.specs.Causes.{last_moment};
 ghost use Rattle.dir_values.specs.FlagSets.{as_set};
 ghost use Rattle.item_terms.specs.Words.{words_of};
@@ -12,10 +11,10 @@ ghost use Rattle.vote_entries.specs.Entries.{entry_in, micro_in};
 ghost use Rattle.vote_entries.specs.Rows.{kept_in};
 
 use crate::facts::number_in;
-use crate::row::EntryRow;
+use crate::row::{EntryRow, KeptMicro};
 use dir_values::{Digest1, Digest2, Fingerprint};
 use frame_values::{Span, moment, part, part_if};
-use relay_entries::{EdOpinion, MicroLine, Parts};
+use relay_entries::{EdOpinion, Parts};
 use std::marker::Model;
 
 /// An entry of a vote, borrowed from it: its texts are slices of the vote's bytes.
@@ -24,7 +23,7 @@ pub struct Entry<'a> {
     pub(crate) bytes: &'a [u8],
     pub(crate) row: &'a EntryRow,
     pub(crate) addresses: &'a [Span],
-    pub(crate) micros: &'a [MicroLine],
+    pub(crate) micros: &'a [KeptMicro],
 }
 
 impl<'a> Model for Entry<'a> {
@@ -46,7 +45,7 @@ impl<'a> Entry<'a> {
         bytes: &'a [u8],
         row: &'a EntryRow,
         addresses: &'a [Span],
-        micros: &'a [MicroLine],
+        micros: &'a [KeptMicro],
     ) -> Entry<'a>
         requires { length bytes.now < 2 ^ 62 }
         ensures { result ≡ entry_in bytes.now (kept_in row.now addresses.now micros.now) }
@@ -184,22 +183,22 @@ impl<'a> Entry<'a> {
 }
 
 /// The digest of the first of these lines that gives one for a method.
-fn micro_for(bytes: &[u8], micros: &[MicroLine], method: u32) -> Option<Digest2>
-    ensures { result ≡ option_and_then (λ (line : MicroFacts). line.digest) (find (entries.gives method) (map (micro_in bytes.now) micros.now)) }
+fn micro_for(bytes: &[u8], micros: &[KeptMicro], method: u32) -> Option<Digest2>
+    ensures { result ≡ option_map (λ (line : MicroFacts). line.digest) (find (entries.gives method) (map (micro_in bytes.now) micros.now)) }
 {
     for line in micros {
         if gives(bytes, line, method) {
-            return line.digest;
+            return Some(line.digest);
         }
     }
     None
 }
 
-/// Whether a line gives a digest for a method.
-fn gives(bytes: &[u8], line: &MicroLine, method: u32) -> bool
+/// Whether a line gives its digest for a method.
+fn gives(bytes: &[u8], line: &KeptMicro, method: u32) -> bool
     ensures { result ≡ entries.gives method (micro_in bytes.now line.now) }
 {
-    line.digest.is_some() && lists(method, part(bytes, line.methods))
+    lists(method, part(bytes, line.methods))
 }
 
 /// Whether a text of numbers with commas between them lists this one.

@@ -8,11 +8,12 @@ ghost use Rattle.relay_entries.specs.Fields.{methods_in};
 ghost use Rattle.vote_entries.specs.Entries.{entry_in, micro_in};
 
 use crate::entry::Entry;
+use crate::row::KeptMicro;
 use crate::rows::Rows;
 use dir_bytes::{Memory, Seq, Text};
 use dir_values::{FlagSet, number_of};
 use frame_values::{Span, copy_part, copy_part_if, part};
-use relay_entries::{MicroLine, Parts};
+use relay_entries::Parts;
 use std::alloc::Global;
 use vote_terms::{EntryFacts, MicroFacts};
 
@@ -63,7 +64,7 @@ fn texts_of(alloc: Global, bytes: &[u8], spans: &[Span]) -> Result<Seq<Text>, Me
 }
 
 /// What these `m` lines say.
-fn micros_of(alloc: Global, bytes: &[u8], lines: &[MicroLine]) -> Result<Seq<MicroFacts>, Memory>
+fn micros_of(alloc: Global, bytes: &[u8], lines: &[KeptMicro]) -> Result<Seq<MicroFacts>, Memory>
     ensures { IfOk result (λ micros. micros ≡ map (micro_in bytes.now) lines.now) }
 {
     let mut micros = Vec::with_capacity(alloc, lines.len())?;

@@ -12,5 +12,5 @@ mod said;
 pub use counting::count_entries;
 pub use entry::Entry;
 pub use facts::set_of;
-pub use row::{EntryRow, Run};
+pub use row::{EntryRow, KeptMicro, Run};
 pub use rows::Rows;

@@ -3,6 +3,7 @@ ghost use Rattle.std.specs.Prelude.{◌≡◌, slice_range};
 ghost use Rattle.vote_entries.specs.Rows as rows;
 
 use crate::said::{bandwidths_at, ed_at, relay_at};
+use dir_values::Digest2;
 use frame_terms::{Keyword, Taken};
 use frame_values::{Span, Value, text_at, text_if};
 use relay_entries::{Bandwidths, EdOpinion, RelayLine};
@@ -15,6 +16,15 @@ pub struct Run {
     pub start: usize,
     /// Where what follows begins.
     pub end: usize,
+}
+
+/// What is kept of an `m` line that gives a SHA-256.
+#[derive(Clone, Copy, Debug)]
+pub struct KeptMicro {
+    /// The consensus methods, with commas between them.
+    pub methods: Span,
+    /// The SHA-256 of the microdescriptor that is made under them.
+    pub digest: Digest2,
 }
 
 /// What is kept of an entry: numbers, and where its texts stand in the vote's bytes.
@@ -34,7 +44,7 @@ pub struct EntryRow {
     pub bandwidths: Option<Bandwidths>,
     /// The ports that it lets out.
     pub policy: Option<Span>,
-    /// Its `m` lines, among those of all entries.
+    /// Its `m` lines that give a SHA-256, among those of all entries.
     pub micros: Run,
     /// Its Ed25519 identity.
     pub ed: EdOpinion,

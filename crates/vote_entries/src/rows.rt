@@ -5,12 +5,11 @@ ghost use Rattle.vote_entries.specs.Entries.{entry_in};
 ghost use Rattle.vote_entries.specs.Kept as kept;
 
 use crate::entry::Entry;
-use crate::row::{EntryRow, Run, row_of, run_of};
+use crate::row::{EntryRow, KeptMicro, Run, row_of, run_of};
 use crate::said::{push_addresses, push_micros, relay_at};
 use dir_values::Fingerprint;
 use frame_terms::Taken;
 use frame_values::{Span, Value};
-use relay_entries::MicroLine;
 use std::alloc::{AllocError, Global};
 use std::marker::Model;
 use vote_frame::VoteValue;
@@ -20,7 +19,7 @@ use vote_frame::VoteValue;
 pub struct Rows {
     rows: Vec<EntryRow>,
     addresses: Vec<Span>,
-    micros: Vec<MicroLine>,
+    micros: Vec<KeptMicro>,
 }
 
 impl Model for Rows {

@@ -3,6 +3,7 @@ ghost use Rattle.std.specs.Prelude.{◌≡◌, ◌≤◌, ◌++◌, length, OnOk
 ghost use Rattle.frame_values.specs.Values.{item_at};
 ghost use Rattle.vote_entries.specs.Saying as saying;
 
+use crate::row::KeptMicro;
 use dir_values::{Digest1, Fingerprint};
 use frame_terms::{Keyword, Taken};
 use frame_values::{Span, Value, nowhere, own_at};
@@ -87,19 +88,39 @@ pub fn push_addresses(
     Ok(())
 }
 
-/// Appends what all `m` lines say.
+/// What is kept of an `m` line, if it gives a SHA-256.
+fn kept_micro(line: MicroLine) -> Option<KeptMicro>
+    ensures { result ≡ saying.micro_with line.methods line.digest }
+{
+    Some(KeptMicro {
+        methods: line.methods,
+        digest: line.digest?,
+    })
+}
+
+/// What is kept of a value, if it is such a line.
+fn micro_if(value: Value<VoteValue>) -> Option<KeptMicro>
+    ensures { result ≡ saying.micro_if value }
+{
+    match value {
+        Value::Own(VoteValue::Entry(EntryValue::Micro(line))) => kept_micro(line),
+        _ => None,
+    }
+}
+
+/// Appends what is kept of all `m` lines that give a SHA-256.
 ///
 /// # Errors
 /// There was no memory.
 pub fn push_micros(
-    out: &mut Vec<MicroLine>,
+    out: &mut Vec<KeptMicro>,
     taken: &[Taken<Value<VoteValue>>],
 ) -> Result<(), AllocError>
     ensures ok { OnOk result (out.new.items ≡ out.old.items ++ saying.micros_in taken.now) }
     ensures grown { length out.old.items ≤ length out.new.items }
 {
     for one in taken {
-        if let Value::Own(VoteValue::Entry(EntryValue::Micro(line))) = one.value {
+        if let Some(line) = micro_if(one.value) {
             out.push(line)?;
         }
     }

@@ -1,6 +1,5 @@
 -- The sections of a vote, their items, and what these say (dir-spec, "Vote and consensus status document formats").
 use Rattle.std.specs.Prelude.{ℕ, Bool, false, List, [], ◌∷◌, Some, None, Result, Ok, codes}
-use Rattle.std.specs.List.{list_any}
 use Rattle.item_terms.specs.Items.{Item}
 use Rattle.frame_terms.specs.declared.fault.FrameFault.{FrameFault}
 use Rattle.frame_terms.specs.declared.keyword.Keyword.{Keyword}
@@ -10,7 +9,6 @@ use Rattle.frame_terms.specs.declared.row.Limit.TheVariants as limit
 use Rattle.frame_terms.specs.declared.row.Row.{Row}
 use Rattle.frame_terms.specs.declared.section.Again.TheVariants as again
 use Rattle.frame_terms.specs.declared.section.Shape.{Shape}
-use Rattle.frame_terms.specs.Keywords.{same}
 use Rattle.frame_terms.specs.Rows.{row}
 use Rattle.frame_terms.specs.Tables.{Tables}
 use Rattle.frame_values.specs.declared.values.Value.{Value}
@@ -19,6 +17,7 @@ use Rattle.frame_values.specs.Faults.{at_place, too_many, unless_fault}
 use Rattle.frame_values.specs.Arguments.{next}
 use Rattle.frame_values.specs.Lines.{literal, numbers_of, time_of, delays_of, flags_of, rest_of, source_of}
 use Rattle.frame_values.specs.Signatures.{signature_of}
+use Rattle.list_lines.specs.Lines.{params_of, protocols_of, versions_of}
 use Rattle.authority_certs.specs.Tables.{cert_rows, cert_shape, cert_value}
 use Rattle.relay_entries.specs.declared.listed.Listed.{Listed}
 use Rattle.relay_entries.specs.Lines.{entry_value, is_ignored, lifted}
@@ -26,6 +25,7 @@ use Rattle.relay_entries.specs.Listing.{none_listed, too_many_entries, note_entr
 use Rattle.relay_entries.specs.Tables.{entry_rows, entry_shape}
 use Rattle.vote_frame.specs.declared.frame.VoteKind.{VoteKind}
 use Rattle.vote_frame.specs.declared.frame.VoteKind.TheVariants.{Version, Status, Methods, Time, Delays, KnownFlags}
+use Rattle.vote_frame.specs.declared.frame.VoteKind.TheVariants.{Versions, Protocols, Params}
 use Rattle.vote_frame.specs.declared.frame.VoteKind.TheVariants.{Rest, Source, Nothing, Signature, Certificate, Entry}
 use Rattle.vote_frame.specs.declared.frame.VoteSection.{VoteSection}
 use Rattle.vote_frame.specs.declared.frame.VoteSection.TheVariants.{Preamble, Authority, Footer}
@@ -45,15 +45,15 @@ rows Preamble =
     ∷ row the.FreshUntil One Time
     ∷ row the.ValidUntil One Time
     ∷ row the.VotingDelay One Delays
-    ∷ row the.ClientVersions Optional Rest
-    ∷ row the.ServerVersions Optional Rest
+    ∷ row the.ClientVersions Optional Versions
+    ∷ row the.ServerVersions Optional Versions
     ∷ row the.KnownFlags One KnownFlags
     ∷ row the.FlagThresholds Optional Rest
-    ∷ row the.RecommendedClientProtocols Optional Rest
-    ∷ row the.RecommendedRelayProtocols Optional Rest
-    ∷ row the.RequiredClientProtocols Optional Rest
-    ∷ row the.RequiredRelayProtocols Optional Rest
-    ∷ row the.Params Optional Rest
+    ∷ row the.RecommendedClientProtocols Optional Protocols
+    ∷ row the.RecommendedRelayProtocols Optional Protocols
+    ∷ row the.RequiredClientProtocols Optional Protocols
+    ∷ row the.RequiredRelayProtocols Optional Protocols
+    ∷ row the.Params Optional Params
     ∷ []
 rows Authority =
     row the.DirSource One Source
@@ -79,12 +79,6 @@ shape CertificateSection = cert_shape
 shape EntrySection = entry_shape
 shape Footer = record (plain the.DirectoryFooter) { last = Some the.DirectorySignature }
 
--- the keywords of items that are not built yet
-abbrev pub not_built : List Keyword
-not_built =
-    the.W ∷ the.ClientVersions ∷ the.ServerVersions ∷ the.RecommendedClientProtocols
-    ∷ the.RecommendedRelayProtocols ∷ the.RequiredClientProtocols ∷ the.RequiredRelayProtocols ∷ the.Params ∷ []
-
 -- what an item says, or the place of what is wrong
 abbrev pub value_at : VoteKind → Item → Result (Value VoteValue) ℕ
 value_at Version item = next (literal (codes "3") item) (λ _. Ok value.Nothing)
@@ -93,6 +87,9 @@ value_at Methods item = next (numbers_of item) (λ text. Ok (value.Text text))
 value_at Time item = next (time_of item) (λ number. Ok (value.Number number))
 value_at Delays item = next (delays_of item) (λ delays. Ok (value.Own (own.Delays delays.0 delays.1)))
 value_at KnownFlags item = next (flags_of item) (λ text. Ok (value.Text text))
+value_at Versions item = next (versions_of item) (λ text. Ok (value.Text text))
+value_at Protocols item = next (protocols_of item) (λ text. Ok (value.Text text))
+value_at Params item = next (params_of item) (λ text. Ok (value.Text text))
 value_at Rest item = Ok (value.Text (rest_of item))
 value_at Source item = next (source_of item) (λ source. Ok (value.Own (own.Source source)))
 value_at Nothing item = Ok value.Nothing
@@ -104,6 +101,7 @@ value_at (Entry kind) item = next (entry_value kind item) (λ said. Ok (lifted o
 abbrev pub over_limit : Listed → VoteKind → Item → Result (Unit {0}) FrameFault
 over_limit listed Methods item = too_many limit.Methods item
 over_limit listed KnownFlags item = too_many limit.KnownFlags item
+over_limit listed Params item = too_many limit.Params item
 over_limit listed (Entry kind) item = too_many_entries listed kind item
 over_limit listed _ item = Ok tt
 
@@ -124,7 +122,6 @@ vote_tables = record {
   sections = Preamble ∷ Authority ∷ EntrySection ∷ Footer ∷ [];
   shape = shape;
   rows = rows;
-  is_not_built = λ keyword. list_any (λ other. same other keyword) not_built;
   ignores = ignores;
   value_of = λ listed kind item. unless_fault (over_limit listed kind item) (at_place (value_at kind item));
   start = none_listed;

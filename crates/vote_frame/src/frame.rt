@@ -47,6 +47,12 @@ pub enum VoteKind {
     Delays,
     /// Flags, at most 64, none of them twice.
     KnownFlags,
+    /// Versions of Tor, with commas between them.
+    Versions,
+    /// Versions of protocols.
+    Protocols,
+    /// Params, at most 1,024, none of them twice.
+    Params,
     /// The rest of the line as it stands, which is read no further.
     Rest,
     /// Who the authority is.
@@ -94,15 +100,15 @@ const PREAMBLE: [Row<VoteKind>; 17] = [
     row!(FreshUntil, One, VoteKind::Time),
     row!(ValidUntil, One, VoteKind::Time),
     row!(VotingDelay, One, VoteKind::Delays),
-    row!(ClientVersions, Optional, VoteKind::Rest),
-    row!(ServerVersions, Optional, VoteKind::Rest),
+    row!(ClientVersions, Optional, VoteKind::Versions),
+    row!(ServerVersions, Optional, VoteKind::Versions),
     row!(KnownFlags, One, VoteKind::KnownFlags),
     row!(FlagThresholds, Optional, VoteKind::Rest),
-    row!(RecommendedClientProtocols, Optional, VoteKind::Rest),
-    row!(RecommendedRelayProtocols, Optional, VoteKind::Rest),
-    row!(RequiredClientProtocols, Optional, VoteKind::Rest),
-    row!(RequiredRelayProtocols, Optional, VoteKind::Rest),
-    row!(Params, Optional, VoteKind::Rest),
+    row!(RecommendedClientProtocols, Optional, VoteKind::Protocols),
+    row!(RecommendedRelayProtocols, Optional, VoteKind::Protocols),
+    row!(RequiredClientProtocols, Optional, VoteKind::Protocols),
+    row!(RequiredRelayProtocols, Optional, VoteKind::Protocols),
+    row!(Params, Optional, VoteKind::Params),
 ];
 
 const AUTHORITY: [Row<VoteKind>; 3] = [
@@ -125,17 +131,6 @@ const SECTIONS: [VoteSection; 4] = [
     VoteSection::Authority,
     VoteSection::Entry,
     VoteSection::Footer,
-];
-
-const NOT_BUILT: [Keyword; 8] = [
-    Keyword::W,
-    Keyword::ClientVersions,
-    Keyword::ServerVersions,
-    Keyword::RecommendedClientProtocols,
-    Keyword::RecommendedRelayProtocols,
-    Keyword::RequiredClientProtocols,
-    Keyword::RequiredRelayProtocols,
-    Keyword::Params,
 ];
 
 /// A section that stands once, and ends where another begins.
@@ -194,10 +189,6 @@ impl Frame for VoteFrame {
             VoteSection::Entry => &ENTRY,
             VoteSection::Footer => &FOOTER,
         }
-    }
-
-    fn is_not_built(self, keyword: Keyword) -> bool {
-        NOT_BUILT.iter().any(|other| other.same(keyword))
     }
 
     fn ignores(self, kind: VoteKind, item: &Item<'_>) -> bool {

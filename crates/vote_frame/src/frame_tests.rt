@@ -130,11 +130,6 @@ fn items(rt: HostRuntime) {
         read_pieces(alloc, &twice),
         fault(344, FrameReason::Twice(Keyword::Contact))
     );
-    let not_built: [&[u8]; 4] = [HEAD, PUBLISHED, TIMES, b"params\n"];
-    assert_eq!(rt;
-        read_pieces(alloc, &not_built),
-        fault(236, FrameReason::NotBuilt(Keyword::Params))
-    );
     let date: [&[u8]; 3] = [HEAD, PUBLISHED, b"valid-after 2026-02-30 00:00:00\n"];
     assert_eq!(rt; read_pieces(alloc, &date), fault(105, FrameReason::Value));
     let no_time: [&[u8]; 3] = [HEAD, PUBLISHED, b"valid-after 2026-01-01\n"];

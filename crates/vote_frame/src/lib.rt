@@ -11,3 +11,5 @@ pub use frame::{VoteFrame, VoteKind, VoteSection, VoteValue};
 mod entry_tests;
 #[cfg(test)]
 mod frame_tests;
+#[cfg(test)]
+mod list_tests;

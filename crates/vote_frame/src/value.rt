@@ -17,6 +17,7 @@ use frame_values::{
     Value, at_place, delays_of, literal, numbers_of, rest_of, signature_of, source_of, time_of,
     too_many,
 };
+use list_lines::{params_of, protocols_of, versions_of};
 use relay_entries::{EntryValue, Listed, entry_value, flags_of, note_entry, too_many_entries};
 
 /// What an item of an entry says, as a vote does.
@@ -65,6 +66,9 @@ pub(crate) fn value_at(
             Ok(Value::Own(VoteValue::Delays(vote, distribution)))
         }
         VoteKind::KnownFlags => Ok(Value::Text(flags_of(listed.keys.alloc(), item)?)),
+        VoteKind::Versions => Ok(Value::Text(at(versions_of(item))?)),
+        VoteKind::Protocols => Ok(Value::Text(at(protocols_of(item))?)),
+        VoteKind::Params => Ok(Value::Text(params_of(listed.keys.alloc(), item)?)),
         VoteKind::Rest => Ok(Value::Text(rest_of(item))),
         VoteKind::Source => Ok(Value::Own(VoteValue::Source(at(source_of(item))?))),
         VoteKind::Nothing => Ok(Value::Nothing),
@@ -82,6 +86,7 @@ pub(crate) fn over_limit(listed: &Listed, kind: VoteKind, item: &Item<'_>) -> Re
     match kind {
         VoteKind::Methods => too_many(Limit::Methods, item),
         VoteKind::KnownFlags => too_many(Limit::KnownFlags, item),
+        VoteKind::Params => too_many(Limit::Params, item),
         VoteKind::Entry(kind) => too_many_entries(listed, kind, item),
         _ => Ok(()),
     }

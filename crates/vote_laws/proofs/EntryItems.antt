@@ -1,10 +1,8 @@
 -- Each item of an entry that is written says what its row asks for.
 use Rattle.std.proofs.Common.{◌≡◌, ℕ, ◌<◌, Bool, true, List, Option, Some, None, Result, Ok, Err, refl, ap}
 use Rattle.std.proofs.Common.{◌∙◌, arith}
-use Rattle.std.specs.Prelude.{IfSome, is_some, nat_lt, if◌then◌else◌}
-use Rattle.std.proofs.lemmas.Bool.{false≢true}
+use Rattle.std.specs.Prelude.{nat_lt, if◌then◌else◌}
 use Rattle.dir_values.specs.FlagSets.{set_text}
-use Rattle.dir_values.specs.declared.digest.Digest2.{Digest2}
 use Rattle.dirdoc_grammar.specs.Writing.{written}
 use Rattle.frame_terms.specs.Rows.{row}
 use Rattle.frame_terms.specs.declared.fault.FrameFault.{FrameFault}
@@ -15,17 +13,15 @@ use Rattle.frame_terms.specs.declared.row.Count.TheVariants.{Many, One, Optional
 use Rattle.frame_terms.specs.declared.row.Limit.TheVariants.{Entries}
 use Rattle.frame_values.specs.Arguments.{next}
 use Rattle.frame_values.specs.Faults.{at_place, unless_fault}
-use Rattle.frame_values.specs.Fields.{span}
-use Rattle.frame_values.specs.Items.{bare}
 use Rattle.frame_values.specs.declared.found.Span.{Span}
 use Rattle.frame_values.specs.declared.values.Value.{Value}
 use Rattle.frame_values.specs.declared.values.Value.TheVariants as value
 use Rattle.frame_laws.proofs.Entries.{Suits, item_of}
 use Rattle.frame_laws.proofs.RowValues.{own_entry, text_entry}
 use Rattle.frame_laws.proofs.WrittenItems.{start_of}
-use Rattle.relay_entries.specs.Lines.{lifted, micro_of}
+use Rattle.relay_entries.specs.Lines.{lifted}
 use Rattle.relay_entries.specs.Listing.{fault_at}
-use Rattle.relay_entries.specs.Texts.{bandwidths_text, ed_text, methods_text, micro_text}
+use Rattle.relay_entries.specs.Texts.{bandwidths_text, ed_text}
 use Rattle.relay_entries.specs.declared.listed.Listed.{Listed}
 use Rattle.relay_entries.specs.declared.said.Bandwidths.{Bandwidths}
 use Rattle.relay_entries.specs.declared.said.EdOpinion.{EdOpinion}
@@ -34,9 +30,8 @@ use Rattle.relay_entries.specs.declared.said.EntryValue.{EntryValue}
 use Rattle.relay_entries.specs.declared.said.EntryValue.TheVariants as said
 use Rattle.relay_entries.specs.declared.said.MicroLine.{MicroLine}
 use Rattle.relay_entries.specs.declared.said.RelayLine.{RelayLine}
-use Rattle.entry_laws.specs.Again.{relay_at}
-use Rattle.entry_laws.specs.Ranges.{AreBandwidthsInRange, AreMethodsInRange, AreThirtyTwo, IsAddressInRange}
-use Rattle.entry_laws.specs.Ranges.{IsOpinionInRange}
+use Rattle.entry_laws.specs.Again.{micro_at, relay_at}
+use Rattle.entry_laws.specs.Ranges.{AreBandwidthsInRange, IsAddressInRange, IsOpinionInRange}
 use Rattle.entry_laws.proofs.WrittenAddresses.{address_again}
 use Rattle.entry_laws.proofs.WrittenBandwidths.{bandwidth_again}
 use Rattle.entry_laws.proofs.WrittenKeys.{key_again}
@@ -136,29 +131,18 @@ suits_bandwidths w are =
 -- ---- microdescriptors
 
 abbrev pub micro_said : ℕ → MicroFacts → MicroLine
-micro_said start line = record { methods = span start (methods_text line.methods); digest = line.digest }
+micro_said start line = micro_at start line.methods line.digest
 
 abbrev pub micro_entry : MicroFacts → VoteEntry
 micro_entry line =
     entry_own the.M (micro_line line) (λ p. said.Micro (micro_said (start_of p the.M (micro_line line)) line))
-
--- what is read of methods and a digest
-micro_read : (p : ℕ) (methods : List ℕ) (digest : Option Digest2) → AreMethodsInRange methods → is_some digest ≡ true
-    → IfSome digest (λ d. AreThirtyTwo d.0)
-    → micro_of (written p (bare the.M (micro_text methods digest)))
-    ≡ Ok (record {
-      methods = span (start_of p the.M (micro_text methods digest)) (methods_text methods);
-      digest = digest;
-    })
-micro_read p methods None are some is = absurd (false≢true some)
-micro_read p methods (Some digest) are some is = (micro_again p the.M methods digest are is).0
 
 pub suits_micro : (line : MicroFacts) → IsMicroInRange line
     → SuitsVote (row the.M Many (kind.Entry entry.Micro)) (micro_entry line)
 suits_micro line are =
     suits the.M Many (kind.Entry entry.Micro) (micro_entry line) refl (λ p. refl) (λ listed p. refl)
     (λ p. ap (says (λ (found : MicroLine). value.Own (said.Micro found)))
-    (micro_read p line.methods line.digest are.methods are.some are.digest))
+    (micro_again p the.M line.methods line.digest are.methods are.digest).0)
 
 -- ---- the Ed25519 identity
 

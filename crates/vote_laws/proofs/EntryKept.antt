@@ -25,7 +25,6 @@ use Rattle.frame_laws.proofs.SaidRows.{entries_of}
 use Rattle.frame_laws.proofs.Sections.{end_of, entries_in, second_place, section_is_read, taken_in}
 use Rattle.frame_laws.proofs.StandingParts.{once, rest_part}
 use Rattle.relay_entries.specs.Texts.{ed_text}
-use Rattle.relay_entries.specs.declared.said.MicroLine.{MicroLine}
 use Rattle.vote_terms.specs.Entries.{Ascending}
 use Rattle.vote_terms.specs.declared.entry.EntryFacts.{EntryFacts}
 use Rattle.vote_frame.specs.Tables.{vote_tables}
@@ -34,6 +33,7 @@ use Rattle.vote_frame.specs.declared.frame.VoteValue.{VoteValue}
 use Rattle.vote_entries.specs.Entries.{entry_in, micro_in}
 use Rattle.vote_entries.specs.Kept.{KeptEntry, entry_of, is_after}
 use Rattle.vote_entries.specs.Saying.{micros_in, relay_in}
+use Rattle.vote_entries.specs.declared.row.KeptMicro.{KeptMicro}
 use Rattle.vote_doc.specs.Kept.{kept_with}
 use Rattle.vote_doc.specs.declared.kept.Kept.{Kept}
 use Rattle.vote_laws.specs.Again.{IsEntryInRange}
@@ -73,9 +73,9 @@ micros_of place e are =
     ap (λ (l : List VoteTaken). micros_in (first ∷ l))
     (ap (all_taken second) (sym (entry_parts e)) ∙ taken_parts second front lines keys)
     ∙ micros_in-append before (found ++ after)
-    ∙ ap (λ (l : List MicroLine). l ++ micros_in (found ++ after)) (quiet_none second front quiet)
+    ∙ ap (λ (l : List KeptMicro). l ++ micros_in (found ++ after)) (quiet_none second front quiet)
     ∙ micros_in-append found after
-    ∙ ap (λ (l : List MicroLine). micros_in found ++ l) (ed_none (after_all next lines) e.ed (ed_text e.ed))
+    ∙ ap (λ (l : List KeptMicro). micros_in found ++ l) (ed_none (after_all next lines) e.ed (ed_text e.ed))
     ∙ append-nil (micros_in found)
 
 micros_said : (limit : ℕ) (bytes : List ℕ) (place : ℕ) (e : EntryFacts) → IsEntryInRange e

@@ -19,7 +19,6 @@ use Rattle.frame_laws.proofs.RowCounts.{entries_of-append, said_none, said_once}
 use Rattle.frame_laws.proofs.RowValues.{row_if, said_any_if, text_entry}
 use Rattle.frame_laws.proofs.SaidRows.{AreSaid, IsSaid, entries_of, row_once}
 use Rattle.frame_laws.proofs.Sections.{IsWritten}
-use Rattle.frame_laws.proofs.TableRows.{are_plain}
 use Rattle.relay_entries.specs.Texts.{ed_text}
 use Rattle.relay_entries.specs.declared.said.Bandwidths.{Bandwidths}
 use Rattle.relay_entries.specs.declared.said.EdOpinion.{EdOpinion}
@@ -39,6 +38,7 @@ use Rattle.vote_laws.specs.Again.{IsEntryInRange, IsMicroInRange}
 use Rattle.vote_laws.proofs.EntryItems.{bandwidths_entry, ed_entry, micro_entry, relay_entry, suits_address}
 use Rattle.vote_laws.proofs.EntryItems.{suits_bandwidths, suits_ed, suits_entry_flags, suits_entry_rest, suits_micro}
 use Rattle.vote_laws.proofs.VoteItems.{VoteEntry, VotePart, VoteRow}
+use Rattle.vote_laws.proofs.VoteLists.{both_said}
 
 -- ---- rows
 
@@ -75,18 +75,15 @@ abbrev pub micro_row : List MicroFacts → VoteRow
 micro_row lines = row_of_each (row the.M Many (entry_kind entry.Micro)) micro_entry lines
 
 -- the rows before its microdescriptors
-abbrev pub front_with : Option Bandwidths → EntryFacts → List VoteRow
-front_with bandwidths e =
+abbrev pub front_rows : EntryFacts → List VoteRow
+front_rows e =
     row_of_each (row the.A Many (entry_kind entry.Address)) (text_entry the.A) e.addresses
     ∷ row_once (row the.S One (entry_kind entry.Flags)) (text_entry the.S (set_text e.flags))
     ∷ entry_rest the.V e.version
     ∷ entry_rest the.Pr e.protocols
-    ∷ bandwidths_row bandwidths
+    ∷ bandwidths_row e.bandwidths
     ∷ entry_rest the.P e.policy
     ∷ []
-
-abbrev pub front_rows : EntryFacts → List VoteRow
-front_rows e = front_with e.bandwidths e
 
 -- its microdescriptors and its Ed25519 identity
 abbrev pub last_rows : EntryFacts → List VoteRow
@@ -114,11 +111,6 @@ said_bandwidths (Some w) are =
     said_once vote_tables (row the.W Optional (entry_kind entry.Bandwidths)) (bandwidths_entry w)
     (suits_bandwidths w are)
 
--- where nothing is said of bandwidths, that is in range
-none_in_range : (said : Option Bandwidths) → said ≡ None → IfSome said AreBandwidthsInRange
-none_in_range None is = tt
-none_in_range (Some w) is = absurd cc
-
 said_ed_if : (opinion : EdOpinion) (text : Option (List ℕ)) → ed_text opinion ≡ text → IsOpinionInRange opinion
     → IsSaid vote_tables
     (record { row = row the.Id Optional (entry_kind entry.Ed); entries = ed_if opinion text })
@@ -134,13 +126,8 @@ front_said e are =
     (both (said_once vote_tables _ _ (suits_entry_flags e.flags are.flags))
     (both (said_rest the.V e.version)
     (both (said_rest the.Pr e.protocols)
-    (both (said_bandwidths e.bandwidths (none_in_range e.bandwidths are.bandwidths))
+    (both (said_bandwidths e.bandwidths are.bandwidths)
     (both (said_rest the.P e.policy) tt)))))
-
-both_said : (front back : List VoteRow) → AreSaid vote_tables front → AreSaid vote_tables back
-    → AreSaid vote_tables (front ++ back)
-both_said [] back a b = b
-both_said (says ∷ front) back a b = both a.0 (both_said front back a.1 b)
 
 last_said : (e : EntryFacts) → IsEntryInRange e → AreSaid vote_tables (last_rows e)
 last_said e are =
@@ -148,19 +135,12 @@ last_said e are =
     refl refl are.micros suits_micro)
     (both (said_ed_if e.ed (ed_text e.ed) refl are.ed) tt)
 
--- Each item of which there are any is built, opens nothing and ends nothing. `w` is not built yet.
-entry_plain : (e : EntryFacts) (bandwidths : Option Bandwidths) → bandwidths ≡ None
-    → are_plain vote_tables section.Entry (front_with bandwidths e ++ last_rows e) ≡ true
-unfolding same
-entry_plain e None is = refl
-entry_plain e (Some w) is = absurd cc
-
 pub entry_written : (e : EntryFacts) → IsEntryInRange e → IsWritten vote_tables (entry_section e) []
 unfolding same
 entry_written e are = record {
   table = refl;
   apart = refl;
-  plain = entry_plain e e.bandwidths are.bandwidths;
+  plain = refl;
   opens = refl;
   said = both_said (front_rows e) (last_rows e) (front_said e are) (last_said e are);
 }
@@ -171,20 +151,20 @@ entry_written e are = record {
 pub first_follows : MayFollow vote_tables Authority section.Entry relay_row
 unfolding same
 first_follows =
-    opener_follows vote_tables Authority section.Entry relay_row refl refl
+    opener_follows vote_tables Authority section.Entry relay_row refl
     (record { not_here = refl; opens = refl; passes_none = refl; row_there = refl })
 
 pub next_follows : MayFollow vote_tables section.Entry section.Entry relay_row
 unfolding same
 next_follows =
-    repeated_follows vote_tables section.Entry relay_row refl refl
+    repeated_follows vote_tables section.Entry relay_row refl
     (record { row_there = refl; not_last = refl; begins_it = refl })
 
 -- the footer may follow an entry
 pub footer_after : MayFollow vote_tables section.Entry Footer (row the.DirectoryFooter One kind.Nothing)
 unfolding same
 footer_after =
-    opener_follows vote_tables section.Entry Footer (row the.DirectoryFooter One kind.Nothing) refl refl
+    opener_follows vote_tables section.Entry Footer (row the.DirectoryFooter One kind.Nothing) refl
     (record { not_here = refl; opens = refl; passes_none = refl; row_there = refl })
 
 -- ---- its items in three parts

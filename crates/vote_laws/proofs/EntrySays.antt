@@ -32,7 +32,6 @@ use Rattle.relay_entries.specs.declared.said.EdOpinion.{EdOpinion}
 use Rattle.relay_entries.specs.declared.said.EdOpinion.TheVariants as opinion
 use Rattle.relay_entries.specs.declared.said.EntryKind.TheVariants as entry
 use Rattle.relay_entries.specs.declared.said.EntryValue.TheVariants as said
-use Rattle.relay_entries.specs.declared.said.MicroLine.{MicroLine}
 use Rattle.entry_laws.proofs.WrittenMethods.{methods_in-text}
 use Rattle.entry_laws.proofs.WrittenRelays.{relay_shape}
 use Rattle.vote_terms.specs.declared.entry.EntryFacts.{EntryFacts}
@@ -41,9 +40,10 @@ use Rattle.vote_text.specs.Entries.{line_of, micro_line}
 use Rattle.vote_frame.specs.declared.frame.VoteValue.{VoteValue}
 use Rattle.vote_frame.specs.declared.frame.VoteValue.TheVariants as own
 use Rattle.vote_entries.specs.Entries.{micro_in}
-use Rattle.vote_entries.specs.Saying.{addresses_in, bandwidths_in, ed_in, micro_of_value, micros_in, onto_if}
+use Rattle.vote_entries.specs.Saying.{addresses_in, bandwidths_in, ed_in, micro_if, micros_in, onto_if}
+use Rattle.vote_entries.specs.declared.row.KeptMicro.{KeptMicro}
 use Rattle.vote_laws.specs.Again.{AreEntryFlags, IsMicroInRange}
-use Rattle.vote_laws.proofs.EntryItems.{micro_entry, micro_said}
+use Rattle.vote_laws.proofs.EntryItems.{micro_entry}
 use Rattle.vote_laws.proofs.EntryRows.{bandwidths_row, ed_if, entry_kind}
 use Rattle.vote_laws.proofs.Heard.{is_quiet}
 use Rattle.vote_laws.proofs.VoteItems.{VoteEntry}
@@ -87,14 +87,14 @@ all_addresses limit bytes place (text ∷ texts) stand =
 pub micros_in-append : (front back : List EntryTaken) → micros_in (front ++ back) ≡ micros_in front ++ micros_in back
 micros_in-append [] back = refl
 micros_in-append (one ∷ front) back =
-    ap (onto_if (micro_of_value (own_of_value one.value))) (micros_in-append front back)
-    ∙ onto_append (micro_of_value (own_of_value one.value)) (micros_in front) (micros_in back)
+    ap (onto_if (micro_if one.value)) (micros_in-append front back)
+    ∙ onto_append (micro_if one.value) (micros_in front) (micros_in back)
   where
-    onto_append : (o : Option MicroLine) (a b : List MicroLine) → onto_if o (a ++ b) ≡ onto_if o a ++ b
+    onto_append : (o : Option KeptMicro) (a b : List KeptMicro) → onto_if o (a ++ b) ≡ onto_if o a ++ b
     onto_append None a b = refl
     onto_append (Some line) a b = refl
 
-no_micro : (v : Value VoteValue) → is_quiet v ≡ true → micro_of_value (own_of_value v) ≡ None
+no_micro : (v : Value VoteValue) → is_quiet v ≡ true → micro_if v ≡ None
 no_micro value.Nothing is = refl
 no_micro (value.Text text) is = refl
 no_micro (value.Number number) is = refl
@@ -114,7 +114,7 @@ pub quiet_none : (place : ℕ) (entries : List VoteEntry) → EachPasses is_quie
 quiet_none place [] quiet = refl
 quiet_none place (one ∷ entries) quiet =
     let next = after_one place one in
-    ap (λ (o : Option MicroLine). onto_if o (micros_in (all_taken next entries)))
+    ap (λ (o : Option KeptMicro). onto_if o (micros_in (all_taken next entries)))
     (no_micro (one.value place) (quiet.0 place))
     ∙ quiet_none next entries quiet.1
 
@@ -123,9 +123,13 @@ pub ed_none : (place : ℕ) (said : EdOpinion) (text : Option (List ℕ))
 ed_none place said None = refl
 ed_none place said (Some text) = refl
 
+-- what is kept of a line whose methods stand at a place
+abbrev micro_kept : ℕ → MicroFacts → KeptMicro
+micro_kept start line = record { methods = span start (methods_text line.methods); digest = line.digest }
+
 -- the methods of a line that stands in its place
 micro_back : (bytes : List ℕ) (start : ℕ) (line : MicroFacts) → IsMicroInRange line
-    → part bytes (span start (micro_line line)) ≡ micro_line line → micro_in bytes (micro_said start line) ≡ line
+    → part bytes (span start (micro_line line)) ≡ micro_line line → micro_in bytes (micro_kept start line) ≡ line
 micro_back bytes start line are there =
     let methods = methods_text line.methods in
     let front : start + 0 ≡ start = omega arith in

@@ -11,6 +11,7 @@ use Rattle.frame_values.specs.Signatures.{has_words, object_of, signature_of}
 use Rattle.frame_values.specs.declared.values.Value.{Value}
 use Rattle.frame_values.specs.declared.values.Value.TheVariants as value
 use Rattle.frame_laws.proofs.Passing.{IsForgotten, KindsPass}
+use Rattle.list_lines.specs.Lines.{params_of, protocols_of, versions_of}
 use Rattle.authority_certs.specs.Tables.{cert_value}
 use Rattle.authority_certs.specs.declared.frame.CertKind.{CertKind}
 use Rattle.authority_certs.specs.declared.frame.CertKind.TheVariants as cert
@@ -126,6 +127,9 @@ kind_quiet kind.Time item v quiet is = by_next (time_of item) (λ number. value.
 kind_quiet kind.Delays item v quiet is =
     by_next (delays_of item) (λ delays. value.Own (own.Delays delays.0 delays.1)) v (λ a. refl) is
 kind_quiet kind.KnownFlags item v quiet is = by_next (flags_of item) (λ text. value.Text text) v (λ a. refl) is
+kind_quiet kind.Versions item v quiet is = by_next (versions_of item) (λ text. value.Text text) v (λ a. refl) is
+kind_quiet kind.Protocols item v quiet is = by_next (protocols_of item) (λ text. value.Text text) v (λ a. refl) is
+kind_quiet kind.Params item v quiet is = by_next (params_of item) (λ text. value.Text text) v (λ a. refl) is
 kind_quiet kind.Rest item v quiet is =
     subst (λ (w : Value VoteValue). is_quiet w ≡ true) (same_value (value.Text (rest_of item)) v is) refl
 kind_quiet kind.Source item v quiet is =

@@ -25,6 +25,7 @@ use Rattle.certificate_laws.proofs.CertSays.{certificate_says, whole_is}
 use Rattle.vote_terms.specs.declared.facts.VoteFacts.{VoteFacts}
 use Rattle.vote_text.specs.Texts.{vote_text}
 use Rattle.vote_doc.specs.Facts.{facts_of, vote_in}
+use Rattle.vote_doc.specs.Lists.{lists_in, vote_lists}
 use Rattle.vote_doc.specs.Reading.{max_vote}
 use Rattle.vote_frame.specs.Tables.{vote_tables}
 use Rattle.vote_frame.specs.declared.frame.VoteKind.TheVariants as kind
@@ -33,8 +34,9 @@ use Rattle.vote_frame.specs.declared.frame.VoteValue.{VoteValue}
 use Rattle.vote_laws.specs.Again.{IsInRange, IsReadBack, VotesAreReadAgain, as_read}
 use Rattle.vote_laws.proofs.EntryKept.{entries_say}
 use Rattle.vote_laws.proofs.VoteItems.{VoteEntry, signature_entry}
+use Rattle.vote_laws.proofs.VoteLists.{params_back, protocols_back, versions_back}
 use Rattle.vote_laws.proofs.VotePlaces.{authority_place, certificate_place, entries_place, footer_place, vote_end}
-use Rattle.vote_laws.proofs.VotePlaces.{vote_kept}
+use Rattle.vote_laws.proofs.VotePlaces.{in_preamble, vote_kept}
 use Rattle.vote_laws.proofs.VoteRead.{begins_at, closed, used_of, vote_read}
 use Rattle.vote_laws.proofs.VoteRows.{authority, authority_written, certificate_row, footer, footer_ended}
 use Rattle.vote_laws.proofs.VoteRows.{has_certificate, preamble, preamble_written, signature_row}
@@ -107,6 +109,29 @@ kept_says facts are =
     let footer_read =
     section_to_is_read vote_tables (footer_place facts) footer signature_row
     (signature_entry facts.signature) ended.written refl max_vote text from_e.back in
+    let l = facts.lists in
+    let lists : vote_lists text (lists_in (in_preamble facts)) ≡ l =
+    λ i. record {
+      client_versions =
+          versions_back the.ClientVersions l.client_versions are.lists.client_versions
+          (row_read the.ClientVersions preamble_read refl) i;
+      server_versions =
+          versions_back the.ServerVersions l.server_versions are.lists.server_versions
+          (row_read the.ServerVersions preamble_read refl) i;
+      recommended_client_protocols =
+          protocols_back the.RecommendedClientProtocols l.recommended_client_protocols
+          are.lists.recommended_client_protocols (row_read the.RecommendedClientProtocols preamble_read refl) i;
+      recommended_relay_protocols =
+          protocols_back the.RecommendedRelayProtocols l.recommended_relay_protocols
+          are.lists.recommended_relay_protocols (row_read the.RecommendedRelayProtocols preamble_read refl) i;
+      required_client_protocols =
+          protocols_back the.RequiredClientProtocols l.required_client_protocols
+          are.lists.required_client_protocols (row_read the.RequiredClientProtocols preamble_read refl) i;
+      required_relay_protocols =
+          protocols_back the.RequiredRelayProtocols l.required_relay_protocols
+          are.lists.required_relay_protocols (row_read the.RequiredRelayProtocols preamble_read refl) i;
+      params = params_back l.params are.lists.params (row_read the.Params preamble_read refl) i;
+    } in
     let delays = delays_said facts (row_read the.VotingDelay preamble_read refl) in
     let source = source_said facts (row_read the.DirSource authority_read refl) in
     let certificate =
@@ -123,6 +148,7 @@ kept_says facts are =
       dist_seconds = (delays i).1;
       known_flags = flags_said facts.known_flags are.known_flags (row_read the.KnownFlags preamble_read refl) i;
       flag_thresholds = text_if_said _ facts.flag_thresholds (row_read the.FlagThresholds preamble_read refl) i;
+      lists = lists i;
       nickname = source.nickname i;
       identity = source.identity i;
       address = source.address i;

@@ -61,7 +61,7 @@ abbrev pub SuitsVote : Row VoteKind → VoteEntry → Type 0
 SuitsVote row entry = AlwaysSuits vote_tables row entry
 
 -- what is said of what was read
-abbrev says : {A : Type 0} → (A → Value VoteValue) → Result A ℕ → Result (Value VoteValue) ℕ
+abbrev pub says : {A : Type 0} → (A → Value VoteValue) → Result A ℕ → Result (Value VoteValue) ℕ
 says of read = next read (λ found. Ok (of found))
 
 -- an item that is not passed over, passes no limit and has this value suits its row
@@ -123,7 +123,7 @@ said_rest_if keyword text =
 -- ---- lists
 
 -- the limit of a list is not passed
-few : (l : Limit) (item : Item) (n : ℕ) → length (arguments_of item) ≡ n → n ≤ limit_number l
+pub few : (l : Limit) (item : Item) (n : ℕ) → length (arguments_of item) ≡ n → n ≤ limit_number l
     → too_many l item ≡ Ok tt
 few l item n same within =
     let no : nat_lt (limit_number l) (length (arguments_of item)) ≡ false =

@@ -80,7 +80,7 @@ certificate_made facts are =
     (first_ends place (in_section facts) (certification facts.certificate)) (certificate_fits facts are) in
     entering vote_tables none_listed Authority Certificate (taken_at before (authority facts).opener)
     (others_in before (authority facts)) place certificate_version
-    certificate_row refl (record { row_there = refl; not_last = refl; begins_nothing = refl }) refl
+    certificate_row (record { row_there = refl; not_last = refl; begins_nothing = refl }) refl
     (section_before_last vote_tables (authority facts) certificate_row before (authority_written facts are)) near
     (suits_version the.DirKeyCertificateVersion none_listed place)
   where

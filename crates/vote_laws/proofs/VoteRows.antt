@@ -12,19 +12,22 @@ use Rattle.frame_laws.proofs.Ends.{IsEnded}
 use Rattle.frame_laws.proofs.Following.{IsFirst, MayFollow, opener_follows}
 use Rattle.frame_laws.proofs.RowCounts.{said_none, said_once}
 use Rattle.frame_laws.proofs.RowValues.{row_if, text_entry, silent_entry}
-use Rattle.frame_laws.proofs.SaidRows.{AreSaid, IsSaid, row_none, row_once}
+use Rattle.frame_laws.proofs.SaidRows.{AreSaid, IsSaid, row_once}
 use Rattle.frame_laws.proofs.Sections.{IsWritten}
 use Rattle.frame_laws.proofs.TableRows.{are_plain}
 use Rattle.authority_certs.specs.declared.cert.Cert.{Cert}
 use Rattle.certificate_laws.proofs.CertRows.{HasCertificates, certificate_rows}
 use Rattle.vote_terms.specs.declared.facts.SignatureFacts.{SignatureFacts}
 use Rattle.vote_terms.specs.declared.facts.VoteFacts.{VoteFacts}
+use Rattle.vote_terms.specs.declared.lists.VoteLists.{VoteLists}
 use Rattle.dir_values.specs.Numbers.{numbers_text}
 use Rattle.vote_frame.specs.Tables.{vote_tables}
 use Rattle.vote_frame.specs.declared.frame.VoteKind.{VoteKind}
 use Rattle.vote_frame.specs.declared.frame.VoteKind.TheVariants as kind
 use Rattle.vote_frame.specs.declared.frame.VoteSection.TheVariants.{Authority, Certificate, Footer, Preamble}
 use Rattle.vote_laws.specs.Again.{AreMethods, IsInRange, IsSignatureInRange}
+use Rattle.vote_laws.proofs.VoteLists.{both_said, param_rows, params_said, protocol_rows, protocols_said, version_rows}
+use Rattle.vote_laws.proofs.VoteLists.{versions_said}
 use Rattle.vote_laws.proofs.VoteItems.{VotePart, VoteRow, delays_entry, moment_row, rest_if, said_moment, said_rest_if}
 use Rattle.vote_laws.proofs.VoteItems.{signature_entry, source_entry, suits_delays, suits_flags, suits_methods}
 use Rattle.vote_laws.proofs.VoteItems.{suits_signature, suits_status}
@@ -52,13 +55,6 @@ time_rows facts =
     ∷ row_once (row the.VotingDelay One kind.Delays) (delays_entry facts)
     ∷ []
 
--- the versions, of which nothing is written yet
-abbrev pub version_rows : List VoteRow
-version_rows =
-    row_none (row the.ClientVersions Optional kind.Rest)
-    ∷ row_none (row the.ServerVersions Optional kind.Rest)
-    ∷ []
-
 -- its flags
 abbrev pub flag_rows : VoteFacts → List VoteRow
 flag_rows facts =
@@ -66,22 +62,21 @@ flag_rows facts =
     ∷ rest_if the.FlagThresholds facts.flag_thresholds
     ∷ []
 
--- the protocols and the parameters, of which nothing is written yet
-abbrev pub protocol_rows : List VoteRow
-protocol_rows =
-    row_none (row the.RecommendedClientProtocols Optional kind.Rest)
-    ∷ row_none (row the.RecommendedRelayProtocols Optional kind.Rest)
-    ∷ row_none (row the.RequiredClientProtocols Optional kind.Rest)
-    ∷ row_none (row the.RequiredRelayProtocols Optional kind.Rest)
-    ∷ row_none (row the.Params Optional kind.Rest)
-    ∷ []
+-- the lists behind its flags
+abbrev pub later_rows : VoteLists → List VoteRow
+later_rows lists = protocol_rows lists ++ param_rows lists
+
+-- its rows behind the first one
+abbrev pub preamble_rows : VoteFacts → List VoteRow
+preamble_rows facts =
+    kind_rows facts ++ (time_rows facts ++ (version_rows facts.lists ++ (flag_rows facts ++ later_rows facts.lists)))
 
 abbrev pub preamble : VoteFacts → VotePart
 preamble facts = record {
   name = Preamble;
   first = row the.NetworkStatusVersion One kind.Version;
   opener = silent_entry the.NetworkStatusVersion (codes "3");
-  middle = kind_rows facts ++ (time_rows facts ++ (version_rows ++ (flag_rows facts ++ protocol_rows)));
+  middle = preamble_rows facts;
 }
 
 said_methods : (methods : Option (List ℕ)) → IfSome methods AreMethods → IsSaid vote_tables (methods_if methods)
@@ -93,6 +88,9 @@ said_methods (Some methods) are =
 
 preamble_said : (facts : VoteFacts) → IsInRange facts → AreSaid vote_tables (preamble facts).middle
 preamble_said facts are =
+    let lists = facts.lists in
+    let later = both_said (protocol_rows lists) (param_rows lists) (protocols_said lists are.lists)
+    (params_said lists are.lists) in
     both (said_once vote_tables _ _ suits_status)
     (both (said_methods facts.methods are.methods)
     (both (said_moment the.Published facts.published)
@@ -100,15 +98,9 @@ preamble_said facts are =
     (both (said_moment the.FreshUntil facts.fresh_until)
     (both (said_moment the.ValidUntil facts.valid_until)
     (both (said_once vote_tables _ _ (suits_delays facts are))
-    (both (said_none vote_tables _ refl)
-    (both (said_none vote_tables _ refl)
+    (both_said (version_rows lists) (flag_rows facts ++ later_rows lists) (versions_said lists are.lists)
     (both (said_once vote_tables _ _ (suits_flags facts.known_flags are.known_flags))
-    (both (said_rest_if the.FlagThresholds facts.flag_thresholds)
-    (both (said_none vote_tables _ refl)
-    (both (said_none vote_tables _ refl)
-    (both (said_none vote_tables _ refl)
-    (both (said_none vote_tables _ refl)
-    (both (said_none vote_tables _ refl) tt)))))))))))))))
+    (both (said_rest_if the.FlagThresholds facts.flag_thresholds) later)))))))))
 
 pub preamble_written : (facts : VoteFacts) → IsInRange facts → IsWritten vote_tables (preamble facts) []
 unfolding same
@@ -117,7 +109,7 @@ preamble_written facts are =
 
 pub preamble_first : IsFirst vote_tables (row the.NetworkStatusVersion One kind.Version)
 unfolding same
-preamble_first = record { built = refl; begins = refl; row_there = refl }
+preamble_first = record { begins = refl; row_there = refl }
 
 -- ---- the section of the authority, up to the certificate
 
@@ -147,7 +139,7 @@ authority_written facts are = record {
 pub authority_follows : MayFollow vote_tables Preamble Authority (row the.DirSource One kind.Source)
 unfolding same
 authority_follows =
-    opener_follows vote_tables Preamble Authority (row the.DirSource One kind.Source) refl refl
+    opener_follows vote_tables Preamble Authority (row the.DirSource One kind.Source) refl
     (record { not_here = refl; opens = refl; passes_none = refl; row_there = refl })
 
 -- ---- the certificate
@@ -162,7 +154,6 @@ has_certificate = record {
   rows = refl;
   shape = refl;
   plain = certificate_plain;
-  built = refl;
   known = λ of item. refl;
   values = λ across of item. refl;
 }
@@ -185,7 +176,6 @@ pub footer_ended : (signature : SignatureFacts) → IsSignatureInRange signature
 unfolding same
 footer_ended signature are = record {
   written = record { table = refl; apart = refl; plain = refl; opens = refl; said = tt };
-  built = refl;
   ends_it = record { row_there = refl; last = refl };
   inside = refl;
   suits = suits_signature signature are.identity are.key_digest;
@@ -194,5 +184,5 @@ footer_ended signature are = record {
 pub footer_follows : MayFollow vote_tables Authority Footer (row the.DirectoryFooter One kind.Nothing)
 unfolding same
 footer_follows =
-    opener_follows vote_tables Authority Footer (row the.DirectoryFooter One kind.Nothing) refl refl
+    opener_follows vote_tables Authority Footer (row the.DirectoryFooter One kind.Nothing) refl
     (record { not_here = refl; opens = refl; passes_none = refl; row_there = refl })

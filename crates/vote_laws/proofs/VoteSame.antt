@@ -15,15 +15,18 @@ use Rattle.frame_laws.proofs.Sections.{entries_in}
 use Rattle.authority_certs.specs.Texts.{cert_items}
 use Rattle.certificate_laws.proofs.CertRows.{cert_entries, certificate_same}
 use Rattle.vote_terms.specs.declared.facts.VoteFacts.{VoteFacts}
+use Rattle.vote_terms.specs.declared.lists.VoteLists.{VoteLists}
 use Rattle.vote_text.specs.Entries.{entries_items}
-use Rattle.vote_text.specs.Texts.{authority_items, flag_items, footer_items, kind_items, time_items, vote_items}
+use Rattle.vote_text.specs.Lists.{param_items, protocol_items, version_items}
+use Rattle.vote_text.specs.Texts.{authority_items, flag_items, footer_items, kind_items, preamble_items, time_items}
+use Rattle.vote_text.specs.Texts.{vote_items}
 use Rattle.vote_frame.specs.declared.frame.VoteValue.{VoteValue}
 use Rattle.vote_laws.specs.Again.{unsigned_items}
 use Rattle.vote_laws.proofs.EntryRows.{entry_section}
 use Rattle.vote_laws.proofs.EntrySame.{entries_same}
 use Rattle.vote_laws.proofs.VoteItems.{VoteEntry, VoteRow, signature_entry}
-use Rattle.vote_laws.proofs.VoteRows.{authority, flag_rows, footer, kind_rows, preamble, protocol_rows, time_rows}
-use Rattle.vote_laws.proofs.VoteRows.{version_rows}
+use Rattle.vote_laws.proofs.VoteLists.{param_rows, protocol_rows, version_rows}
+use Rattle.vote_laws.proofs.VoteRows.{authority, flag_rows, footer, kind_rows, preamble, time_rows}
 
 -- the items of its certificate, of its entries and of its footer
 abbrev pub in_cert : VoteFacts → List VoteEntry
@@ -51,28 +54,45 @@ flag_same facts = simp (items_if, append-nil) refl
 authority_same : (facts : VoteFacts) → authority_items facts ≡ map item_of (entries_in (authority facts))
 authority_same facts = simp (items_if, append-nil) refl
 
--- the items of five lists of rows
-by_rows : (k t v f p : List VoteRow)
-    → items_of (k ++ (t ++ (v ++ (f ++ p))))
-    ≡ items_of k ++ (items_of t ++ (items_of v ++ (items_of f ++ items_of p)))
-by_rows k t v f p = simp items_of-append refl
+versions_same : (lists : VoteLists) → version_items lists ≡ items_of (version_rows lists)
+versions_same lists = simp (items_if, map-append, append-nil) refl
 
-preamble_same : (facts : VoteFacts)
-    → kind_items facts ++ (time_items facts ++ flag_items facts) ≡ map item_of (entries_in (preamble facts))
+protocols_same : (lists : VoteLists) → protocol_items lists ≡ items_of (protocol_rows lists)
+protocols_same lists = simp (items_if, map-append, append-nil, append_assoc) refl
+
+params_same : (lists : VoteLists) → param_items lists.params ≡ items_of (param_rows lists)
+params_same lists = simp (items_if, append-nil) refl
+
+-- the items of six lists of rows
+by_rows : (k t v f p m : List VoteRow)
+    → items_of (k ++ (t ++ (v ++ (f ++ (p ++ m)))))
+    ≡ items_of k ++ (items_of t ++ (items_of v ++ (items_of f ++ (items_of p ++ items_of m))))
+by_rows k t v f p m = simp items_of-append refl
+
+preamble_same : (facts : VoteFacts) → preamble_items facts ≡ map item_of (entries_in (preamble facts))
 preamble_same facts =
-    let t = time_items facts in
+    let lists = facts.lists in
     let first = item_of (preamble facts).opener in
-    let kind = items_of (kind_rows facts) in
-    let flags = items_of (flag_rows facts) in
-    ap (λ (l : List NewItem). l ++ (t ++ flag_items facts)) (kind_same facts)
-    ∙ ap (λ (l : List NewItem). first ∷ (kind ++ (t ++ l))) (flag_same facts ∙ sym (append-nil flags))
+    let time = time_items facts in
+    let k = kind_same facts in
+    let v = versions_same lists in
+    let f = flag_same facts in
+    let p = protocols_same lists in
+    let m = params_same lists in
+    in_a_row (kind_items facts) time (version_items lists) (flag_items facts) (protocol_items lists)
+    (param_items lists.params)
+    ∙ (λ i. k i ++ (time ++ (v i ++ (f i ++ (p i ++ m i)))))
     ∙ ap (λ (l : List NewItem). first ∷ l)
-    (sym (by_rows (kind_rows facts) (time_rows facts) version_rows (flag_rows facts) protocol_rows))
+    (sym (by_rows (kind_rows facts) (time_rows facts) (version_rows lists) (flag_rows facts) (protocol_rows lists)
+    (param_rows lists)))
+  where
+    in_a_row : (k t v f p m : List NewItem) → k ++ t ++ v ++ f ++ p ++ m ≡ k ++ (t ++ (v ++ (f ++ (p ++ m))))
+    in_a_row k t v f p m = simp append_assoc refl
 
 -- the items of all sections, of which these are the last
 all_same : (facts : VoteFacts) (last : List NewItem) (others : List VoteEntry) → last ≡ map item_of others
-    → kind_items facts ++ time_items facts ++ flag_items facts ++ authority_items facts
-    ++ cert_items facts.certificate ++ entries_items facts.entries ++ last
+    → preamble_items facts ++ authority_items facts ++ cert_items facts.certificate
+    ++ entries_items facts.entries ++ last
     ≡ map item_of
     (entries_in (preamble facts) ++ (entries_in (authority facts) ++ (in_cert facts ++ (in_list facts ++ others))))
 all_same facts last others same_last =
@@ -82,7 +102,7 @@ all_same facts last others same_last =
     let in_p = map item_of (entries_in (preamble facts)) in
     let in_a = map item_of (entries_in (authority facts)) in
     let in_c = map item_of (in_cert facts) in
-    joined (kind_items facts) (time_items facts) (flag_items facts) a c e last
+    joined (preamble_items facts) a c e last
     ∙ ap (λ (l : List NewItem). l ++ (a ++ (c ++ (e ++ last)))) (preamble_same facts)
     ∙ ap (λ (l : List NewItem). in_p ++ (l ++ (c ++ (e ++ last)))) (authority_same facts)
     ∙ ap (λ (l : List NewItem). in_p ++ (in_a ++ (l ++ (e ++ last)))) (certificate_same VoteValue facts.certificate)
@@ -91,9 +111,8 @@ all_same facts last others same_last =
     ∙ sym (by_sections (entries_in (preamble facts)) (entries_in (authority facts)) (in_cert facts) (in_list facts)
     others)
   where
-    joined : (k t f a c e l : List NewItem)
-        → k ++ t ++ f ++ a ++ c ++ e ++ l ≡ (k ++ (t ++ f)) ++ (a ++ (c ++ (e ++ l)))
-    joined k t f a c e l = simp append_assoc refl
+    joined : (p a c e l : List NewItem) → p ++ a ++ c ++ e ++ l ≡ p ++ (a ++ (c ++ (e ++ l)))
+    joined p a c e l = simp append_assoc refl
 
     by_sections : (p a c e f : List VoteEntry)
         → map item_of (p ++ (a ++ (c ++ (e ++ f))))

@@ -1,6 +1,6 @@
 -- A vote that was written is read again (dir-spec, "Vote and consensus status document formats").
-use Rattle.std.specs.Prelude.{◌≡◌, ℕ, ◌≤◌, ◌<◌, ◌^◌, true, List, [], ◌∷◌, ◌++◌, length, All, AllPairs, IfSome, Ok, codes}
-use Rattle.std.specs.Prelude.{None, is_some}
+use Rattle.std.specs.Prelude.{◌≡◌, ℕ, ◌≤◌, ◌<◌, ◌^◌, true, List, [], ◌∷◌, ◌++◌, length, All, AllPairs, IfSome}
+use Rattle.std.specs.Prelude.{Ok, codes, ℤ}
 use Rattle.dir_bytes.specs.Causes.{last_moment}
 use Rattle.dir_values.specs.FlagSets.{Ascend, is_name}
 use Rattle.dirdoc_grammar.specs.Writers.{is_argument}
@@ -12,7 +12,10 @@ use Rattle.frame_values.specs.Ranges.{AreTwenty}
 use Rattle.certificate_laws.specs.Again.{SaysInRange, as_written}
 use Rattle.authority_certs.specs.Texts.{cert_items, cert_text}
 use Rattle.authority_certs.specs.declared.cert.Cert.{Cert}
-use Rattle.entry_laws.specs.Ranges.{AreMethodsInRange, AreThirtyTwo, IsAddressInRange, IsOpinionInRange, IsRelayInRange}
+use Rattle.entry_laws.specs.Ranges.{AreBandwidthsInRange, AreMethodsInRange, AreThirtyTwo, IsAddressInRange}
+use Rattle.entry_laws.specs.Ranges.{IsOpinionInRange, IsRelayInRange}
+use Rattle.list_laws.specs.Ranges.{AreParamsInRange, AreProtocolsInRange, AreVersionsInRange}
+use Rattle.list_values.specs.declared.named.Named.{Named}
 use Rattle.relay_entries.specs.declared.said.EdOpinion.TheVariants as opinion
 use Rattle.vote_terms.specs.Entries.{Ascending}
 use Rattle.vote_terms.specs.Votes.{ReadVote}
@@ -20,8 +23,9 @@ use Rattle.vote_terms.specs.declared.entry.EntryFacts.{EntryFacts}
 use Rattle.vote_terms.specs.declared.entry.MicroFacts.{MicroFacts}
 use Rattle.vote_terms.specs.declared.facts.SignatureFacts.{SignatureFacts}
 use Rattle.vote_terms.specs.declared.facts.VoteFacts.{VoteFacts}
+use Rattle.vote_terms.specs.declared.lists.VoteLists.{VoteLists}
 use Rattle.vote_text.specs.Entries.{entries_items}
-use Rattle.vote_text.specs.Texts.{authority_items, flag_items, kind_items, time_items, vote_items, vote_text}
+use Rattle.vote_text.specs.Texts.{authority_items, preamble_items, vote_items, vote_text}
 use Rattle.vote_doc.specs.Reading.{max_vote, vote_of}
 
 -- the consensus methods are at most 64 numbers of 32 bits
@@ -34,6 +38,21 @@ pub record AreFlags (flags : List (List ℕ)) : Type 0 where
   pub count : length flags ≤ 64
   pub ascend : Ascend flags
   pub each : All (λ flag. is_name flag ≡ true) flags
+
+-- the params are at most 1,024 that can be read
+pub record AreVoteParams (params : List (Named ℤ)) : Type 0 where
+  pub count : length params ≤ 1024
+  pub each : AreParamsInRange params
+
+-- each list is one that can be read
+pub record AreListsInRange (lists : VoteLists) : Type 0 where
+  pub client_versions : IfSome lists.client_versions AreVersionsInRange
+  pub server_versions : IfSome lists.server_versions AreVersionsInRange
+  pub recommended_client_protocols : IfSome lists.recommended_client_protocols AreProtocolsInRange
+  pub recommended_relay_protocols : IfSome lists.recommended_relay_protocols AreProtocolsInRange
+  pub required_client_protocols : IfSome lists.required_client_protocols AreProtocolsInRange
+  pub required_relay_protocols : IfSome lists.required_relay_protocols AreProtocolsInRange
+  pub params : IfSome lists.params AreVoteParams
 
 -- the certificate says what can be read, and its text does not pass its limit
 pub record IsCertificateInRange (cert : Cert) : Type 0 where
@@ -50,19 +69,18 @@ pub record AreEntryFlags (flags : List (List ℕ)) : Type 0 where
   pub ascend : Ascend flags
   pub each : All (λ flag. is_name flag ≡ true) flags
 
--- an `m` line has methods, and gives a digest
+-- an `m` line has methods and a digest
 pub record IsMicroInRange (line : MicroFacts) : Type 0 where
   pub methods : AreMethodsInRange line.methods
-  pub some : is_some line.digest ≡ true
-  pub digest : IfSome line.digest (λ digest. AreThirtyTwo digest.0)
+  pub digest : AreThirtyTwo line.digest.0
 
--- An entry says what can be read. It says nothing of bandwidths, since `w` is not built yet.
+-- an entry says what can be read
 pub record IsEntryInRange (entry : EntryFacts) : Type 0 where
   pub relay : IsRelayInRange entry.nickname entry.identity entry.digest entry.ip entry.or_port entry.dir_port
   pub published : entry.published ≤ last_moment
   pub addresses : All IsAddressInRange entry.addresses
   pub flags : AreEntryFlags entry.flags
-  pub bandwidths : entry.bandwidths ≡ None
+  pub bandwidths : IfSome entry.bandwidths AreBandwidthsInRange
   pub micros : All IsMicroInRange entry.micros
   pub ed : IsOpinionInRange entry.ed
 
@@ -90,6 +108,7 @@ pub record IsInRange (facts : VoteFacts) : Type 0 where
   pub vote_seconds : facts.vote_seconds ≤ 4294967295
   pub dist_seconds : facts.dist_seconds ≤ 4294967295
   pub known_flags : AreFlags facts.known_flags
+  pub lists : AreListsInRange facts.lists
   pub nickname : is_nickname facts.nickname ≡ true
   pub identity : AreTwenty facts.identity.0
   pub address : is_argument facts.address ≡ true
@@ -108,8 +127,8 @@ as_read facts = record facts { certificate = as_written facts.certificate }
 -- the items before the signature
 abbrev pub unsigned_items : VoteFacts → List NewItem
 unsigned_items facts =
-    kind_items facts ++ time_items facts ++ flag_items facts ++ authority_items facts ++ cert_items facts.certificate
-    ++ entries_items facts.entries ++ bare the.DirectoryFooter [] ∷ []
+    preamble_items facts ++ authority_items facts ++ cert_items facts.certificate ++ entries_items facts.entries
+    ++ bare the.DirectoryFooter [] ∷ []
 
 -- the text that is signed: through the one space after `directory-signature`
 abbrev pub signed_text : VoteFacts → List ℕ

@@ -1,7 +1,7 @@
 -- What an entry of a vote says of its relay (dir-spec, "Vote and consensus status document formats").
-use Rattle.std.specs.Prelude.{ℕ, nat_eq, Bool, true, ◌≡◌, ◌&&◌, List, [], ◌∷◌, AllPairs, is_some, Option, Some, None}
+use Rattle.std.specs.Prelude.{ℕ, nat_eq, Bool, true, ◌≡◌, List, AllPairs, Option}
 use Rattle.std.specs.List.{find, list_any}
-use Rattle.std.specs.Option.{option_and_then}
+use Rattle.std.specs.Option.{option_and_then, option_map}
 use Rattle.dir_values.specs.declared.digest.Digest2.{Digest2}
 use Rattle.dir_values.specs.Digests.{identity_below}
 use Rattle.relay_entries.specs.declared.said.Bandwidths.{Bandwidths}
@@ -20,13 +20,13 @@ bandwidth_of entry = option_and_then (λ (w : Bandwidths). w.bandwidth) entry.ba
 abbrev pub measured_of : EntryFacts → Option ℕ
 measured_of entry = option_and_then (λ (w : Bandwidths). w.measured) entry.bandwidths
 
--- whether a line gives a digest for a method
+-- whether a line gives its digest for a method
 abbrev pub gives : ℕ → MicroFacts → Bool
-gives method line = is_some line.digest && list_any (λ other. nat_eq other method) line.methods
+gives method line = list_any (λ other. nat_eq other method) line.methods
 
 -- the digest of the microdescriptor that an entry gives for a method: that of the first such line
 abbrev pub micro_for : ℕ → EntryFacts → Option Digest2
-micro_for method entry = option_and_then (λ (line : MicroFacts). line.digest) (find (gives method) entry.micros)
+micro_for method entry = option_map (λ (line : MicroFacts). line.digest) (find (gives method) entry.micros)
 
 -- entries in strictly ascending order of their identities
 abbrev pub Ascending : List EntryFacts → Type 0

@@ -3,13 +3,13 @@ use dir_bytes::{Seq, Text};
 use dir_values::{Digest1, Digest2, Fingerprint, FlagSet};
 use relay_entries::{Bandwidths, EdOpinion};
 
-/// What an `m` line says.
+/// What an `m` line says that gives a SHA-256.
 #[derive(Debug, Drop)]
 pub struct MicroFacts {
     /// The consensus methods, in the order in which the line names them.
     pub methods: Seq<u32>,
-    /// The SHA-256 of the microdescriptor that is made under them, where the line gives it.
-    pub digest: Option<Digest2>,
+    /// The SHA-256 of the microdescriptor that is made under them.
+    pub digest: Digest2,
 }
 
 /// What an entry of a vote says of its relay (dir-spec, "Vote and consensus status document formats"): a field for each item.
@@ -42,7 +42,7 @@ pub struct EntryFacts {
     pub bandwidths: Option<Bandwidths>,
     /// The text of the `p` line, where there is one.
     pub policy: Option<Text>,
-    /// Its `m` lines, in their order.
+    /// Its `m` lines that give a SHA-256, in their order. One that gives digests of other algorithms alone has no say.
     pub micros: Seq<MicroFacts>,
     /// What it says of the relay's Ed25519 identity.
     pub ed: EdOpinion,

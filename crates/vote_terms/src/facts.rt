@@ -1,5 +1,6 @@
 // What a vote says, as values.
 use crate::entry::EntryFacts;
+use crate::lists::VoteLists;
 use authority_certs::Cert;
 use dir_bytes::{Seq, Text};
 use dir_values::{Algorithm, Digest1, Fingerprint, FlagSet};
@@ -39,6 +40,8 @@ pub struct VoteFacts {
     pub known_flags: FlagSet,
     /// The text of its flag thresholds, where it gives them.
     pub flag_thresholds: Option<Text>,
+    /// Its versions, protocols and params.
+    pub lists: VoteLists,
     /// The authority's nickname.
     pub nickname: Text,
     /// The authority's identity.

@@ -4,11 +4,13 @@
 mod entry;
 mod facts;
 mod laws;
+mod lists;
 mod rank;
 mod word;
 
 pub use entry::{EntryFacts, MicroFacts};
 pub use facts::{SignatureFacts, VoteFacts};
 pub use laws::{held_agree, held_is_held, ranks_agree, verified_votes_are_not_refused};
+pub use lists::VoteLists;
 pub use rank::Rank;
 pub use word::VoteWord;

@@ -1,5 +1,5 @@
--- The canonical text of a vote: its items in the order of the tables, with single spaces (dir-spec, "Vote and consensus
--- status document formats"; "Creating key certificates").
+-- The canonical text of a vote: its items in the order of the tables, with single spaces (dir-spec, "Vote and
+-- consensus status document formats"; "Creating key certificates").
 use Rattle.std.specs.Prelude.{ℕ, List, [], ◌∷◌, ◌++◌, option_map, codes, decimal}
 use Rattle.dir_bytes.specs.FieldTexts.{hex_text, address_text}
 use Rattle.dir_values.specs.declared.algorithm.Algorithm.{Algorithm}
@@ -14,6 +14,7 @@ use Rattle.vote_terms.specs.declared.facts.SignatureFacts.{SignatureFacts}
 use Rattle.vote_terms.specs.declared.facts.VoteFacts.{VoteFacts}
 use Rattle.frame_values.specs.Items.{bare, with_object, item_if, timed}
 use Rattle.vote_text.specs.Entries.{entries_items}
+use Rattle.vote_text.specs.Lists.{param_items, protocol_items, version_items}
 
 -- ---- the rests of lines
 
@@ -40,7 +41,8 @@ algorithm_text Sha256 = codes "sha256 "
 
 -- by whom a vote is signed, and with which key
 abbrev pub signer_text : SignatureFacts → List ℕ
-signer_text signature = algorithm_text signature.algorithm ++ hex_text signature.identity.0 ++ space ∷ hex_text signature.key_digest.0
+signer_text signature =
+    algorithm_text signature.algorithm ++ hex_text signature.identity.0 ++ space ∷ hex_text signature.key_digest.0
 
 -- ---- sections
 
@@ -53,12 +55,18 @@ kind_items facts =
 -- its times
 abbrev pub time_items : VoteFacts → List NewItem
 time_items facts =
-    timed the.Published facts.published ∷ timed the.ValidAfter facts.valid_after ∷ timed the.FreshUntil facts.fresh_until
-    ∷ timed the.ValidUntil facts.valid_until ∷ bare the.VotingDelay (delays_text facts) ∷ []
+    timed the.Published facts.published ∷ timed the.ValidAfter facts.valid_after
+    ∷ timed the.FreshUntil facts.fresh_until ∷ timed the.ValidUntil facts.valid_until ∷ bare the.VotingDelay (delays_text facts) ∷ []
 
 -- its flags
 abbrev pub flag_items : VoteFacts → List NewItem
 flag_items facts = bare the.KnownFlags (set_text facts.known_flags) ∷ item_if the.FlagThresholds facts.flag_thresholds
+
+-- the preamble
+abbrev pub preamble_items : VoteFacts → List NewItem
+preamble_items facts =
+    kind_items facts ++ time_items facts ++ version_items facts.lists ++ flag_items facts ++ protocol_items facts.lists
+    ++ param_items facts.lists.params
 
 -- its authority
 abbrev pub authority_items : VoteFacts → List NewItem
@@ -67,13 +75,14 @@ authority_items facts = bare the.DirSource (source_text facts) ∷ item_if the.C
 -- the footer
 abbrev pub footer_items : SignatureFacts → List NewItem
 footer_items signature =
-    bare the.DirectoryFooter [] ∷ with_object the.DirectorySignature (signer_text signature) (codes "SIGNATURE") signature.signature ∷ []
+    bare the.DirectoryFooter []
+    ∷ with_object the.DirectorySignature (signer_text signature) (codes "SIGNATURE") signature.signature ∷ []
 
 -- the items of a vote that says this
 abbrev pub vote_items : VoteFacts → List NewItem
 vote_items facts =
-    kind_items facts ++ time_items facts ++ flag_items facts ++ authority_items facts ++ cert_items facts.certificate
-    ++ entries_items facts.entries ++ footer_items facts.signature
+    preamble_items facts ++ authority_items facts ++ cert_items facts.certificate ++ entries_items facts.entries
+    ++ footer_items facts.signature
 
 -- the text of a vote that says this
 abbrev pub vote_text : VoteFacts → List ℕ

@@ -2,6 +2,7 @@
 #![tactic(auto)]
 
 mod entry;
+mod lists;
 mod writing;
 
 pub use writing::write;

@@ -24,7 +24,7 @@ id ed25519 none\n\
 fn micro(alloc: Global, methods: &[u32], digest: &[u8]) -> Result<MicroFacts, Fail> {
     Ok(MicroFacts {
         methods: Seq::new(methods.to_vec(alloc)?),
-        digest: Some(Digest2::read(digest)?),
+        digest: Digest2::read(digest)?,
     })
 }
 

@@ -7,6 +7,7 @@ ghost use Rattle.authority_certs.specs.Texts.{cert_text};
 ghost use Rattle.vote_text.specs.Texts as texts;
 
 use crate::entry::push_entries;
+use crate::lists::{push_params, push_protocols, push_versions};
 use authority_certs::Cert;
 use dir_bytes::{Memory, push_address, push_decimal, push_hex_upper};
 use dir_values::{Algorithm, push_numbers};
@@ -15,7 +16,7 @@ use frame_values::{push_bare, push_if, push_timed, push_with_object};
 use std::alloc::Global;
 use vote_terms::{SignatureFacts, VoteFacts};
 
-// The item of a vote's methods, where it names them.
+/// The item of a vote's methods, where it names them.
 fn push_methods(out: &mut Vec<u8>, alloc: Global, facts: &VoteFacts) -> Result<(), Memory>
     ensures { OnOk result (out.new.items ≡ out.old.items ++ items_text (items.item_if Keyword.ConsensusMethods (option_map numbers_text facts.now.methods))) }
 {
@@ -27,7 +28,7 @@ fn push_methods(out: &mut Vec<u8>, alloc: Global, facts: &VoteFacts) -> Result<(
     push_bare(out, Keyword::ConsensusMethods, &rest)
 }
 
-// What the document is, and its methods.
+/// What the document is, and its methods.
 fn push_kind(out: &mut Vec<u8>, alloc: Global, facts: &VoteFacts) -> Result<(), Memory>
     ensures { OnOk result (out.new.items ≡ out.old.items ++ items_text (texts.kind_items facts.now)) }
 {
@@ -36,7 +37,7 @@ fn push_kind(out: &mut Vec<u8>, alloc: Global, facts: &VoteFacts) -> Result<(), 
     push_methods(out, alloc, facts)
 }
 
-// The item of the two delays.
+/// The item of the two delays.
 fn push_delays(out: &mut Vec<u8>, alloc: Global, facts: &VoteFacts) -> Result<(), Memory>
     ensures { OnOk result (out.new.items ≡ out.old.items ++ item_text (items.bare Keyword.VotingDelay (texts.delays_text facts.now))) }
 {
@@ -47,7 +48,7 @@ fn push_delays(out: &mut Vec<u8>, alloc: Global, facts: &VoteFacts) -> Result<()
     push_bare(out, Keyword::VotingDelay, &rest)
 }
 
-// The times.
+/// The times.
 fn push_times(out: &mut Vec<u8>, alloc: Global, facts: &VoteFacts) -> Result<(), Memory>
     ensures { OnOk result (out.new.items ≡ out.old.items ++ items_text (texts.time_items facts.now)) }
 {
@@ -59,7 +60,7 @@ fn push_times(out: &mut Vec<u8>, alloc: Global, facts: &VoteFacts) -> Result<(),
     Ok(())
 }
 
-// The flags.
+/// The flags.
 fn push_flags(out: &mut Vec<u8>, alloc: Global, facts: &VoteFacts) -> Result<(), Memory>
     ensures { OnOk result (out.new.items ≡ out.old.items ++ items_text (texts.flag_items facts.now)) }
 {
@@ -69,7 +70,20 @@ fn push_flags(out: &mut Vec<u8>, alloc: Global, facts: &VoteFacts) -> Result<(),
     push_if(out, Keyword::FlagThresholds, &facts.flag_thresholds)
 }
 
-// The authority's names.
+/// The preamble.
+fn push_preamble(out: &mut Vec<u8>, alloc: Global, facts: &VoteFacts) -> Result<(), Memory>
+    ensures { OnOk result (out.new.items ≡ out.old.items ++ items_text (texts.preamble_items facts.now)) }
+{
+    push_kind(out, alloc, facts)?;
+    push_times(out, alloc, facts)?;
+    push_versions(out, alloc, &facts.lists)?;
+    push_flags(out, alloc, facts)?;
+    push_protocols(out, alloc, &facts.lists)?;
+    push_params(out, alloc, &facts.lists.params)?;
+    Ok(())
+}
+
+/// The authority's names.
 fn push_names(rest: &mut Vec<u8>, facts: &VoteFacts) -> Result<(), Memory>
     ensures { OnOk result (rest.new.items ≡ rest.old.items ++ texts.names_text facts.now) }
 {
@@ -81,7 +95,7 @@ fn push_names(rest: &mut Vec<u8>, facts: &VoteFacts) -> Result<(), Memory>
     Ok(())
 }
 
-// The authority's IPv4 address and ports.
+/// The authority's IPv4 address and ports.
 fn push_ports(rest: &mut Vec<u8>, facts: &VoteFacts) -> Result<(), Memory>
     ensures { OnOk result (rest.new.items ≡ rest.old.items ++ texts.ports_text facts.now) }
 {
@@ -92,7 +106,7 @@ fn push_ports(rest: &mut Vec<u8>, facts: &VoteFacts) -> Result<(), Memory>
     push_decimal(rest, facts.or_port as u64)
 }
 
-// Who the authority is.
+/// Who the authority is.
 fn push_source(rest: &mut Vec<u8>, facts: &VoteFacts) -> Result<(), Memory>
     ensures { OnOk result (rest.new.items ≡ rest.old.items ++ texts.source_text facts.now) }
 {
@@ -101,7 +115,7 @@ fn push_source(rest: &mut Vec<u8>, facts: &VoteFacts) -> Result<(), Memory>
     push_ports(rest, facts)
 }
 
-// The authority.
+/// The authority.
 fn push_authority(out: &mut Vec<u8>, alloc: Global, facts: &VoteFacts) -> Result<(), Memory>
     ensures { OnOk result (out.new.items ≡ out.old.items ++ items_text (texts.authority_items facts.now)) }
 {
@@ -111,7 +125,7 @@ fn push_authority(out: &mut Vec<u8>, alloc: Global, facts: &VoteFacts) -> Result
     push_if(out, Keyword::Contact, &facts.contact)
 }
 
-// The authority's certificate.
+/// The authority's certificate.
 fn push_certificate(out: &mut Vec<u8>, alloc: Global, cert: &Cert) -> Result<(), Memory>
     ensures { OnOk result (out.new.items ≡ out.old.items ++ cert_text cert.now) }
 {
@@ -120,7 +134,7 @@ fn push_certificate(out: &mut Vec<u8>, alloc: Global, cert: &Cert) -> Result<(),
     Ok(())
 }
 
-// The name of an algorithm and a space; SHA-1 is not named.
+/// The name of an algorithm and a space; SHA-1 is not named.
 fn algorithm_text(algorithm: Algorithm) -> &'static [u8]
     ensures { result.now ≡ texts.algorithm_text algorithm }
 {
@@ -130,7 +144,7 @@ fn algorithm_text(algorithm: Algorithm) -> &'static [u8]
     }
 }
 
-// By whom a vote is signed, and with which key.
+/// By whom a vote is signed, and with which key.
 fn push_signer(rest: &mut Vec<u8>, signature: &SignatureFacts) -> Result<(), Memory>
     ensures { OnOk result (rest.new.items ≡ rest.old.items ++ texts.signer_text signature.now) }
 {
@@ -140,7 +154,7 @@ fn push_signer(rest: &mut Vec<u8>, signature: &SignatureFacts) -> Result<(), Mem
     push_hex_upper(rest, &signature.key_digest.0)
 }
 
-// The footer.
+/// The footer.
 fn push_footer(out: &mut Vec<u8>, alloc: Global, signature: &SignatureFacts) -> Result<(), Memory>
     ensures { OnOk result (out.new.items ≡ out.old.items ++ items_text (texts.footer_items signature.now)) }
 {
@@ -168,9 +182,7 @@ pub fn write(alloc: Global, facts: &VoteFacts) -> Result<Vec<u8>, Memory>
     ensures { IfOk result (λ text. text.items ≡ texts.vote_text facts.now) }
 {
     let mut out = Vec::new(alloc);
-    push_kind(&mut out, alloc, facts)?;
-    push_times(&mut out, alloc, facts)?;
-    push_flags(&mut out, alloc, facts)?;
+    push_preamble(&mut out, alloc, facts)?;
     push_authority(&mut out, alloc, facts)?;
     push_certificate(&mut out, alloc, &facts.certificate)?;
     let mut rest = Vec::new(alloc);

@@ -6,5 +6,5 @@ use Rattle.list_values.proofs.proto_ranges.mask_at.Goals as goal
 
 pub returns : goal.returns
 returns c =
-    ap numbers_of (c.unwrap_or.ensures ∙ ap (λ (o : Option ℕ). unwrap_or o 0) c.found_mask.ensures)
+    ap numbers_of (c.unwrap_or.ensures ∙ ap (λ (o : Option ℕ). unwrap_or o 0) c.value_for.ensures)
     ∙ numbers_listed c.args.items.now c.args.name.now

@@ -1,6 +1,6 @@
 use Rattle.std.proofs.Common.{◌≡◌, drop, map}
 use Rattle.std.specs.List.{find}
-use Rattle.std.specs.Option.{option_and_then}
+use Rattle.std.specs.Option.{option_map}
 use Rattle.vote_terms.specs.Entries.{gives}
 use Rattle.vote_terms.specs.declared.entry.MicroFacts.{MicroFacts}
 use Rattle.vote_entries.specs.Entries.{micro_in}
@@ -8,5 +8,5 @@ use Rattle.vote_entries.proofs.entry.micro_for.Given as goal
 
 abbrev pub invariant-loop-line : goal.invariant-loop-line
 invariant-loop-line l =
-    option_and_then (λ (line : MicroFacts). line.digest) (find (gives l.method) (map (micro_in l.bytes) (drop l.line-index l.micros)))
-    ≡ option_and_then (λ (line : MicroFacts). line.digest) (find (gives l.method) (map (micro_in l.bytes) l.micros))
+    option_map (λ (line : MicroFacts). line.digest) (find (gives l.method) (map (micro_in l.bytes) (drop l.line-index l.micros)))
+    ≡ option_map (λ (line : MicroFacts). line.digest) (find (gives l.method) (map (micro_in l.bytes) l.micros))

@@ -1,5 +1,5 @@
-use Rattle.std.proofs.Common.{◌≡◌, true, length, refl, rules, arith, sym, ap, ◌∙◌}
-use Rattle.vote_entries.specs.Kept.{KeptEntry, entry_of, is_after}
+use Rattle.std.proofs.Common.{◌≡◌, true, length, refl, rules, arith}
+use Rattle.vote_entries.specs.Kept.{entry_of, is_after}
 use Rattle.vote_entries.specs.Rows.{kept_rows}
 use Rattle.vote_entries.specs.Saying.{addresses_in, micros_in}
 use Rattle.vote_entries.proofs.RowLists.{and_one_within, one_more_row, still_within}

@@ -1,0 +1,11 @@
+//! Laws of lists of values that stand on one line of a document (dir-spec, "Vote and consensus status document
+//! formats"): params, versions of Tor and versions of protocols are read again as they were written. No functions; a
+//! crate of its own, so that a law more proves nothing else again.
+#![tactic(auto)]
+
+mod laws;
+
+pub use laws::{
+    kept_numbers_are_in_range, params_are_read_again, protocols_are_read_again,
+    versions_are_read_again,
+};
