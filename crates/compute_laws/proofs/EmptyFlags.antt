@@ -1,11 +1,11 @@
 -- A relay that no entry belongs to has neither `Running` nor `MiddleOnly`.
-use Rattle.std.proofs.Common.{◌≡◌, ℕ, ◌*◌, Bool, true, false, cond, ◌&&◌, ◌||◌, List, [], ◌∷◌, refl, sym, ap, ◌∙◌, arith}
-use Rattle.std.specs.Prelude.{codes, filter, nat_lt}
+use Rattle.std.proofs.Common.{◌≡◌, ℕ, Bool, true, false, cond, ◌&&◌, List, [], ◌∷◌, refl, sym, ap, ◌∙◌, arith}
+use Rattle.std.specs.Prelude.{codes, filter}
 use Rattle.std.specs.Str.{bytes_eq}
 use Rattle.std.specs.Cmp.Lexicographic.{bytes_decides}
 use Rattle.std.proofs.lemmas.Bool.{false≢true}
 use Rattle.std.proofs.lemmas.Bool.Decides.{nat_tests}
-use Rattle.dir_values.specs.FlagSets.{has_flag, as_set}
+use Rattle.dir_values.specs.FlagSets.{has_flag}
 use Rattle.dir_values.proofs.Flags.{has_flag-as_set}
 use Rattle.vote_terms.specs.Votes.{ReadVote}
 use Rattle.count_terms.specs.Counts.{over}

@@ -1,8 +1,8 @@
 -- An RSA identity stands among the routers exactly where it is included and its flags have `Running` and `Valid`.
-use Rattle.std.proofs.Common.{◌≡◌, ℕ, Bool, true, false, cond, ◌&&◌, ◌||◌, List, [], ◌∷◌, ◌++◌, Option, Some, None, map, refl, sym, ap, ◌∙◌, subst}
-use Rattle.std.specs.Prelude.{is_some, filter, option_map, option_and_then, if◌then◌else◌}
+use Rattle.std.proofs.Common.{◌≡◌, ℕ, Bool, true, false, ◌&&◌, ◌||◌, List, [], ◌∷◌, Option, Some, None, map, refl, sym, ap, ◌∙◌}
+use Rattle.std.specs.Prelude.{is_some, option_map, option_and_then, if◌then◌else◌}
 use Rattle.std.specs.Option.{option_map_or}
-use Rattle.std.specs.List.{find, fold, filter_map, flat_map, list_any, cons_option}
+use Rattle.std.specs.List.{find, fold, filter_map, flat_map, list_any}
 use Rattle.std.specs.Str.{bytes_eq}
 use Rattle.std.specs.Cmp.{IsTotalOrder}
 use Rattle.std.specs.Cmp.Lexicographic.{bytes_decides}
@@ -18,15 +18,17 @@ use Rattle.dir_values.proofs.Flags.{has_flag-as_set}
 use Rattle.vote_terms.specs.Votes.{ReadVote}
 use Rattle.vote_terms.specs.declared.entry.EntryFacts.{EntryFacts}
 use Rattle.count_terms.specs.Choosing.{outdoes, chosen}
-use Rattle.field_votes.specs.Leading.{after, leader}
+use Rattle.field_votes.specs.Leading.{after}
 use Rattle.field_votes.proofs.Leaders.{leader_is_chosen}
 use Rattle.consensus_terms.specs.declared.router.Routerline.{Routerline}
 use Rattle.compute_terms.specs.declared.identity.EdPart.{EdPart}
-use Rattle.compute_terms.specs.Listings.{Listing, listing_in, listings, identities_of, identities_in, entries_of}
+use Rattle.compute_terms.specs.Listings.{Listing, listings, identities_of, identities_in, entries_of}
 use Rattle.compute_terms.specs.Identities.{eds_of, included_part}
 use Rattle.compute_terms.specs.RelayFlags.{router_flags, is_running_and_valid}
 use Rattle.compute_terms.specs.Tuples.{Tuple, tuple_of, tuple_order, chosen_tuple}
-use Rattle.compute_terms.specs.Bandwidths.{cap_of, default_unmeasured_limit}
+use Rattle.bandwidth_rules.specs.Limits.{unmeasured_limit}
+use Rattle.compute_terms.specs.Bandwidths.{cap_of}
+use Rattle.compute_terms.specs.Lists.{listed_params}
 use Rattle.compute_terms.specs.Routers.{routerline_of, belonging_listings, router_as, router_of}
 use Rattle.compute_terms.specs.Consensuses.{method}
 use Rattle.relay_select.specs.TupleOrder.{tuple_total, tuple_ties}
@@ -160,14 +162,18 @@ unlisted : (roster : ℕ) (votes : List ReadVote) (rsa : Fingerprint) (said : Li
 unlisted roster votes rsa [] e = unlisted_by votes (included_part roster (eds_of []))
 unlisted roster votes rsa (l ∷ said) e = absurd cc
 
-law_by : (b : Bool) (roster : ℕ) (votes : List ReadVote) (rsa : Fingerprint) → has_flag (bytes_in votes) rsa.0 ≡ b → (b && is_some (router_of roster method default_unmeasured_limit votes rsa)) ≡ is_listed_relay roster votes rsa
-law_by true roster votes rsa h = some_is roster method default_unmeasured_limit votes rsa
+-- the limit of bandwidths of the consensus
+abbrev limit_of : ℕ → List ReadVote → ℕ
+limit_of roster votes = unmeasured_limit (listed_params roster votes)
+
+law_by : (b : Bool) (roster : ℕ) (votes : List ReadVote) (rsa : Fingerprint) → has_flag (bytes_in votes) rsa.0 ≡ b → (b && is_some (router_of roster method (limit_of roster votes) votes rsa)) ≡ is_listed_relay roster votes rsa
+law_by true roster votes rsa h = some_is roster method (limit_of roster votes) votes rsa
 law_by false roster votes rsa h = sym (unlisted roster votes rsa (listings votes rsa) (nothing_said votes rsa h))
 
 pub listed_law : ListedRelaysAreListed
 listed_law roster votes rsa =
-    let f = router_of roster method default_unmeasured_limit votes in
+    let f = router_of roster method (limit_of roster votes) votes in
     let where_listed : among (identities_in votes) rsa ≡ has_flag (bytes_in votes) rsa.0 = among_map (as_set (bytes_in votes)) rsa ∙ has_flag-as_set (bytes_in votes) rsa.0 in
-    has f (named roster method default_unmeasured_limit votes) rsa (identities_in votes)
+    has f (named roster method (limit_of roster votes) votes) rsa (identities_in votes)
     ∙ ap (λ (b : Bool). b && is_some (f rsa)) where_listed
     ∙ law_by _ roster votes rsa refl

@@ -31,4 +31,4 @@ is_listed_relay roster votes rsa =
 -- and `Valid`.
 abbrev pub ListedRelaysAreListed : Type 0
 ListedRelaysAreListed = (roster : ℕ) (votes : List ReadVote) (rsa : Fingerprint)
-    → has_router (consensus roster votes).routers rsa ≡ is_listed_relay roster votes rsa
+    → has_router (consensus roster votes).facts.routers rsa ≡ is_listed_relay roster votes rsa

@@ -1,7 +1,6 @@
 -- At most one pair of an RSA identity is included: no `id` line names two parts.
-use Rattle.std.proofs.Common.{◌≡◌, ℕ, ◌+◌, ◌*◌, ◌<◌, ◌≤◌, Bool, true, false, cond, ltb, List, [], ◌∷◌, length, refl, sym, ap, ◌∙◌, arith}
-use Rattle.std.specs.Prelude.{count_by, filter}
-use Rattle.std.specs.Str.{bytes_eq}
+use Rattle.std.proofs.Common.{◌≡◌, ℕ, ◌+◌, ◌≤◌, Bool, true, false, List, [], ◌∷◌, length, refl, sym, ap, ◌∙◌, arith}
+use Rattle.std.specs.Prelude.{filter}
 use Rattle.std.specs.Cmp.Lexicographic.{bytes_decides}
 use Rattle.std.proofs.lemmas.Bool.{ltb-true, false≢true}
 use Rattle.std.proofs.lemmas.List.Sums.{length-filter}
@@ -9,7 +8,6 @@ use Rattle.relay_entries.specs.declared.said.EdOpinion.{EdOpinion}
 use Rattle.relay_entries.specs.declared.said.EdOpinion.TheVariants as said
 use Rattle.compute_terms.specs.declared.identity.EdPart.{EdPart}
 use Rattle.compute_terms.specs.declared.identity.EdPart.TheVariants as part
-use Rattle.count_terms.specs.Counts.{over}
 use Rattle.compute_terms.specs.Identities.{names, includes, PairsAreAlone}
 
 -- a line that names two parts names one

@@ -11,10 +11,6 @@ use Rattle.count_terms.specs.Counts.{low_median}
 abbrev pub measures_needed : ℕ
 measures_needed = 3
 
--- what a bandwidth that is not measured is at most where no parameter says it, in kilobytes per second
-abbrev pub default_unmeasured_limit : ℕ
-default_unmeasured_limit = 20
-
 -- what entries say was measured
 abbrev pub measured_values : List EntryFacts → List ℕ
 measured_values entries = filter_map measured_of entries

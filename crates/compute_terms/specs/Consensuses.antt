@@ -3,9 +3,12 @@ use Rattle.std.specs.Prelude.{ℕ, List, map}
 use Rattle.vote_terms.specs.Votes.{ReadVote, vote_digest}
 use Rattle.compute_terms.specs.Times.{median_of}
 use Rattle.compute_terms.specs.Flags.{known_flags}
-use Rattle.compute_terms.specs.Bandwidths.{default_unmeasured_limit}
+use Rattle.compute_terms.specs.Lists.{listed_params, lists_of}
+use Rattle.bandwidth_rules.specs.Limits.{unmeasured_limit}
 use Rattle.compute_terms.specs.Routers.{routers}
+use Rattle.bandwidth_rules.specs.Weights.{relay_weights}
 use Rattle.consensus_terms.specs.declared.consensus.Consensus.{Consensus}
+use Rattle.consensus_terms.specs.declared.consensus.ConsensusFacts.{ConsensusFacts}
 use Rattle.consensus_terms.specs.declared.consensus.SourceLine.{SourceLine}
 
 -- what a consensus says of a vote's authority
@@ -25,9 +28,9 @@ source_of vote = record {
 abbrev pub method : ℕ
 method = 32
 
--- the consensus of the held votes, where the roster has so many authorities
-abbrev pub consensus : ℕ → List ReadVote → Consensus
-consensus roster votes = record {
+-- what the consensus of votes says but for its weights, where the roster has so many authorities
+abbrev pub facts_of : ℕ → List ReadVote → ConsensusFacts
+facts_of roster votes = record {
   method = method;
   valid_after = median_of (λ vote. vote.says.valid_after) votes;
   fresh_until = median_of (λ vote. vote.says.fresh_until) votes;
@@ -35,6 +38,18 @@ consensus roster votes = record {
   vote_seconds = median_of (λ vote. vote.says.vote_seconds) votes;
   dist_seconds = median_of (λ vote. vote.says.dist_seconds) votes;
   known_flags = known_flags votes;
+  lists = lists_of roster votes;
   sources = map source_of votes;
-  routers = routers roster method default_unmeasured_limit votes;
+  routers = routers roster method (unmeasured_limit (listed_params roster votes)) votes;
 }
+
+-- the consensus that says this, with the weights that follow from its relays and its params
+abbrev pub weighted_consensus : ConsensusFacts → Consensus
+weighted_consensus facts = record {
+  facts = facts;
+  weights = relay_weights facts.routers facts.lists.params;
+}
+
+-- the consensus of the held votes, where the roster has so many authorities
+abbrev pub consensus : ℕ → List ReadVote → Consensus
+consensus roster votes = weighted_consensus (facts_of roster votes)

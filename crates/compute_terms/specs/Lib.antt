@@ -7,4 +7,5 @@ pub mod RelayFlags
 pub mod Lines
 pub mod Bandwidths
 pub mod Routers
+pub mod Lists
 pub mod Consensuses

@@ -4,7 +4,6 @@ use Rattle.std.specs.Prelude.{ℕ, Bool, true, false, ◌&&◌, List, count_by, 
 use Rattle.std.specs.Str.{bytes_eq}
 use Rattle.dir_values.specs.FlagSets.{has_flag, as_set}
 use Rattle.vote_terms.specs.Votes.{ReadVote}
-use Rattle.vote_terms.specs.declared.entry.EntryFacts.{EntryFacts}
 use Rattle.count_terms.specs.Counts.{over}
 use Rattle.compute_terms.specs.declared.identity.EdPart.{EdPart}
 use Rattle.compute_terms.specs.declared.identity.EdPart.TheVariants as part

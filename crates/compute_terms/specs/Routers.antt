@@ -1,5 +1,5 @@
 -- The relays that a consensus lists (dir-spec, "Computing a consensus from a set of votes").
-use Rattle.std.specs.Prelude.{ℕ, Bool, false, List, filter, Option, Some, None, option_map, option_and_then, if◌then◌else◌}
+use Rattle.std.specs.Prelude.{ℕ, List, filter, Option, None, option_map, option_and_then, if◌then◌else◌}
 use Rattle.std.specs.List.{filter_map}
 use Rattle.dir_values.specs.declared.digest.Fingerprint.{Fingerprint}
 use Rattle.vote_terms.specs.Votes.{ReadVote}

@@ -1,2 +1,3 @@
 pub mod Calculating
 pub mod Timings
+pub mod ListLines

@@ -1,12 +1,14 @@
-//! The consensus of the votes that are held, and its text without signatures.
+//! The consensus of the votes that are held.
 #![tactic(auto)]
 
-mod counts;
 mod flags;
+mod lists;
+mod protocol_lists;
 mod record;
 mod timing;
+mod version_lists;
+mod weights;
 
-pub use consensus_text::unsigned;
 pub use record::{CalcFault, compute};
 
 #[cfg(test)]

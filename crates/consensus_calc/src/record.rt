@@ -3,20 +3,20 @@ ghost use Rattle.std.specs.Prelude.{◌≡◌, IfOk, map};
 ghost use Rattle.compute_terms.specs.Consensuses as terms;
 ghost use Rattle.consensus_calc.specs.Calculating.{Calculates, HasMoments};
 
-use crate::counts::over;
 use crate::flags::known_flags;
+use crate::lists::lists_of;
 use crate::timing::{Timing, median};
-use consensus_terms::{Consensus, SourceLine};
+use crate::weights::weighted_consensus;
+use bandwidth_rules::unmeasured_limit;
+use consensus_terms::{Consensus, ConsensusFacts, SourceLine};
 use dir_bytes::{Memory, Seq, Text};
+use relay_select::over;
 use router_calc::routers;
 use std::alloc::Global;
 use vote_doc::{Accepted, HeldVote, Vote};
 
 /// The consensus method.
 const METHOD: u32 = 32;
-
-/// What a bandwidth that is not measured is at most, in kilobytes per second, where enough votes measure.
-const UNMEASURED_LIMIT: u32 = 20;
 
 /// Why there is no consensus.
 #[derive(Clone, Copy, Debug, PartialEq, Eq)]
@@ -38,26 +38,33 @@ impl From<Memory> for CalcFault {
 }
 
 /// The consensus of the held votes (dir-spec, "Computing a consensus from a set of votes"), where the roster has so many
-/// authorities. `TooFew` comes where the votes are not of more than half of it, and `Memory` where there is no memory.
+/// authorities.
+///
+/// # Errors
+/// `TooFew` where the votes are not of more than half of the roster. `Memory` is want of memory; it comes too where 2^22 relays
+/// or more would be listed, whose entries no machine has the memory for.
 pub fn compute(alloc: Global, roster: u32, votes: &Accepted) -> Result<Consensus, CalcFault>
     ensures calculates { Calculates roster votes.now.votes result }
-    ensures moments { IfOk result (λ c. HasMoments c) }
+    ensures moments { IfOk result (λ c. HasMoments c.facts) }
 {
     let held = votes.len() as u64;
     if !over(held, roster) {
         return Err(CalcFault::TooFew { held, roster });
     }
-    Ok(consensus_of(alloc, roster, votes)?)
+    let facts = facts_of(alloc, roster, votes)?;
+    Ok(weighted_consensus(facts)?)
 }
 
-/// The consensus of votes, whether or not they are of more than half of the roster.
-fn consensus_of(alloc: Global, roster: u32, votes: &Accepted) -> Result<Consensus, Memory>
-    ensures value { IfOk result (λ c. c ≡ terms.consensus roster votes.now.votes) }
-    ensures moments { IfOk result (λ c. HasMoments c) }
+/// What the consensus of votes says but for its weights, whether or not they are of more than half of the roster.
+fn facts_of(alloc: Global, roster: u32, votes: &Accepted) -> Result<ConsensusFacts, Memory>
+    ensures value { IfOk result (λ facts. facts ≡ terms.facts_of roster votes.now.votes) }
+    ensures moments { IfOk result (λ facts. HasMoments facts) }
 {
+    let lists = lists_of(alloc, roster, votes)?;
+    let limit = unmeasured_limit(&lists.params);
     let known_flags = known_flags(alloc, votes)?;
-    let routers = routers(alloc, roster, METHOD, UNMEASURED_LIMIT, &known_flags, votes)?;
-    Ok(Consensus {
+    let routers = routers(alloc, roster, METHOD, limit, &known_flags, votes)?;
+    Ok(ConsensusFacts {
         method: METHOD,
         valid_after: median(alloc, votes, Timing::ValidAfter)?,
         fresh_until: median(alloc, votes, Timing::FreshUntil)?,
@@ -65,6 +72,7 @@ fn consensus_of(alloc: Global, roster: u32, votes: &Accepted) -> Result<Consensu
         vote_seconds: median(alloc, votes, Timing::VoteSeconds)? as u32,
         dist_seconds: median(alloc, votes, Timing::DistSeconds)? as u32,
         known_flags,
+        lists,
         sources: sources(alloc, votes)?,
         routers,
     })

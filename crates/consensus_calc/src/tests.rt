@@ -1,13 +1,7 @@
-// A median, and a consensus that too few votes make.
-use crate::counts::low_median;
+// A consensus that too few votes make.
 use crate::{CalcFault, compute};
 use std::test::Fail;
 use vote_doc::Accepted;
-
-#[test]
-fn the_low_median_is_the_lower_of_two(rt: HostRuntime) {
-    assert_eq!(rt; low_median(&[4, 1, 3, 2]), 2);
-}
 
 #[test]
 fn no_vote_is_too_few(rt: HostRuntime) -> Result<(), Fail> {

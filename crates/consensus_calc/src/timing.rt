@@ -1,10 +1,11 @@
 // The times of a consensus.
 ghost use Rattle.std.specs.Prelude.{◌≡◌, ◌≤◌, IfOk, All, map};
 ghost use Rattle.compute_terms.specs.Times.{median_of};
+ghost use Rattle.count_terms.specs.Counts as counts;
 ghost use Rattle.consensus_calc.specs.Timings as timings;
 
-use crate::counts::low_median;
 use dir_bytes::Memory;
+use field_votes::low_median_u64;
 use std::alloc::Global;
 use vote_doc::{Accepted, Vote};
 
@@ -18,7 +19,7 @@ pub enum Timing {
     DistSeconds,
 }
 
-// What a vote says.
+/// What a vote says.
 fn said(vote: &Vote, timing: Timing) -> u64
     ensures value { result ≡ timings.said timing vote.now }
     ensures within { result ≤ timings.most timing }
@@ -32,7 +33,7 @@ fn said(vote: &Vote, timing: Timing) -> u64
     }
 }
 
-// What the votes say, in their order.
+/// What the votes say, in their order.
 fn all_said(alloc: Global, votes: &Accepted, timing: Timing) -> Result<Vec<u64>, Memory>
     ensures values { IfOk result (λ values. values.items ≡ map (timings.said timing) votes.now.votes) }
     ensures within { IfOk result (λ values. All (λ value. value ≤ timings.most timing) values.items) }
@@ -50,6 +51,17 @@ pub fn median(alloc: Global, votes: &Accepted, timing: Timing) -> Result<u64, Me
     ensures value { IfOk result (λ value. value ≡ median_of (timings.said timing) votes.now.votes) }
     ensures within { IfOk result (λ value. value ≤ timings.most timing) }
 {
-    let values = all_said(alloc, votes, timing)?;
-    Ok(low_median(&values))
+    let mut values = all_said(alloc, votes, timing)?;
+    Ok(low_median(&mut values))
+}
+
+/// The low median of some values, and 0 of none. It leaves them in ascending order.
+fn low_median(values: &mut Vec<u64>) -> u64
+    ensures { result ≡ counts.low_median values.old.items }
+{
+    if values.is_empty() {
+        return 0;
+    }
+    values.sort_unstable();
+    low_median_u64(values)
 }

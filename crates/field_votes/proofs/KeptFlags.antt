@@ -8,7 +8,8 @@ use Rattle.dir_values.specs.FlagSets.{with_flag}
 use Rattle.field_votes.specs.Private.{with_flag_if}
 
 -- the flag at a place, and those behind it
-one_more : (flags : List (List ℕ)) (flag : List ℕ) (i : ℕ) → slice_get flags i ≡ Some flag → drop i flags ≡ flag ∷ drop (i + 1) flags
+pub one_more : (flags : List (List ℕ)) (flag : List ℕ) (i : ℕ) → slice_get flags i ≡ Some flag
+    → drop i flags ≡ flag ∷ drop (i + 1) flags
 one_more flags flag i there =
     let next : suc i ≡ i + 1 = omega arith in
     drop-cons flags i [] (slice_get_within flags i flag there)

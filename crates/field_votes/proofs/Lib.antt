@@ -4,3 +4,6 @@ pub mod OwnFlags
 pub mod KeptFlags
 pub mod NamedLists
 pub mod ListedMasks
+pub mod VersionTexts
+pub mod VersionSets
+pub mod VotedVersions

@@ -1,6 +1,6 @@
-// Params and protocols that lists agree on.
-use crate::{params, protocols};
-use list_values::{Params, ProtoRanges};
+// Params, versions and protocols that lists agree on.
+use crate::{params, protocols, versions};
+use list_values::{Params, ProtoRanges, VersionList};
 use std::test::Fail;
 
 #[test]
@@ -40,5 +40,29 @@ fn numbers_of_a_protocol_are_those_of_most_lists(rt: HostRuntime) -> Result<(), 
     let mut out = Vec::new(alloc);
     protocols(alloc, &lists)?.push(&mut out)?;
     assert_eq!(rt; out.as_slice(), b"Link=4-5".as_slice());
+    Ok(())
+}
+
+#[test]
+fn a_version_is_that_of_most_lists_that_are_there(rt: HostRuntime) -> Result<(), Fail> {
+    let alloc = rt.alloc();
+    let mut lists = Vec::new(alloc);
+    lists.push(Some(VersionList::read(alloc, b"0.4.8.9,0.4.8.12")?))?;
+    lists.push(Some(VersionList::read(alloc, b"0.4.8.12")?))?;
+    lists.push(None)?;
+    let mut out = Vec::new(alloc);
+    versions(alloc, &lists)?.push(&mut out)?;
+    assert_eq!(rt; out.as_slice(), b"0.4.8.12".as_slice());
+    Ok(())
+}
+
+#[test]
+fn versions_stand_in_their_own_order_and_once(rt: HostRuntime) -> Result<(), Fail> {
+    let alloc = rt.alloc();
+    let mut lists = Vec::new(alloc);
+    lists.push(Some(VersionList::read(alloc, b"0.4.8.12,0.4.8.9,0.4.8.12")?))?;
+    let mut out = Vec::new(alloc);
+    versions(alloc, &lists)?.push(&mut out)?;
+    assert_eq!(rt; out.as_slice(), b"0.4.8.9,0.4.8.12".as_slice());
     Ok(())
 }

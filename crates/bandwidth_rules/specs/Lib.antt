@@ -1,0 +1,4 @@
+pub mod Limits
+pub mod Classes
+pub mod Private
+pub mod Weights

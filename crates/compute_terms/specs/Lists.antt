@@ -1,0 +1,36 @@
+-- The versions, protocols and params of a consensus (dir-spec, "Computing a consensus from a set of votes").
+use Rattle.std.specs.Prelude.{ℕ, ℤ, List, [], map, Option, unwrap_or}
+use Rattle.field_votes.specs.Lists.{voted_params, voted_protocols}
+use Rattle.field_votes.specs.Versions.{voted_versions}
+use Rattle.list_values.specs.declared.named.Named.{Named}
+use Rattle.vote_terms.specs.Votes.{ReadVote}
+use Rattle.vote_terms.specs.declared.lists.VoteLists.{VoteLists}
+use Rattle.consensus_terms.specs.declared.consensus.ConsensusLists.{ConsensusLists}
+
+-- what each vote has on a line, nothing where it has not the line
+abbrev pub members_of : {A : Type 0} → (VoteLists → Option (List A)) → List ReadVote → List (List A)
+members_of line votes = map (λ (vote : ReadVote). unwrap_or (line vote.says.lists) []) votes
+
+-- the params: those that enough votes have, each with the low median of its values
+abbrev pub listed_params : ℕ → List ReadVote → List (Named ℤ)
+listed_params roster votes = voted_params roster (members_of (λ (lists : VoteLists). lists.params) votes)
+
+-- a line of versions: those that more than half of the votes with the line have on it
+abbrev pub listed_versions : (VoteLists → Option (List (List ℕ))) → List ReadVote → List (List ℕ)
+listed_versions line votes = voted_versions (map (λ (vote : ReadVote). line vote.says.lists) votes)
+
+-- a line of protocols: the numbers that more than half of all votes have on it
+abbrev pub listed_protocols : (VoteLists → Option (List (Named (List ℕ)))) → List ReadVote → List (Named (List ℕ))
+listed_protocols line votes = voted_protocols (members_of line votes)
+
+-- the lists of the consensus of votes, where the roster has so many authorities
+abbrev pub lists_of : ℕ → List ReadVote → ConsensusLists
+lists_of roster votes = record {
+  client_versions = listed_versions (λ (lists : VoteLists). lists.client_versions) votes;
+  server_versions = listed_versions (λ (lists : VoteLists). lists.server_versions) votes;
+  recommended_client_protocols = listed_protocols (λ (lists : VoteLists). lists.recommended_client_protocols) votes;
+  recommended_relay_protocols = listed_protocols (λ (lists : VoteLists). lists.recommended_relay_protocols) votes;
+  required_client_protocols = listed_protocols (λ (lists : VoteLists). lists.required_client_protocols) votes;
+  required_relay_protocols = listed_protocols (λ (lists : VoteLists). lists.required_relay_protocols) votes;
+  params = listed_params roster votes;
+}
