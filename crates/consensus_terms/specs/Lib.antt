@@ -1,4 +1,6 @@
 pub mod Lines
-pub mod Routers
 pub mod Moments
+pub mod Routers
+pub mod Weights
 pub mod Texts
+pub mod Signed

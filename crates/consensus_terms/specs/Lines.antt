@@ -1,15 +1,21 @@
 -- The lines of a consensus (dir-spec, meta-format).
-use Rattle.std.specs.Prelude.{ℕ, List, [], ◌∷◌, ◌++◌, Option, Some, None}
+use Rattle.std.specs.Prelude.{ℕ, List, [], ◌∷◌, ◌++◌, Option, Some, None, decimal}
 use Rattle.std.specs.List.{flat_map}
 use Rattle.item_terms.specs.Bytes.{space, line_feed}
+use Rattle.list_values.specs.Equations.{equals}
 
 -- a word behind a space
 abbrev pub behind_space : List ℕ → List ℕ
 behind_space word = space ∷ word
 
 -- a line of a keyword and its arguments, with single spaces
-abbrev pub line : List ℕ → List (List ℕ) → List ℕ
+unfoldable pub line : List ℕ → List (List ℕ) → List ℕ
 line keyword words = keyword ++ flat_map behind_space words ++ line_feed ∷ []
+
+-- the line of a list, which has its text and stands where the list is not empty
+abbrev pub list_line : {X : Type 0} → (List X → List ℕ) → List ℕ → List X → List ℕ
+list_line text_of keyword [] = []
+list_line text_of keyword (first ∷ rest) = line keyword (text_of (first ∷ rest) ∷ [])
 
 -- the arguments that the rest of a line has: none where it is empty
 abbrev pub rest_words : List ℕ → List (List ℕ)
@@ -20,3 +26,7 @@ rest_words (byte ∷ rest) = (byte ∷ rest) ∷ []
 abbrev pub rest_line : List ℕ → Option (List ℕ) → List ℕ
 rest_line keyword None = []
 rest_line keyword (Some rest) = line keyword (rest_words rest)
+
+-- a name with a number
+unfoldable pub named_text : List ℕ → ℕ → List ℕ
+named_text name number = name ++ equals ∷ decimal number

@@ -1,11 +1,65 @@
 -- The text of a consensus without its signatures (dir-spec, "Vote and consensus status document formats").
-use Rattle.std.specs.Prelude.{ℕ, List, [], ◌∷◌, ◌++◌, codes, decimal}
+use Rattle.std.specs.Prelude.{ℕ, List, [], ◌∷◌, ◌++◌, Option, codes, decimal}
 use Rattle.std.specs.List.{flat_map}
+use Rattle.bw_weights.specs.declared.position_weights.Weights.{Weights}
 use Rattle.dir_bytes.specs.FieldTexts.{moment_text, hex_text, address_text}
+use Rattle.list_values.specs.Params.{params_text}
+use Rattle.list_values.specs.Protocols.{protocols_text}
+use Rattle.list_values.specs.VersionLists.{versions_text}
 use Rattle.consensus_terms.specs.declared.consensus.Consensus.{Consensus}
+use Rattle.consensus_terms.specs.declared.consensus.ConsensusFacts.{ConsensusFacts}
+use Rattle.consensus_terms.specs.declared.consensus.ConsensusLists.{ConsensusLists}
+use Rattle.consensus_terms.specs.declared.consensus.SignedConsensus.{SignedConsensus}
 use Rattle.consensus_terms.specs.declared.consensus.SourceLine.{SourceLine}
-use Rattle.consensus_terms.specs.Lines.{line, rest_line}
-use Rattle.consensus_terms.specs.Routers.{router_lines}
+use Rattle.consensus_terms.specs.declared.flavour.Flavour.{Flavour}
+use Rattle.consensus_terms.specs.declared.flavour.Flavour.TheVariants.{Ns, Microdesc}
+use Rattle.consensus_terms.specs.Lines.{line, list_line, rest_line}
+use Rattle.consensus_terms.specs.Routers.{listed_lines}
+use Rattle.consensus_terms.specs.Weights.{weight_words}
+
+-- ---- the preamble
+
+-- the version of the document, and its flavour where it is not ns
+abbrev pub version_words : Flavour → List (List ℕ)
+version_words Ns = codes "3" ∷ []
+version_words Microdesc = codes "3" ∷ codes "microdesc" ∷ []
+
+-- what the document is, and the method
+abbrev pub kind_lines : Flavour → ℕ → List ℕ
+kind_lines flavour method =
+    line (codes "network-status-version") (version_words flavour)
+    ++ line (codes "vote-status") (codes "consensus" ∷ [])
+    ++ line (codes "consensus-method") (decimal method ∷ [])
+
+-- its times
+abbrev pub time_lines : ConsensusFacts → List ℕ
+time_lines c =
+    line (codes "valid-after") (moment_text c.valid_after ∷ [])
+    ++ line (codes "fresh-until") (moment_text c.fresh_until ∷ [])
+    ++ line (codes "valid-until") (moment_text c.valid_until ∷ [])
+    ++ line (codes "voting-delay") (decimal c.vote_seconds ∷ decimal c.dist_seconds ∷ [])
+
+-- the versions that are recommended to clients and to relays, where there are some
+abbrev pub version_lines : ConsensusLists → List ℕ
+version_lines lists =
+    list_line versions_text (codes "client-versions") lists.client_versions
+    ++ list_line versions_text (codes "server-versions") lists.server_versions
+
+-- the four lists of protocols, each where it is not empty
+abbrev pub protocol_lines : ConsensusLists → List ℕ
+protocol_lines lists =
+    list_line protocols_text (codes "recommended-client-protocols") lists.recommended_client_protocols
+    ++ list_line protocols_text (codes "recommended-relay-protocols") lists.recommended_relay_protocols
+    ++ list_line protocols_text (codes "required-client-protocols") lists.required_client_protocols
+    ++ list_line protocols_text (codes "required-relay-protocols") lists.required_relay_protocols
+
+-- the preamble
+abbrev pub preamble : Flavour → ConsensusFacts → List ℕ
+preamble flavour c =
+    kind_lines flavour c.method ++ time_lines c ++ version_lines c.lists ++ line (codes "known-flags") c.known_flags
+    ++ protocol_lines c.lists ++ list_line params_text (codes "params") c.lists.params
+
+-- ---- the authorities
 
 -- who an authority is, and where
 abbrev pub source_words : SourceLine → List (List ℕ)
@@ -20,37 +74,26 @@ source_lines source =
     ++ rest_line (codes "contact") source.contact
     ++ line (codes "vote-digest") (hex_text source.vote_digest.0 ∷ [])
 
--- what the document is, and the method
-abbrev pub kind_lines : ℕ → List ℕ
-kind_lines method =
-    line (codes "network-status-version") (codes "3" ∷ [])
-    ++ line (codes "vote-status") (codes "consensus" ∷ [])
-    ++ line (codes "consensus-method") (decimal method ∷ [])
+-- ---- the whole
 
--- its times
-abbrev pub time_lines : Consensus → List ℕ
-time_lines c =
-    line (codes "valid-after") (moment_text c.valid_after ∷ [])
-    ++ line (codes "fresh-until") (moment_text c.fresh_until ∷ [])
-    ++ line (codes "valid-until") (moment_text c.valid_until ∷ [])
-    ++ line (codes "voting-delay") (decimal c.vote_seconds ∷ decimal c.dist_seconds ∷ [])
-
--- the method, the times, and the flags that are known
-abbrev pub preamble : Consensus → List ℕ
-preamble c = kind_lines c.method ++ time_lines c ++ line (codes "known-flags") c.known_flags
-
--- the weights of a network without relays, each class of which counts 1
-abbrev pub weights : List (List ℕ)
-weights =
-    codes "Wbd=3333" ∷ codes "Wbe=0" ∷ codes "Wbg=0" ∷ codes "Wbm=10000" ∷ codes "Wdb=10000"
-    ∷ codes "Web=10000" ∷ codes "Wed=3333" ∷ codes "Wee=10000" ∷ codes "Weg=3333" ∷ codes "Wem=10000"
-    ∷ codes "Wgb=10000" ∷ codes "Wgd=3333" ∷ codes "Wgg=10000"
-    ∷ codes "Wgm=10000" ∷ codes "Wmb=10000" ∷ codes "Wmd=3333" ∷ codes "Wme=0" ∷ codes "Wmg=0" ∷ codes "Wmm=10000" ∷ []
+-- the text before the footer: the preamble, the authorities, and the relays that the flavour lists
+unfoldable pub body : Flavour → ConsensusFacts → List ℕ
+body flavour c = preamble flavour c ++ flat_map source_lines c.sources ++ flat_map (listed_lines flavour) c.routers
 
 -- the footer, up to the signatures
-abbrev pub footer : List ℕ
-footer = line (codes "directory-footer") [] ++ line (codes "bandwidth-weights") weights
+abbrev pub footer : Weights → List ℕ
+footer weights = line (codes "directory-footer") [] ++ line (codes "bandwidth-weights") (weight_words weights)
 
--- the text of the ns flavour
-abbrev pub unsigned : Consensus → List ℕ
-unsigned c = preamble c ++ flat_map source_lines c.sources ++ flat_map router_lines c.routers ++ footer
+-- the text without signatures
+unfoldable pub unsigned : Flavour → Consensus → List ℕ
+unsigned flavour c = body flavour c.facts ++ footer c.weights
+
+-- ---- of a consensus that was read
+
+-- its footer, which has weights where they stand there
+abbrev pub footer_as_read : Option (List ℕ) → List ℕ
+footer_as_read weights = line (codes "directory-footer") [] ++ rest_line (codes "bandwidth-weights") weights
+
+-- its text without signatures
+unfoldable pub facts_text : SignedConsensus → List ℕ
+facts_text c = body c.flavour c.facts ++ footer_as_read c.weights

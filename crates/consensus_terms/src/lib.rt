@@ -1,8 +1,13 @@
-//! What a consensus says: the plain record, and in `specs/` its text without signatures. No vote stands below it.
+//! What a consensus says: the plain records, and in `specs/` the definitions of its texts. No vote stands below it.
 #![tactic(auto)]
 
 mod consensus;
+mod flavour;
 mod router;
+mod signature;
 
-pub use consensus::{Consensus, SourceLine};
+pub use bw_weights::Weights;
+pub use consensus::{Consensus, ConsensusFacts, ConsensusLists, SignedConsensus, SourceLine};
+pub use flavour::Flavour;
 pub use router::{Bandwidth, Routerline};
+pub use signature::{Digests, SignatureLine};

@@ -1,76 +1,115 @@
-// What stands before the lines of authorities: the method, the times, and the flags that are known.
-ghost use Rattle.std.specs.Prelude.{◌≡◌, ◌≤◌, ◌++◌, ◌∷◌, [], OnOk, decimal};
-ghost use Rattle.dir_bytes.specs.Causes.{last_moment};
-ghost use Rattle.dir_bytes.specs.FieldTexts.{moment_text};
-ghost use Rattle.consensus_terms.specs.Lines.{line};
+// The lines of a consensus before its authorities and relays.
+ghost use Rattle.std.specs.Prelude.{◌≡◌, codes};
+ghost use Rattle.std.specs.List.{flat_map};
+ghost use Rattle.text_page.specs.Pages.{with_text};
+ghost use Rattle.consensus_terms.specs.Lines.{behind_space, line, list_line};
 ghost use Rattle.consensus_terms.specs.Moments.{HasMoments};
 ghost use Rattle.consensus_terms.specs.Texts as texts;
 
-use crate::words::{push_flags_line, push_moment, push_number};
-use consensus_terms::Consensus;
-use dir_bytes::Memory;
+use crate::lists::{put_params_line, put_protocols_line, put_versions_line};
+use crate::words::{
+    put_flags_line, put_moment_line, put_number_line, put_two_numbers_line, put_word, put_word_line,
+};
+use consensus_terms::{ConsensusFacts, ConsensusLists, Flavour};
+use text_page::Page;
 
-/// Appends the preamble.
-#[tactic(auto, using(crate::proofs::Pieces::pieces))]
-pub fn push_preamble(out: &mut Vec<u8>, consensus: &Consensus) -> Result<(), Memory>
-    requires { HasMoments consensus.now }
-    ensures { OnOk result (out.new.items ≡ out.old.items ++ texts.preamble consensus.now) }
+/// Puts the version of the document, and its flavour.
+#[tactic(auto, using(text_page::proofs::Pages::pages))]
+fn put_version(page: &mut Page, flavour: Flavour)
+    ensures { page.new ≡ with_text page.old (flat_map behind_space (texts.version_words flavour)) }
 {
-    push_kind(out, consensus.method)?;
-    push_times(out, consensus)?;
-    push_flags_line(out, b"known-flags", &consensus.known_flags)?;
-    Ok(())
+    match flavour {
+        Flavour::Ns => put_word(page, b"3"),
+        Flavour::Microdesc => {
+            put_word(page, b"3");
+            put_word(page, b"microdesc");
+        }
+    }
 }
 
-/// Appends what the document is, and the method.
-#[tactic(auto, using(crate::proofs::Pieces::pieces))]
-fn push_kind(out: &mut Vec<u8>, method: u32) -> Result<(), Memory>
-    ensures { OnOk result (out.new.items ≡ out.old.items ++ texts.kind_lines method) }
+/// Puts the line of the version.
+#[tactic(auto, using(text_page::proofs::Pages::pages), unfolding(consensus_terms::specs::Lines::line))]
+fn put_version_line(page: &mut Page, keyword: &[u8], flavour: Flavour)
+    ensures { page.new ≡ with_text page.old (line keyword.now (texts.version_words flavour)) }
 {
-    out.extend_from_slice(b"network-status-version 3\nvote-status consensus\nconsensus-method")?;
-    push_number(out, method as u64)?;
-    out.push(b'\n')?;
-    Ok(())
+    page.put(keyword);
+    put_version(page, flavour);
+    page.put(b"\n");
 }
 
-/// Appends the times.
-#[tactic(auto, using(crate::proofs::Pieces::pieces))]
-fn push_times(out: &mut Vec<u8>, consensus: &Consensus) -> Result<(), Memory>
-    requires { HasMoments consensus.now }
-    ensures { OnOk result (out.new.items ≡ out.old.items ++ texts.time_lines consensus.now) }
+/// Puts what the document is, and the method.
+#[tactic(auto, using(text_page::proofs::Pages::pages))]
+fn put_kind(page: &mut Page, flavour: Flavour, method: u32)
+    ensures { page.new ≡ with_text page.old (texts.kind_lines flavour method) }
 {
-    push_moment_line(out, b"valid-after", consensus.valid_after)?;
-    push_moment_line(out, b"fresh-until", consensus.fresh_until)?;
-    push_moment_line(out, b"valid-until", consensus.valid_until)?;
-    push_delays(
-        out,
+    put_version_line(page, b"network-status-version", flavour);
+    put_word_line(page, b"vote-status", b"consensus");
+    put_number_line(page, b"consensus-method", method as u64);
+}
+
+/// Puts the times.
+#[tactic(auto, using(text_page::proofs::Pages::pages))]
+fn put_times(page: &mut Page, facts: &ConsensusFacts)
+    requires { HasMoments facts.now }
+    ensures { page.new ≡ with_text page.old (texts.time_lines facts.now) }
+{
+    put_moment_line(page, b"valid-after", facts.valid_after);
+    put_moment_line(page, b"fresh-until", facts.fresh_until);
+    put_moment_line(page, b"valid-until", facts.valid_until);
+    put_two_numbers_line(
+        page,
         b"voting-delay",
-        consensus.vote_seconds,
-        consensus.dist_seconds,
-    )?;
-    Ok(())
+        facts.vote_seconds,
+        facts.dist_seconds,
+    );
 }
 
-/// Appends a line of a keyword and a moment.
-#[tactic(auto, using(crate::proofs::Pieces::pieces))]
-fn push_moment_line(out: &mut Vec<u8>, keyword: &[u8], moment: u64) -> Result<(), Memory>
-    requires { moment ≤ last_moment }
-    ensures { OnOk result (out.new.items ≡ out.old.items ++ line keyword.now (moment_text moment ∷ [])) }
+/// Puts the versions.
+#[tactic(auto, using(text_page::proofs::Pages::pages))]
+fn put_versions(page: &mut Page, lists: &ConsensusLists)
+    ensures { page.new ≡ with_text page.old (texts.version_lines lists.now) }
 {
-    out.extend_from_slice(keyword)?;
-    push_moment(out, moment)?;
-    out.push(b'\n')?;
-    Ok(())
+    put_versions_line(page, b"client-versions", &lists.client_versions);
+    put_versions_line(page, b"server-versions", &lists.server_versions);
 }
 
-/// Appends a line of a keyword and two numbers.
-#[tactic(auto, using(crate::proofs::Pieces::pieces))]
-fn push_delays(out: &mut Vec<u8>, keyword: &[u8], first: u32, second: u32) -> Result<(), Memory>
-    ensures { OnOk result (out.new.items ≡ out.old.items ++ line keyword.now (decimal first ∷ decimal second ∷ [])) }
+/// Puts the four lists of protocols.
+#[tactic(auto, using(text_page::proofs::Pages::pages))]
+fn put_protocols(page: &mut Page, lists: &ConsensusLists)
+    ensures { page.new ≡ with_text page.old (texts.protocol_lines lists.now) }
 {
-    out.extend_from_slice(keyword)?;
-    push_number(out, first as u64)?;
-    push_number(out, second as u64)?;
-    out.push(b'\n')?;
-    Ok(())
+    put_protocols_line(
+        page,
+        b"recommended-client-protocols",
+        &lists.recommended_client_protocols,
+    );
+    put_protocols_line(
+        page,
+        b"recommended-relay-protocols",
+        &lists.recommended_relay_protocols,
+    );
+    put_protocols_line(
+        page,
+        b"required-client-protocols",
+        &lists.required_client_protocols,
+    );
+    put_protocols_line(
+        page,
+        b"required-relay-protocols",
+        &lists.required_relay_protocols,
+    );
+}
+
+/// Puts the preamble.
+#[tactic(auto, using(text_page::proofs::Pages::pages))]
+pub fn put_preamble(page: &mut Page, flavour: Flavour, facts: &ConsensusFacts)
+    requires { HasMoments facts.now }
+    ensures { page.new ≡ with_text page.old (texts.preamble flavour facts.now) }
+{
+    put_kind(page, flavour, facts.method);
+    put_times(page, facts);
+    put_versions(page, &facts.lists);
+    put_flags_line(page, b"known-flags", &facts.known_flags);
+    put_protocols(page, &facts.lists);
+    put_params_line(page, b"params", &facts.lists.params);
 }

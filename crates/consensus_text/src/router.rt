@@ -1,128 +1,157 @@
 // The lines of relays.
-ghost use Rattle.std.specs.Prelude.{◌≡◌, ◌≤◌, ◌++◌, OnOk, All, Some};
+ghost use Rattle.std.specs.Prelude.{◌≡◌, ◌≤◌, All};
 ghost use Rattle.std.specs.List.{flat_map};
 ghost use Rattle.dir_bytes.specs.Causes.{last_moment};
 ghost use Rattle.consensus_terms.specs.Lines.{behind_space};
-ghost use Rattle.consensus_terms.specs.Routers as routers;
+ghost use Rattle.consensus_terms.specs.Routers as relays;
+ghost use Rattle.text_page.specs.Pages.{with_text};
 
 use crate::words::{
-    push_base64_word, push_flags_line, push_ip, push_moment, push_number, push_rest_line, push_word,
+    put_address_word, put_digest1_word, put_digest2_word, put_flags_line, put_moment_word,
+    put_named_word, put_number_word, put_rest_line, put_word,
 };
-use consensus_terms::{Bandwidth, Routerline};
-use dir_bytes::{Memory, push_decimal};
+use consensus_terms::{Bandwidth, Flavour, Routerline};
+use dir_bytes::Text;
+use dir_values::Digest2;
+use text_page::Page;
 
-/// Appends the lines of each relay.
-pub fn push_routers(out: &mut Vec<u8>, listed: &[Routerline]) -> Result<(), Memory>
-    requires { All (λ router. router.published ≤ last_moment) listed.now }
-    ensures { OnOk result (out.new.items ≡ out.old.items ++ flat_map routers.router_lines listed.now) }
+/// Whether a flavour lists a relay.
+fn is_listed(flavour: Flavour, router: &Routerline) -> bool
+    ensures { result ≡ relays.is_listed flavour router.now }
 {
-    'routers: for router in listed {
-        push_router(out, router)?;
-    }
-    Ok(())
-}
-
-/// Appends the lines of one.
-#[tactic(auto, using(crate::proofs::Pieces::pieces))]
-fn push_router(out: &mut Vec<u8>, router: &Routerline) -> Result<(), Memory>
-    requires { router.now.published ≤ last_moment }
-    ensures { OnOk result (out.new.items ≡ out.old.items ++ routers.router_lines router.now) }
-{
-    push_names(out, router)?;
-    push_abilities(out, router)?;
-    Ok(())
-}
-
-/// Appends its lines up to its flags.
-#[tactic(auto, using(crate::proofs::Pieces::pieces))]
-fn push_names(out: &mut Vec<u8>, router: &Routerline) -> Result<(), Memory>
-    requires { router.now.published ≤ last_moment }
-    ensures { OnOk result (out.new.items ≡ out.old.items ++ routers.name_lines router.now) }
-{
-    push_r(out, router)?;
-    push_rest_line(out, b"a", &router.a)?;
-    push_flags_line(out, b"s", &router.flags)?;
-    Ok(())
-}
-
-/// Appends the lines that tell what it can.
-#[tactic(auto, using(crate::proofs::Pieces::pieces))]
-fn push_abilities(out: &mut Vec<u8>, router: &Routerline) -> Result<(), Memory>
-    ensures { OnOk result (out.new.items ≡ out.old.items ++ routers.ability_lines router.now) }
-{
-    push_rest_line(out, b"v", &router.v)?;
-    push_rest_line(out, b"pr", &router.pr)?;
-    push_w(out, router.w)?;
-    push_rest_line(out, b"p", &router.p)?;
-    Ok(())
-}
-
-/// Appends its `r` line.
-#[tactic(auto, using(crate::proofs::Pieces::pieces))]
-fn push_r(out: &mut Vec<u8>, router: &Routerline) -> Result<(), Memory>
-    requires { router.now.published ≤ last_moment }
-    ensures { OnOk result (out.new.items ≡ out.old.items ++ routers.r_line router.now) }
-{
-    out.push(b'r')?;
-    push_name(out, router)?;
-    push_base64_word(out, &router.digest.0)?;
-    push_place(out, router)?;
-    out.push(b'\n')?;
-    Ok(())
-}
-
-/// Appends how it is called.
-#[tactic(auto, using(crate::proofs::Pieces::pieces))]
-fn push_name(out: &mut Vec<u8>, router: &Routerline) -> Result<(), Memory>
-    ensures { OnOk result (out.new.items ≡ out.old.items ++ flat_map behind_space (routers.name_words router.now)) }
-{
-    push_word(out, router.nickname.as_bytes())?;
-    push_base64_word(out, &router.identity.0)?;
-    Ok(())
-}
-
-/// Appends when its descriptor was published, and where it is.
-#[tactic(auto, using(crate::proofs::Pieces::pieces))]
-fn push_place(out: &mut Vec<u8>, router: &Routerline) -> Result<(), Memory>
-    requires { router.now.published ≤ last_moment }
-    ensures { OnOk result (out.new.items ≡ out.old.items ++ flat_map behind_space (routers.place_words router.now)) }
-{
-    push_moment(out, router.published)?;
-    push_ip(out, router.ip)?;
-    push_number(out, router.or_port as u64)?;
-    push_number(out, router.dir_port as u64)?;
-    Ok(())
-}
-
-/// Appends its `w` line, where its bandwidth is known.
-fn push_w(out: &mut Vec<u8>, bandwidth: Option<Bandwidth>) -> Result<(), Memory>
-    ensures { OnOk result (out.new.items ≡ out.old.items ++ routers.w_line bandwidth) }
-{
-    match bandwidth {
-        None => Ok(()),
-        Some(bandwidth) => push_bandwidth(out, bandwidth),
+    match flavour {
+        Flavour::Ns => true,
+        Flavour::Microdesc => router.m.is_some(),
     }
 }
 
-/// Appends the `w` line of a bandwidth.
-#[tactic(auto, using(crate::proofs::Pieces::pieces))]
-fn push_bandwidth(out: &mut Vec<u8>, bandwidth: Bandwidth) -> Result<(), Memory>
-    ensures { OnOk result (out.new.items ≡ out.old.items ++ routers.w_line (Some bandwidth)) }
+/// The digest of its descriptor, in the ns flavour.
+#[tactic(auto, using(text_page::proofs::Pages::pages))]
+fn put_digest(page: &mut Page, flavour: Flavour, router: &Routerline)
+    ensures { page.new ≡ with_text page.old (flat_map behind_space (relays.digest_words flavour router.now)) }
 {
-    out.extend_from_slice(b"w Bandwidth=")?;
-    push_decimal(out, bandwidth.value as u64)?;
-    push_unmeasured(out, bandwidth.unmeasured)?;
-    out.push(b'\n')?;
-    Ok(())
+    match flavour {
+        Flavour::Ns => put_digest1_word(page, &router.digest.0),
+        Flavour::Microdesc => {}
+    }
 }
 
-/// Appends that too few authorities measured it, where that is so.
-#[tactic(auto, using(crate::proofs::Pieces::pieces))]
-fn push_unmeasured(out: &mut Vec<u8>, unmeasured: bool) -> Result<(), Memory>
-    ensures { OnOk result (out.new.items ≡ out.old.items ++ flat_map behind_space (routers.unmeasured_words unmeasured)) }
+/// When its descriptor was published, and where it is.
+#[tactic(auto, using(text_page::proofs::Pages::pages))]
+fn put_place(page: &mut Page, router: &Routerline)
+    requires { router.now.published ≤ last_moment }
+    ensures { page.new ≡ with_text page.old (flat_map behind_space (relays.place_words router.now)) }
+{
+    put_moment_word(page, router.published);
+    put_address_word(page, router.ip);
+    put_number_word(page, router.or_port as u64);
+    put_number_word(page, router.dir_port as u64);
+}
+
+/// Its `r` line.
+#[tactic(auto, using(text_page::proofs::Pages::pages), unfolding(consensus_terms::specs::Lines::line))]
+fn put_r(page: &mut Page, flavour: Flavour, router: &Routerline)
+    requires { router.now.published ≤ last_moment }
+    ensures { page.new ≡ with_text page.old (relays.r_line flavour router.now) }
+{
+    page.put(b"r");
+    put_word(page, router.nickname.as_bytes());
+    put_digest1_word(page, &router.identity.0);
+    put_digest(page, flavour, router);
+    put_place(page, router);
+    page.put(b"\n");
+}
+
+/// Its `m` line, in the microdesc flavour.
+#[tactic(auto, using(text_page::proofs::Pages::pages), unfolding(consensus_terms::specs::Lines::line))]
+fn put_m(page: &mut Page, flavour: Flavour, digest: Option<Digest2>)
+    ensures { page.new ≡ with_text page.old (relays.m_line flavour digest) }
+{
+    let (Flavour::Microdesc, Some(digest)) = (flavour, digest) else {
+        return;
+    };
+    page.put(b"m");
+    put_digest2_word(page, &digest.0);
+    page.put(b"\n");
+}
+
+/// Whether too few authorities measured it.
+#[tactic(auto, using(text_page::proofs::Pages::pages))]
+fn put_unmeasured(page: &mut Page, unmeasured: bool)
+    ensures { page.new ≡ with_text page.old (flat_map behind_space (relays.unmeasured_words unmeasured)) }
 {
     if unmeasured {
-        push_word(out, b"Unmeasured=1")?;
+        put_word(page, b"Unmeasured=1");
     }
-    Ok(())
+}
+
+/// Its `w` line.
+#[tactic(auto, using(text_page::proofs::Pages::pages), unfolding(consensus_terms::specs::Lines::line))]
+fn put_w(page: &mut Page, bandwidth: Option<Bandwidth>)
+    ensures { page.new ≡ with_text page.old (relays.w_line bandwidth) }
+{
+    let Some(bandwidth) = bandwidth else {
+        return;
+    };
+    page.put(b"w");
+    put_named_word(page, b"Bandwidth", bandwidth.value);
+    put_unmeasured(page, bandwidth.unmeasured);
+    page.put(b"\n");
+}
+
+/// Its `p` line, in the ns flavour.
+#[tactic(auto, using(text_page::proofs::Pages::pages))]
+fn put_p(page: &mut Page, flavour: Flavour, summary: &Option<Text>)
+    ensures { page.new ≡ with_text page.old (relays.p_line flavour summary.now) }
+{
+    match flavour {
+        Flavour::Ns => put_rest_line(page, b"p", summary),
+        Flavour::Microdesc => {}
+    }
+}
+
+/// Its lines up to its flags.
+#[tactic(auto, using(text_page::proofs::Pages::pages))]
+fn put_names(page: &mut Page, flavour: Flavour, router: &Routerline)
+    requires { router.now.published ≤ last_moment }
+    ensures { page.new ≡ with_text page.old (relays.name_lines flavour router.now) }
+{
+    put_r(page, flavour, router);
+    put_rest_line(page, b"a", &router.a);
+    put_m(page, flavour, router.m);
+    put_flags_line(page, b"s", &router.flags);
+}
+
+/// Its lines after its flags.
+#[tactic(auto, using(text_page::proofs::Pages::pages))]
+fn put_abilities(page: &mut Page, flavour: Flavour, router: &Routerline)
+    ensures { page.new ≡ with_text page.old (relays.ability_lines flavour router.now) }
+{
+    put_rest_line(page, b"v", &router.v);
+    put_rest_line(page, b"pr", &router.pr);
+    put_w(page, router.w);
+    put_p(page, flavour, &router.p);
+}
+
+/// Its lines, where a flavour lists it.
+#[tactic(auto, using(text_page::proofs::Pages::pages))]
+fn put_router(page: &mut Page, flavour: Flavour, router: &Routerline)
+    requires { router.now.published ≤ last_moment }
+    ensures { page.new ≡ with_text page.old (relays.listed_lines flavour router.now) }
+{
+    if is_listed(flavour, router) {
+        put_names(page, flavour, router);
+        put_abilities(page, flavour, router);
+    }
+}
+
+/// Puts the lines of the relays that a flavour lists.
+#[tactic(auto, using(text_page::proofs::Pages::pages))]
+pub fn put_routers(page: &mut Page, flavour: Flavour, routers: &[Routerline])
+    requires { All (λ router. router.published ≤ last_moment) routers.now }
+    ensures { page.new ≡ with_text page.old (flat_map (relays.listed_lines flavour) routers.now) }
+{
+    'routers: for router in routers {
+        put_router(page, flavour, router);
+    }
 }

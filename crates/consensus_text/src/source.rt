@@ -1,65 +1,47 @@
-// The lines of authorities.
-ghost use Rattle.std.specs.Prelude.{◌≡◌, ◌++◌, OnOk};
+// The lines of the authorities whose votes count.
+ghost use Rattle.std.specs.Prelude.{◌≡◌};
 ghost use Rattle.std.specs.List.{flat_map};
+ghost use Rattle.text_page.specs.Pages.{with_text};
+ghost use Rattle.consensus_terms.specs.Lines.{line};
 ghost use Rattle.consensus_terms.specs.Texts as texts;
-ghost use Rattle.consensus_text.specs.Parts as parts;
 
-use crate::words::{push_hex, push_ip, push_number, push_rest_line, push_word};
+use crate::words::{
+    put_address_word, put_hex_line, put_hex_word, put_number_word, put_rest_line, put_word,
+};
 use consensus_terms::SourceLine;
-use dir_bytes::Memory;
+use text_page::Page;
 
-/// Appends the lines of each authority whose vote counts.
-pub fn push_sources(out: &mut Vec<u8>, sources: &[SourceLine]) -> Result<(), Memory>
-    ensures { OnOk result (out.new.items ≡ out.old.items ++ flat_map texts.source_lines sources.now) }
+/// Puts the line of who an authority is, and where.
+#[tactic(auto, using(text_page::proofs::Pages::pages), unfolding(consensus_terms::specs::Lines::line))]
+fn put_dir_source(page: &mut Page, keyword: &[u8], source: &SourceLine)
+    ensures { page.new ≡ with_text page.old (line keyword.now (texts.source_words source.now)) }
+{
+    page.put(keyword);
+    put_word(page, source.nickname.as_bytes());
+    put_hex_word(page, &source.identity.0);
+    put_word(page, source.address.as_bytes());
+    put_address_word(page, source.ip);
+    put_number_word(page, source.dir_port as u64);
+    put_number_word(page, source.or_port as u64);
+    page.put(b"\n");
+}
+
+/// Puts the lines of an authority.
+#[tactic(auto, using(text_page::proofs::Pages::pages))]
+fn put_source(page: &mut Page, source: &SourceLine)
+    ensures { page.new ≡ with_text page.old (texts.source_lines source.now) }
+{
+    put_dir_source(page, b"dir-source", source);
+    put_rest_line(page, b"contact", &source.contact);
+    put_hex_line(page, b"vote-digest", &source.vote_digest.0);
+}
+
+/// Puts the lines of authorities.
+#[tactic(auto, using(text_page::proofs::Pages::pages))]
+pub fn put_sources(page: &mut Page, sources: &[SourceLine])
+    ensures { page.new ≡ with_text page.old (flat_map texts.source_lines sources.now) }
 {
     'sources: for source in sources {
-        push_source(out, source)?;
+        put_source(page, source);
     }
-    Ok(())
-}
-
-/// Appends the lines of one.
-#[tactic(auto, using(crate::proofs::Pieces::pieces))]
-fn push_source(out: &mut Vec<u8>, source: &SourceLine) -> Result<(), Memory>
-    ensures { OnOk result (out.new.items ≡ out.old.items ++ texts.source_lines source.now) }
-{
-    push_dir_source(out, source)?;
-    push_rest_line(out, b"contact", &source.contact)?;
-    push_vote_digest(out, &source.vote_digest.0)?;
-    Ok(())
-}
-
-/// Appends the line that says who it is and where.
-#[tactic(auto, using(crate::proofs::Pieces::pieces))]
-fn push_dir_source(out: &mut Vec<u8>, source: &SourceLine) -> Result<(), Memory>
-    ensures { OnOk result (out.new.items ≡ out.old.items ++ parts.dir_source_line source.now) }
-{
-    out.extend_from_slice(b"dir-source")?;
-    push_word(out, source.nickname.as_bytes())?;
-    push_hex(out, &source.identity.0)?;
-    push_word(out, source.address.as_bytes())?;
-    push_place(out, source)
-}
-
-/// Appends the rest of that line: the address and the ports.
-#[tactic(auto, using(crate::proofs::Pieces::pieces))]
-fn push_place(out: &mut Vec<u8>, source: &SourceLine) -> Result<(), Memory>
-    ensures { OnOk result (out.new.items ≡ out.old.items ++ parts.source_place source.now) }
-{
-    push_ip(out, source.ip)?;
-    push_number(out, source.dir_port as u64)?;
-    push_number(out, source.or_port as u64)?;
-    out.push(b'\n')?;
-    Ok(())
-}
-
-/// Appends the line that names its vote.
-#[tactic(auto, using(crate::proofs::Pieces::pieces))]
-fn push_vote_digest(out: &mut Vec<u8>, digest: &[u8; 20]) -> Result<(), Memory>
-    ensures { OnOk result (out.new.items ≡ out.old.items ++ parts.vote_digest_line digest.now) }
-{
-    out.extend_from_slice(b"vote-digest")?;
-    push_hex(out, digest)?;
-    out.push(b'\n')?;
-    Ok(())
 }

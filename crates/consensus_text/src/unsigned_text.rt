@@ -1,41 +1,89 @@
-// The text of a consensus without its signatures.
-ghost use Rattle.std.specs.Prelude.{◌≡◌, ◌++◌, IfOk, OnOk};
+// The text of a consensus without its signatures, and how long it is.
+ghost use Rattle.std.specs.Prelude.{◌≡◌, ◌+◌, ◌≤◌, ◌++◌, IfOk, length, vec_len, vec_capacity};
+ghost use Rattle.text_page.specs.Pages.{counted};
 ghost use Rattle.consensus_terms.specs.Moments.{HasMoments};
 ghost use Rattle.consensus_terms.specs.Texts as texts;
+ghost use Rattle.consensus_terms.specs.declared.flavour.Flavour.TheVariants.{Ns, Microdesc};
 
-use crate::preamble::push_preamble;
-use crate::router::push_routers;
-use crate::source::push_sources;
-use consensus_terms::Consensus;
+use crate::body::put_unsigned;
+use consensus_terms::{Consensus, Flavour};
 use dir_bytes::Memory;
 use std::alloc::Global;
+use std::mem;
+use text_page::Page;
 
-// The footer, whose weights are those of a network without relays.
-const FOOTER: &[u8] =
-    b"directory-footer\nbandwidth-weights Wbd=3333 Wbe=0 Wbg=0 Wbm=10000 Wdb=10000 Web=10000 Wed=3333 Wee=10000 Weg=3333 Wem=10000 Wgb=10000 Wgd=3333 Wgg=10000 Wgm=10000 Wmb=10000 Wmd=3333 Wme=0 Wmg=0 Wmm=10000\n";
+/// How many bytes the text of a consensus has without signatures, in a flavour. None where it has 2^64 or more. It takes no
+/// memory.
+#[tactic(auto, using(text_page::proofs::Pages::whole))]
+pub fn unsigned_len(consensus: &Consensus, flavour: Flavour) -> Option<usize>
+    requires { HasMoments consensus.now.facts }
+    ensures { result ≡ counted (texts.unsigned flavour consensus.now) }
+{
+    let mut page = Page::counting();
+    put_unsigned(&mut page, flavour, consensus);
+    page.count()
+}
 
-/// The text of the ns flavour, without signatures (dir-spec, "Vote and consensus status document formats").
+/// Appends the text of a consensus without signatures, in a flavour (dir-spec, "Vote and consensus status document
+/// formats"), for which there is room. It takes no memory.
+#[tactic(auto, using(text_page::proofs::Pages::whole))]
+pub fn write_unsigned(consensus: &Consensus, flavour: Flavour, out: &mut Vec<u8>)
+    requires moments { HasMoments consensus.now.facts }
+    requires room { vec_len out.old + length (texts.unsigned flavour consensus.now) ≤ vec_capacity out.old }
+    ensures text { out.new.items ≡ out.old.items ++ texts.unsigned flavour consensus.now }
+    ensures capacity { vec_capacity out.old ≤ vec_capacity out.new }
+{
+    let empty = Vec::new(*out.allocator());
+    let mut page = Page::filling(mem::replace(out, empty));
+    put_unsigned(&mut page, flavour, consensus);
+    match page.into_bytes() {
+        Some(bytes) => *out = bytes,
+        None => unreachable!(),
+    }
+}
+
+/// The text of a consensus without signatures, in a flavour. Memory is reserved once, for the whole text.
 ///
 /// # Errors
 /// `Memory` is want of memory.
-pub fn unsigned(alloc: Global, consensus: &Consensus) -> Result<Vec<u8>, Memory>
-    requires { HasMoments consensus.now }
-    ensures { IfOk result (λ text. text.items ≡ texts.unsigned consensus.now) }
+pub fn unsigned(alloc: Global, consensus: &Consensus, flavour: Flavour) -> Result<Vec<u8>, Memory>
+    requires { HasMoments consensus.now.facts }
+    ensures { IfOk result (λ text. text.items ≡ texts.unsigned flavour consensus.now) }
 {
+    let Some(count) = unsigned_len(consensus, flavour) else {
+        return Err(Memory);
+    };
     let mut text = Vec::new(alloc);
-    push_unsigned(&mut text, consensus)?;
+    text.try_reserve(count)?;
+    write_unsigned(consensus, flavour, &mut text);
     Ok(text)
 }
 
-/// Appends the text.
-#[tactic(auto, using(crate::proofs::Pieces::pieces))]
-fn push_unsigned(out: &mut Vec<u8>, consensus: &Consensus) -> Result<(), Memory>
-    requires { HasMoments consensus.now }
-    ensures { OnOk result (out.new.items ≡ out.old.items ++ texts.unsigned consensus.now) }
+/// The texts of a consensus without signatures in both flavours, the ns flavour first. Memory is reserved once, for both.
+///
+/// # Errors
+/// `Memory` is want of memory.
+pub fn unsigned_both(alloc: Global, consensus: &Consensus) -> Result<Vec<u8>, Memory>
+    requires { HasMoments consensus.now.facts }
+    ensures { IfOk result (λ text. text.items ≡ texts.unsigned Ns consensus.now ++ texts.unsigned Microdesc consensus.now) }
 {
-    push_preamble(out, consensus)?;
-    push_sources(out, consensus.sources.as_slice())?;
-    push_routers(out, consensus.routers.as_slice())?;
-    out.extend_from_slice(FOOTER)?;
-    Ok(())
+    let Some(count) = len_of_both(consensus) else {
+        return Err(Memory);
+    };
+    let mut text = Vec::new(alloc);
+    text.try_reserve(count)?;
+    write_unsigned(consensus, Flavour::Ns, &mut text);
+    write_unsigned(consensus, Flavour::Microdesc, &mut text);
+    Ok(text)
+}
+
+/// How many bytes the texts of both flavours have. None where they have 2^64 or more.
+fn len_of_both(consensus: &Consensus) -> Option<usize>
+    requires { HasMoments consensus.now.facts }
+    ensures { result ≡ counted (texts.unsigned Ns consensus.now ++ texts.unsigned Microdesc consensus.now) }
+{
+    let mut page = Page::counting();
+    put_unsigned(&mut page, Flavour::Ns, consensus);
+    put_unsigned(&mut page, Flavour::Microdesc, consensus);
+    page.count()
 }

@@ -1,103 +1,188 @@
-// Lines of a document: words behind single spaces.
-ghost use Rattle.std.specs.Prelude.{◌≡◌, ◌≤◌, ◌++◌, ◌∷◌, [], OnOk, Some, decimal};
+// Words behind single spaces, and lines of them, on a page.
+ghost use Rattle.std.specs.Prelude.{◌≡◌, ◌≤◌, ◌∷◌, [], codes};
+ghost use Rattle.std.specs.Fmt.{decimal};
 ghost use Rattle.std.specs.List.{flat_map};
 ghost use Rattle.dir_bytes.specs.Causes.{last_moment};
 ghost use Rattle.dir_bytes.specs.FieldTexts.{moment_text, hex_text, base64_text, address_text};
-ghost use Rattle.consensus_terms.specs.Lines.{behind_space, line, rest_line};
+ghost use Rattle.consensus_terms.specs.Lines.{behind_space, line, named_text, rest_words, rest_line};
+ghost use Rattle.text_page.specs.Pages.{with_text};
 
-use dir_bytes::{Memory, Text, push_address, push_base64, push_decimal, push_hex_upper, push_time};
+use dir_bytes::Text;
 use dir_values::FlagSet;
+use text_page::Page;
 
-/// Appends a word behind a space.
-pub fn push_word(out: &mut Vec<u8>, word: &[u8]) -> Result<(), Memory>
-    ensures { OnOk result (out.new.items ≡ out.old.items ++ behind_space word.now) }
+/// Puts a word behind a space.
+pub fn put_word(page: &mut Page, word: &[u8])
+    ensures { page.new ≡ with_text page.old (behind_space word.now) }
 {
-    out.push(b' ')?;
-    out.extend_from_slice(word)?;
-    Ok(())
+    page.put_word(word);
 }
 
-/// Appends a number behind a space.
-pub fn push_number(out: &mut Vec<u8>, number: u64) -> Result<(), Memory>
-    ensures { OnOk result (out.new.items ≡ out.old.items ++ behind_space (decimal number)) }
+/// Puts a number behind a space.
+#[tactic(auto, using(text_page::proofs::Pages::pages))]
+pub fn put_number_word(page: &mut Page, number: u64)
+    ensures { page.new ≡ with_text page.old (behind_space (decimal number)) }
 {
-    out.push(b' ')?;
-    push_decimal(out, number)
+    page.put(b" ");
+    page.put_number(number);
 }
 
-/// Appends bytes in hex digits, behind a space.
-pub fn push_hex(out: &mut Vec<u8>, bytes: &[u8]) -> Result<(), Memory>
-    ensures { OnOk result (out.new.items ≡ out.old.items ++ behind_space (hex_text bytes.now)) }
+/// Puts a name with a number, behind a space.
+#[tactic(auto, using(text_page::proofs::Pages::pages), unfolding(consensus_terms::specs::Lines::named_text))]
+pub fn put_named_word(page: &mut Page, name: &[u8], number: u32)
+    ensures { page.new ≡ with_text page.old (behind_space (named_text name.now number)) }
 {
-    out.push(b' ')?;
-    push_hex_upper(out, bytes)
+    put_word(page, name);
+    page.put(b"=");
+    page.put_number(number as u64);
 }
 
-/// Appends bytes in base64, behind a space.
-pub fn push_base64_word(out: &mut Vec<u8>, bytes: &[u8]) -> Result<(), Memory>
-    ensures { OnOk result (out.new.items ≡ out.old.items ++ behind_space (base64_text bytes.now)) }
-{
-    out.push(b' ')?;
-    push_base64(out, bytes)
-}
-
-/// Appends an IPv4 address behind a space.
-pub fn push_ip(out: &mut Vec<u8>, ip: u32) -> Result<(), Memory>
-    ensures { OnOk result (out.new.items ≡ out.old.items ++ behind_space (address_text ip)) }
-{
-    out.push(b' ')?;
-    push_address(out, ip)
-}
-
-/// Appends a moment behind a space.
-pub fn push_moment(out: &mut Vec<u8>, moment: u64) -> Result<(), Memory>
+/// Puts a moment behind a space.
+#[tactic(auto, using(text_page::proofs::Pages::pages))]
+pub fn put_moment_word(page: &mut Page, moment: u64)
     requires { moment ≤ last_moment }
-    ensures { OnOk result (out.new.items ≡ out.old.items ++ behind_space (moment_text moment)) }
+    ensures { page.new ≡ with_text page.old (behind_space (moment_text moment)) }
 {
-    out.push(b' ')?;
-    push_time(out, moment)
+    page.put(b" ");
+    page.put_moment(moment);
 }
 
-/// Appends each flag behind a space.
-fn push_flags(out: &mut Vec<u8>, flags: &FlagSet) -> Result<(), Memory>
-    ensures { OnOk result (out.new.items ≡ out.old.items ++ flat_map behind_space flags.now) }
+/// Puts twenty bytes in hex digits, behind a space.
+#[tactic(auto, using(text_page::proofs::Pages::pages))]
+pub fn put_hex_word(page: &mut Page, digest: &[u8; 20])
+    ensures { page.new ≡ with_text page.old (behind_space (hex_text digest.now)) }
+{
+    page.put(b" ");
+    page.put_hex(digest);
+}
+
+/// Puts twenty bytes in base64, behind a space.
+#[tactic(auto, using(text_page::proofs::Pages::pages))]
+pub fn put_digest1_word(page: &mut Page, digest: &[u8; 20])
+    ensures { page.new ≡ with_text page.old (behind_space (base64_text digest.now)) }
+{
+    page.put(b" ");
+    page.put_digest1(digest);
+}
+
+/// Puts thirty-two bytes in base64, behind a space.
+#[tactic(auto, using(text_page::proofs::Pages::pages))]
+pub fn put_digest2_word(page: &mut Page, digest: &[u8; 32])
+    ensures { page.new ≡ with_text page.old (behind_space (base64_text digest.now)) }
+{
+    page.put(b" ");
+    page.put_digest2(digest);
+}
+
+/// Puts an IPv4 address behind a space.
+#[tactic(auto, using(text_page::proofs::Pages::pages))]
+pub fn put_address_word(page: &mut Page, ip: u32)
+    ensures { page.new ≡ with_text page.old (behind_space (address_text ip)) }
+{
+    page.put(b" ");
+    page.put_address(ip);
+}
+
+/// Puts each flag behind a space.
+#[tactic(auto, using(text_page::proofs::Pages::pages))]
+pub fn put_flags(page: &mut Page, flags: &FlagSet)
+    ensures { page.new ≡ with_text page.old (flat_map behind_space flags.now) }
 {
     'flags: for i in 0..flags.len() {
-        push_word(out, flags.flag(i))?;
-    }
-    Ok(())
-}
-
-/// Appends a line of a keyword and flags.
-#[tactic(auto, using(crate::proofs::Pieces::pieces))]
-pub fn push_flags_line(out: &mut Vec<u8>, keyword: &[u8], flags: &FlagSet) -> Result<(), Memory>
-    ensures { OnOk result (out.new.items ≡ out.old.items ++ line keyword.now flags.now) }
-{
-    out.extend_from_slice(keyword)?;
-    push_flags(out, flags)?;
-    out.push(b'\n')?;
-    Ok(())
-}
-
-/// Appends a line of a keyword and the rest of the line, where there is one; of an empty rest the bare keyword.
-pub fn push_rest_line(out: &mut Vec<u8>, keyword: &[u8], rest: &Option<Text>) -> Result<(), Memory>
-    ensures { OnOk result (out.new.items ≡ out.old.items ++ rest_line keyword.now rest.now) }
-{
-    match rest {
-        None => Ok(()),
-        Some(text) => push_rest(out, keyword, text.as_bytes()),
+        put_word(page, flags.flag(i));
     }
 }
 
-/// Appends a line of a keyword and the rest of the line.
-#[tactic(auto, using(crate::proofs::Pieces::pieces))]
-fn push_rest(out: &mut Vec<u8>, keyword: &[u8], rest: &[u8]) -> Result<(), Memory>
-    ensures { OnOk result (out.new.items ≡ out.old.items ++ rest_line keyword.now (Some rest.now)) }
+/// Puts the rest of a line behind a space, where it is not empty.
+#[tactic(auto, using(text_page::proofs::Pages::pages))]
+fn put_rest_words(page: &mut Page, rest: &[u8])
+    ensures { page.new ≡ with_text page.old (flat_map behind_space (rest_words rest.now)) }
 {
-    out.extend_from_slice(keyword)?;
     if !rest.is_empty() {
-        push_word(out, rest)?;
+        put_word(page, rest);
     }
-    out.push(b'\n')?;
-    Ok(())
+}
+
+/// Puts a line that is the keyword and a rest, where there is a rest.
+#[tactic(auto, using(text_page::proofs::Pages::pages), unfolding(consensus_terms::specs::Lines::line))]
+pub fn put_rest_line(page: &mut Page, keyword: &[u8], rest: &Option<Text>)
+    ensures { page.new ≡ with_text page.old (rest_line keyword.now rest.now) }
+{
+    let Some(rest) = rest else {
+        return;
+    };
+    page.put(keyword);
+    put_rest_words(page, rest.as_bytes());
+    page.put(b"\n");
+}
+
+/// Puts a line of a keyword alone.
+#[tactic(auto, using(text_page::proofs::Pages::pages), unfolding(consensus_terms::specs::Lines::line))]
+pub fn put_bare_line(page: &mut Page, keyword: &[u8])
+    ensures { page.new ≡ with_text page.old (line keyword.now []) }
+{
+    page.put(keyword);
+    page.put(b"\n");
+}
+
+/// Puts a line of a keyword and a word.
+#[tactic(auto, using(text_page::proofs::Pages::pages), unfolding(consensus_terms::specs::Lines::line))]
+pub fn put_word_line(page: &mut Page, keyword: &[u8], word: &[u8])
+    ensures { page.new ≡ with_text page.old (line keyword.now (word.now ∷ [])) }
+{
+    page.put(keyword);
+    put_word(page, word);
+    page.put(b"\n");
+}
+
+/// Puts a line of a keyword and a number.
+#[tactic(auto, using(text_page::proofs::Pages::pages), unfolding(consensus_terms::specs::Lines::line))]
+pub fn put_number_line(page: &mut Page, keyword: &[u8], number: u64)
+    ensures { page.new ≡ with_text page.old (line keyword.now (decimal number ∷ [])) }
+{
+    page.put(keyword);
+    put_number_word(page, number);
+    page.put(b"\n");
+}
+
+/// Puts a line of a keyword and two numbers.
+#[tactic(auto, using(text_page::proofs::Pages::pages), unfolding(consensus_terms::specs::Lines::line))]
+pub fn put_two_numbers_line(page: &mut Page, keyword: &[u8], first: u32, second: u32)
+    ensures { page.new ≡ with_text page.old (line keyword.now (decimal first ∷ decimal second ∷ [])) }
+{
+    page.put(keyword);
+    put_number_word(page, first as u64);
+    put_number_word(page, second as u64);
+    page.put(b"\n");
+}
+
+/// Puts a line of a keyword and a moment.
+#[tactic(auto, using(text_page::proofs::Pages::pages), unfolding(consensus_terms::specs::Lines::line))]
+pub fn put_moment_line(page: &mut Page, keyword: &[u8], moment: u64)
+    requires { moment ≤ last_moment }
+    ensures { page.new ≡ with_text page.old (line keyword.now (moment_text moment ∷ [])) }
+{
+    page.put(keyword);
+    put_moment_word(page, moment);
+    page.put(b"\n");
+}
+
+/// Puts a line of a keyword and twenty bytes in hex digits.
+#[tactic(auto, using(text_page::proofs::Pages::pages), unfolding(consensus_terms::specs::Lines::line))]
+pub fn put_hex_line(page: &mut Page, keyword: &[u8], digest: &[u8; 20])
+    ensures { page.new ≡ with_text page.old (line keyword.now (hex_text digest.now ∷ [])) }
+{
+    page.put(keyword);
+    put_hex_word(page, digest);
+    page.put(b"\n");
+}
+
+/// Puts a line of a keyword and flags.
+#[tactic(auto, using(text_page::proofs::Pages::pages), unfolding(consensus_terms::specs::Lines::line))]
+pub fn put_flags_line(page: &mut Page, keyword: &[u8], flags: &FlagSet)
+    ensures { page.new ≡ with_text page.old (line keyword.now flags.now) }
+{
+    page.put(keyword);
+    put_flags(page, flags);
+    page.put(b"\n");
 }

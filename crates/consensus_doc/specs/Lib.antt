@@ -1,0 +1,4 @@
+pub mod Saying
+pub mod Drafts
+pub mod Keeping
+pub mod Reading
