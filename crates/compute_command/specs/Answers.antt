@@ -1,5 +1,5 @@
 -- The command that computes a consensus.
-use Rattle.std.specs.Prelude.{◌≡◌, ℕ, true, false, List, length, All, Result, Ok, Err}
+use Rattle.std.specs.Prelude.{◌≡◌, ℕ, true, false, List, ◌++◌, length, All, Result, Ok, Err}
 use Rattle.frame_terms.specs.declared.fault.ReadRefusal.TheVariants.{Frame}
 use Rattle.key_port.specs.Answers.{Rules}
 use Rattle.vote_terms.specs.Votes.{ReadVote}
@@ -8,22 +8,32 @@ use Rattle.vote_terms.specs.Held.{held}
 use Rattle.vote_terms.specs.Acceptable.{AsksOf, IsAcceptable, IsFirstRefused, RefusesNone}
 use Rattle.compute_terms.specs.Consensuses.{consensus}
 use Rattle.consensus_terms.specs.Texts.{unsigned}
+use Rattle.consensus_terms.specs.declared.consensus.Consensus.{Consensus}
+use Rattle.consensus_terms.specs.declared.flavour.Flavour.TheVariants.{Ns, Microdesc}
 use Rattle.vote_terms.specs.declared.word.VoteWord.{VoteWord}
 use Rattle.daemon_words.specs.declared.command.Compute.{Compute}
+use Rattle.daemon_words.specs.declared.command.Flavours.{Flavours}
+use Rattle.daemon_words.specs.declared.command.Flavours.TheVariants as flavours
 use Rattle.daemon_words.specs.declared.command.Kind.TheVariants.{Vote}
 use Rattle.exit_status.specs.declared.status.Refusal.{Refusal}
 use Rattle.exit_status.specs.declared.status.Refusal.TheVariants as refusal
 use Rattle.exit_status.specs.declared.vote_refusal.VoteListRefusal.TheVariants as list
 use Rattle.compute_command.specs.Votes.{votes_of}
 
+-- the texts of a consensus in the flavours that are wanted; of both the ns flavour comes first
+abbrev pub texts_of : Flavours → Consensus → List ℕ
+texts_of flavours.Ns c = unsigned Ns c
+texts_of flavours.Microdesc c = unsigned Microdesc c
+texts_of flavours.Both c = unsigned Ns c ++ unsigned Microdesc c
+
 -- The input is votes, each acceptable, and those that are held are of more than half of the roster. The text is that of
--- their consensus.
+-- their consensus, in the flavours that are wanted.
 pub record Computes (rules : Rules) (wanted : Compute) (bytes text : List ℕ) : Type 0 where
   pub votes : List ReadVote
   pub read : votes_of bytes ≡ Ok votes
   pub acceptable : All (λ vote. IsAcceptable rules wanted.roster wanted.valid_after vote) votes
   pub enough : over (length (held votes)) (length wanted.roster) ≡ true
-  pub written : text ≡ unsigned (consensus (length wanted.roster) (held votes))
+  pub written : text ≡ texts_of wanted.flavours (consensus (length wanted.roster) (held votes))
 
 -- The input is votes, and the one with this number, from 1, is the first that is not acceptable, by this word.
 pub record RefusesVote (rules : Rules) (wanted : Compute) (bytes : List ℕ) (number : ℕ) (word : VoteWord) : Type 0 where

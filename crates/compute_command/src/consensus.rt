@@ -4,21 +4,23 @@ ghost use Rattle.consensus_calc.specs.Calculating.{HasMoments};
 ghost use Rattle.dir_bytes.specs.Causes.{Rose};
 ghost use Rattle.key_port.specs.Answers.{rules};
 ghost use Rattle.exit_status.specs.Stops.{Answered};
-ghost use Rattle.compute_command.specs.Answers.{ComputeAnswers};
+ghost use Rattle.compute_command.specs.Answers.{ComputeAnswers, texts_of};
 ghost use Rattle.compute_command.specs.Private.{GivesConsensus};
 
 use crate::accepting::accept;
 use crate::reading::votes_of;
-use consensus_calc::{CalcFault, unsigned};
-use consensus_terms::Consensus;
-use daemon_words::{Compute, Kind};
+use consensus_calc::CalcFault;
+use consensus_terms::{Consensus, Flavour};
+use consensus_text::{unsigned, unsigned_both};
+use daemon_words::{Compute, Flavours, Kind};
+use dir_bytes::Memory;
 use exit_status::{Refusal, Stop, VoteListRefusal, of_kind};
 use key_port::Verifier;
 use std::alloc::Global;
 use vote_doc::Accepted;
 
-/// The unsigned text of the consensus of the votes that the input is, or why there is none. All votes are read before
-/// the first is checked; they are checked in their order.
+/// The unsigned texts of the consensus of the votes that the input is, in the flavours that are wanted, or why there is none. All
+/// votes are read before the first is checked; they are checked in their order.
 pub fn compute<V: Verifier>(
     alloc: Global,
     wanted: &Compute,
@@ -33,14 +35,26 @@ pub fn compute<V: Verifier>(
     let accepted = accept(alloc, wanted, votes, verifier)?;
     let roster = wanted.roster.len() as u32;
     let consensus = consensus_of(alloc, roster, &accepted)?;
-    let text = unsigned(alloc, &consensus)?;
+    let text = texts_of(alloc, &consensus, wanted.flavours)?;
     Ok(text)
+}
+
+/// The texts of a consensus in these flavours; of both the ns flavour comes first.
+fn texts_of(alloc: Global, consensus: &Consensus, flavours: Flavours) -> Result<Vec<u8>, Memory>
+    requires { HasMoments consensus.now.facts }
+    ensures { IfOk result (λ text. text.items ≡ texts_of flavours consensus.now) }
+{
+    match flavours {
+        Flavours::Ns => unsigned(alloc, consensus, Flavour::Ns),
+        Flavours::Microdesc => unsigned(alloc, consensus, Flavour::Microdesc),
+        Flavours::Both => unsigned_both(alloc, consensus),
+    }
 }
 
 /// The consensus of the held votes, where the roster has so many authorities, or why the command stops.
 fn consensus_of(alloc: Global, roster: u32, votes: &Accepted) -> Result<Consensus, Stop>
     ensures calculates { GivesConsensus roster votes.now.votes result }
-    ensures moments { IfOk result (λ consensus. HasMoments consensus) }
+    ensures moments { IfOk result (λ consensus. HasMoments consensus.facts) }
 {
     match consensus_calc::compute(alloc, roster, votes) {
         Ok(consensus) => Ok(consensus),

@@ -10,7 +10,9 @@ use Rattle.clap.specs.declared.error.Error.{Error}
 use Rattle.clap.specs.declared.error.kind.ErrorKind.TheVariants as error_kind
 use Rattle.clap.specs.declared.parser.matches.SubCommand.{SubCommand}
 use Rattle.clap.specs.declared.parser.matches.ArgMatches.TheViews.{out-SubCommand}
-use Rattle.daemon_words.specs.Words.{command_named, command_read, compute_in, compute_of, compute_with, kind_in, kind_named}
+use Rattle.daemon_words.specs.declared.command.Flavours.{Flavours}
+use Rattle.daemon_words.specs.Words.{command_named, command_read, compute_in, compute_of, compute_with, flavours_in, flavours_of}
+use Rattle.daemon_words.specs.Words.{kind_in, kind_named}
 
 -- an error other than want of memory comes only where something is wrong with the words
 pub refused : (kinds : Kinds) (e : Error) → HasKind kinds e → (kind_of e ≡ error_kind.OutOfMemory → ⊥) → kinds ≡ [] → ⊥
@@ -43,25 +45,52 @@ none_named kinds named none is = rw (none, is) refl
 option_is : (f : Found) (id : List ℕ) (value : Option (List ℕ)) → value ≡ first_value f id → first_of id (rows_of f) ≡ value
 option_is f id value is = sym (is ∙ first_value-rows f id)
 
-computes : (f : Found) (authorities valid_after : Option (List ℕ)) → first_of (codes "authorities") (rows_of f) ≡ authorities
-    → first_of (codes "valid-after") (rows_of f) ≡ valid_after → compute_in (rows_of f) ≡ compute_with authorities valid_after
-computes f authorities valid_after first second = ap₂ compute_with first second
+computes : (f : Found) (authorities valid_after : Option (List ℕ)) (wanted : Option Flavours)
+    → first_of (codes "authorities") (rows_of f) ≡ authorities
+    → first_of (codes "valid-after") (rows_of f) ≡ valid_after → flavours_in (rows_of f) ≡ wanted
+    → compute_in (rows_of f) ≡ compute_with authorities valid_after wanted
+computes f authorities valid_after wanted first second third =
+    ap (λ (a : Option (List ℕ)). compute_with a (first_of (codes "valid-after") (rows_of f)) (flavours_in (rows_of f))) first
+    ∙ ap (λ (v : Option (List ℕ)). compute_with authorities v (flavours_in (rows_of f))) second
+    ∙ ap (λ (w : Option Flavours). compute_with authorities valid_after w) third
 
--- `compute` with both options
-pub compute_is : (f : Found) (authorities valid_after : List ℕ) → Some authorities ≡ first_value f (codes "authorities")
-    → Some valid_after ≡ first_value f (codes "valid-after") → compute_in (rows_of f) ≡ compute_of authorities valid_after
-compute_is f authorities valid_after first second =
-    computes f (Some authorities) (Some valid_after) (option_is f (codes "authorities") (Some authorities) first) (option_is f (codes "valid-after") (Some valid_after) second)
+-- `compute` with both options, and flavours
+pub compute_is : (f : Found) (authorities valid_after : List ℕ) (wanted : Flavours)
+    → Some authorities ≡ first_value f (codes "authorities")
+    → Some valid_after ≡ first_value f (codes "valid-after") → Some wanted ≡ flavours_in (rows_of f)
+    → compute_in (rows_of f) ≡ compute_of authorities valid_after wanted
+compute_is f authorities valid_after wanted first second third =
+    computes f (Some authorities) (Some valid_after) (Some wanted)
+    (option_is f (codes "authorities") (Some authorities) first)
+    (option_is f (codes "valid-after") (Some valid_after) second) (sym third)
 
 -- `compute` without its first option
 pub no_authorities : (f : Found) → None ≡ first_value f (codes "authorities") → compute_in (rows_of f) ≡ None
-no_authorities f first = computes f None (first_of (codes "valid-after") (rows_of f)) (option_is f (codes "authorities") None first) refl
+no_authorities f first =
+    computes f None (first_of (codes "valid-after") (rows_of f)) (flavours_in (rows_of f))
+    (option_is f (codes "authorities") None first) refl refl
 
 -- `compute` without its second option
 pub no_valid_after : (f : Found) (authorities : List ℕ) → Some authorities ≡ first_value f (codes "authorities")
     → None ≡ first_value f (codes "valid-after") → compute_in (rows_of f) ≡ None
 no_valid_after f authorities first second =
-    computes f (Some authorities) None (option_is f (codes "authorities") (Some authorities) first) (option_is f (codes "valid-after") None second)
+    computes f (Some authorities) None (flavours_in (rows_of f))
+    (option_is f (codes "authorities") (Some authorities) first) (option_is f (codes "valid-after") None second) refl
+
+-- `compute` where no flavours are named
+pub no_flavours : (f : Found) (authorities valid_after : List ℕ)
+    → Some authorities ≡ first_value f (codes "authorities")
+    → Some valid_after ≡ first_value f (codes "valid-after") → None ≡ flavours_in (rows_of f)
+    → compute_in (rows_of f) ≡ None
+no_flavours f authorities valid_after first second third =
+    computes f (Some authorities) (Some valid_after) None
+    (option_is f (codes "authorities") (Some authorities) first)
+    (option_is f (codes "valid-after") (Some valid_after) second) (sym third)
+
+-- the flavours that the option names
+pub flavours_are : (f : Found) (word : Option (List ℕ)) → word ≡ first_value f (codes "flavour")
+    → flavours_in (rows_of f) ≡ flavours_of word
+flavours_are f word stands = ap flavours_of (option_is f (codes "flavour") word stands)
 
 -- the kind that the word names
 pub kind_is : (f : Found) (word : List ℕ) → Some word ≡ first_value f (codes "kind") → kind_in (rows_of f) ≡ kind_named word

@@ -8,13 +8,19 @@ use Rattle.clap.specs.declared.builder.action.ArgAction.TheVariants.{Set}
 abbrev pub needed_option : List ℕ → Rule
 needed_option name = record (new_rule name) { long = Some name; required = true; action = Some Set }
 
+-- an option that may stand once, as `--name value` or `--name=value`
+abbrev pub free_option : List ℕ → Rule
+free_option name = record (new_rule name) { long = Some name; action = Some Set }
+
 -- a word that must stand once, by itself
 abbrev pub needed_word : List ℕ → Rule
 needed_word name = record (new_rule name) { required = true; action = Some Set }
 
 -- the command `compute` with its options, which stand in any order
 abbrev pub compute : App
-compute = with_rule (with_rule (new_app (codes "compute")) (needed_option (codes "authorities"))) (needed_option (codes "valid-after"))
+compute =
+    with_rule (with_rule (with_rule (new_app (codes "compute")) (needed_option (codes "authorities")))
+    (needed_option (codes "valid-after"))) (free_option (codes "flavour"))
 
 -- a command of this name that takes one kind of document
 abbrev pub of_kind : List ℕ → App

@@ -8,33 +8,55 @@ use Rattle.daemon_words.specs.CommandLine.{faults, command_in}
 use Rattle.daemon_words.specs.Values.{roster, moment}
 use Rattle.daemon_words.specs.declared.command.Command.{Command}
 use Rattle.daemon_words.specs.declared.command.Command.TheVariants as command
+use Rattle.daemon_words.specs.declared.command.Flavours.{Flavours}
+use Rattle.daemon_words.specs.declared.command.Flavours.TheVariants as flavours
 use Rattle.daemon_words.specs.declared.command.Kind.{Kind}
 use Rattle.daemon_words.specs.declared.command.Kind.TheVariants as kind
 
--- `compute` for a roster and a moment, where both were read
-abbrev pub computing : Option (List Fingerprint) → Option ℕ → Option Command
-computing (Some members) (Some valid_after) = Some (command.Compute (record { roster = members; valid_after = valid_after }))
-computing _ _ = None
+-- the flavours that a word names
+abbrev pub flavours_named : List ℕ → Option Flavours
+flavours_named word =
+    if bytes_eq word (codes "ns") then Some flavours.Ns
+    else (if bytes_eq word (codes "microdesc") then Some flavours.Microdesc
+    else (if bytes_eq word (codes "both") then Some flavours.Both
+    else None))
 
--- `compute` with the texts of its options
-abbrev pub compute_of : List ℕ → List ℕ → Option Command
-compute_of authorities valid_after = computing (roster authorities) (moment valid_after)
+-- the flavours that an option names: the ns flavour where it does not stand there
+abbrev pub flavours_of : Option (List ℕ) → Option Flavours
+flavours_of None = Some flavours.Ns
+flavours_of (Some word) = flavours_named word
 
--- the same, where both options stand there
-abbrev pub compute_with : Option (List ℕ) → Option (List ℕ) → Option Command
-compute_with (Some authorities) (Some valid_after) = compute_of authorities valid_after
-compute_with _ _ = None
+-- the flavours that stand among the values
+abbrev pub flavours_in : List Row → Option Flavours
+flavours_in options = flavours_of (first_of (codes "flavour") options)
+
+-- `compute` for a roster and a moment, where both were read, with these flavours
+abbrev pub computing : Option (List Fingerprint) → Option ℕ → Flavours → Option Command
+computing (Some members) (Some valid_after) wanted =
+    Some (command.Compute (record { roster = members; valid_after = valid_after; flavours = wanted }))
+computing _ _ wanted = None
+
+-- `compute` with the texts of two options, and these flavours
+abbrev pub compute_of : List ℕ → List ℕ → Flavours → Option Command
+compute_of authorities valid_after wanted = computing (roster authorities) (moment valid_after) wanted
+
+-- the same, where both options stand there, and flavours are named
+abbrev pub compute_with : Option (List ℕ) → Option (List ℕ) → Option Flavours → Option Command
+compute_with (Some authorities) (Some valid_after) (Some wanted) = compute_of authorities valid_after wanted
+compute_with _ _ _ = None
 
 -- `compute` with the values of its options
 abbrev pub compute_in : List Row → Option Command
-compute_in options = compute_with (first_of (codes "authorities") options) (first_of (codes "valid-after") options)
+compute_in options =
+    compute_with (first_of (codes "authorities") options) (first_of (codes "valid-after") options) (flavours_in options)
 
 -- the kind of document that a word names
 abbrev pub kind_named : List ℕ → Option Kind
 kind_named word =
     if bytes_eq word (codes "vote") then Some kind.Vote
     else (if bytes_eq word (codes "cert") then Some kind.Cert
-    else None)
+    else (if bytes_eq word (codes "consensus") then Some kind.Consensus
+    else None))
 
 -- the kind of document that stands among the values
 abbrev pub kind_in : List Row → Option Kind

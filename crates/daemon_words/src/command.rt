@@ -17,6 +17,19 @@ pub struct Compute {
     pub roster: Roster,
     /// When it becomes valid, in seconds since 1970-01-01 00:00:00 UTC.
     pub valid_after: u64,
+    /// Which texts of it are written.
+    pub flavours: Flavours,
+}
+
+/// The flavours of a consensus that are written.
+#[derive(Clone, Copy, Debug, PartialEq, Eq)]
+pub enum Flavours {
+    /// The ns flavour alone.
+    Ns,
+    /// The microdesc flavour alone.
+    Microdesc,
+    /// The ns flavour, and behind it the microdesc flavour.
+    Both,
 }
 
 /// A kind of document that is checked or shown.
@@ -26,12 +39,14 @@ pub enum Kind {
     Vote,
     /// A key certificate.
     Cert,
+    /// A consensus, of either flavour.
+    Consensus,
 }
 
 /// A command with its options.
 #[derive(Debug, Drop)]
 pub enum Command {
-    /// Reads votes, and writes their unsigned consensus.
+    /// Reads votes, and writes the unsigned texts of their consensus.
     Compute(Compute),
     /// Reads a document of this kind, and says whether it is one.
     Check(Kind),
@@ -52,7 +67,7 @@ pub fn command_of(alloc: Global, words: &[String]) -> Result<Option<Command>, Me
     }
 }
 
-// The command of a name and its options.
+/// The command of a name and its options.
 fn command_named(
     alloc: Global,
     name: &str,
@@ -68,7 +83,7 @@ fn command_named(
     }
 }
 
-// The kind of document that stands among the values.
+/// The kind of document that stands among the values.
 fn kind_in(values: &ArgMatches<'_>) -> Option<Kind>
     ensures { result ≡ grammar.kind_in (rows_of (found_of values.now)) }
 {
@@ -76,18 +91,41 @@ fn kind_in(values: &ArgMatches<'_>) -> Option<Kind>
     kind_named(word)
 }
 
-// The kind of document that a word names.
+/// The kind of document that a word names.
 fn kind_named(word: &str) -> Option<Kind>
     ensures { result ≡ grammar.kind_named word.now }
 {
     match word {
         "vote" => Some(Kind::Vote),
         "cert" => Some(Kind::Cert),
+        "consensus" => Some(Kind::Consensus),
         _ => None,
     }
 }
 
-// `compute` with its options.
+/// The flavours that stand among the values: the ns flavour where none are named.
+fn flavours_in(values: &ArgMatches<'_>) -> Option<Flavours>
+    ensures { result ≡ grammar.flavours_in (rows_of (found_of values.now)) }
+{
+    match values.get_str("flavour") {
+        Some(word) => flavours_named(word),
+        None => Some(Flavours::Ns),
+    }
+}
+
+/// The flavours that a word names.
+fn flavours_named(word: &str) -> Option<Flavours>
+    ensures { result ≡ grammar.flavours_named word.now }
+{
+    match word {
+        "ns" => Some(Flavours::Ns),
+        "microdesc" => Some(Flavours::Microdesc),
+        "both" => Some(Flavours::Both),
+        _ => None,
+    }
+}
+
+/// `compute` with its options.
 fn compute_with(alloc: Global, options: &ArgMatches<'_>) -> Result<Option<Command>, Memory>
     ensures { IfOk result (λ command. command ≡ grammar.compute_in (rows_of (found_of options.now))) }
 {
@@ -97,16 +135,25 @@ fn compute_with(alloc: Global, options: &ArgMatches<'_>) -> Result<Option<Comman
     let Some(valid_after) = options.get_str("valid-after") else {
         return Ok(None);
     };
-    compute_of(alloc, authorities.as_bytes(), valid_after.as_bytes())
+    let Some(flavours) = flavours_in(options) else {
+        return Ok(None);
+    };
+    compute_of(
+        alloc,
+        authorities.as_bytes(),
+        valid_after.as_bytes(),
+        flavours,
+    )
 }
 
-// `compute` with the texts of its options.
+/// `compute` with the texts of two options, and these flavours.
 fn compute_of(
     alloc: Global,
     authorities: &[u8],
     valid_after: &[u8],
+    flavours: Flavours,
 ) -> Result<Option<Command>, Memory>
-    ensures { IfOk result (λ command. command ≡ grammar.compute_of authorities.now valid_after.now) }
+    ensures { IfOk result (λ command. command ≡ grammar.compute_of authorities.now valid_after.now flavours) }
 {
     let (Some(roster), Some(valid_after)) = (
         read_roster(alloc, authorities)?,
@@ -117,5 +164,6 @@ fn compute_of(
     Ok(Some(Command::Compute(Compute {
         roster,
         valid_after,
+        flavours,
     })))
 }

@@ -25,7 +25,7 @@ pub fn matches_of<'a>(alloc: Global, words: &'a [String]) -> Result<Option<ArgMa
     }
 }
 
-// The command line: its commands, and no words for help or a version.
+/// The command line: its commands, and no words for help or a version.
 fn command_line<'a>(alloc: Global) -> Result<Command<'a>, AllocError>
     ensures { IfOk result (λ command. app_of command ≡ command_line.command_line) }
 {
@@ -42,17 +42,18 @@ fn command_line<'a>(alloc: Global) -> Result<Command<'a>, AllocError>
         .subcommand(show)
 }
 
-// The command `compute` with its options.
+/// The command `compute` with its options.
 fn compute<'a>(alloc: Global) -> Result<Command<'a>, AllocError>
     ensures app { IfOk result (λ command. app_of command ≡ command_line.compute) }
     ensures local { IfOk result (λ command. (out-Command command).has_globals ≡ false) }
 {
     Command::new(alloc, "compute")
         .arg(needed_option(alloc, "authorities"))?
-        .arg(needed_option(alloc, "valid-after"))
+        .arg(needed_option(alloc, "valid-after"))?
+        .arg(free_option(alloc, "flavour"))
 }
 
-// A command of this name that takes one kind of document.
+/// A command of this name that takes one kind of document.
 fn of_kind<'a>(alloc: Global, name: &'a str) -> Result<Command<'a>, AllocError>
     ensures app { IfOk result (λ command. app_of command ≡ command_line.of_kind name.entry.now) }
     ensures local { IfOk result (λ command. (out-Command command).has_globals ≡ false) }
@@ -60,7 +61,7 @@ fn of_kind<'a>(alloc: Global, name: &'a str) -> Result<Command<'a>, AllocError>
     Command::new(alloc, name).arg(needed_word(alloc, "kind"))
 }
 
-// A word that must stand once, by itself.
+/// A word that must stand once, by itself.
 fn needed_word<'a>(alloc: Global, name: &'a str) -> Arg<'a>
     ensures rule { rule_of result ≡ command_line.needed_word name.entry.now }
     ensures local { result.global ≡ false }
@@ -68,7 +69,7 @@ fn needed_word<'a>(alloc: Global, name: &'a str) -> Arg<'a>
     Arg::new(alloc, name).required(true).action(ArgAction::Set)
 }
 
-// An option that must stand once, with a value.
+/// An option that must stand once, with a value.
 fn needed_option<'a>(alloc: Global, name: &'a str) -> Arg<'a>
     ensures rule { rule_of result ≡ command_line.needed_option name.entry.now }
     ensures local { result.global ≡ false }
@@ -77,4 +78,12 @@ fn needed_option<'a>(alloc: Global, name: &'a str) -> Arg<'a>
         .long(name)
         .required(true)
         .action(ArgAction::Set)
+}
+
+/// An option that may stand once, with a value.
+fn free_option<'a>(alloc: Global, name: &'a str) -> Arg<'a>
+    ensures rule { rule_of result ≡ command_line.free_option name.entry.now }
+    ensures local { result.global ≡ false }
+{
+    Arg::new(alloc, name).long(name).action(ArgAction::Set)
 }

@@ -6,7 +6,7 @@ mod command_line;
 mod keys;
 mod values;
 
-pub use command::{Command, Compute, Kind, command_of};
+pub use command::{Command, Compute, Flavours, Kind, command_of};
 pub use keys::{Keys, keys_of};
 
 #[cfg(test)]

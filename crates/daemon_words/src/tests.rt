@@ -1,5 +1,5 @@
 // Words of the program, and whether they are of the grammar.
-use crate::{Command, Kind, command_of};
+use crate::{Command, Flavours, Kind, command_of};
 use std::alloc::Global;
 use std::test::Fail;
 
@@ -30,7 +30,55 @@ fn options_stand_in_any_order(rt: HostRuntime) -> Result<(), Fail> {
         return Err("refused".into());
     };
     assert_eq!(rt; compute.valid_after, 1767225600);
+    assert_eq!(rt; compute.flavours, Flavours::Ns);
     assert_eq!(rt; compute.roster.len(), 3);
+    Ok(())
+}
+
+#[test]
+fn flavours_are_named(rt: HostRuntime) -> Result<(), Fail> {
+    let alloc = rt.alloc();
+    for (word, flavours) in [
+        ("ns", Flavours::Ns),
+        ("microdesc", Flavours::Microdesc),
+        ("both", Flavours::Both),
+    ] {
+        let words = [
+            "compute",
+            "--flavour",
+            word,
+            "--authorities",
+            THREE,
+            "--valid-after",
+            TIME,
+        ];
+        let Some(Command::Compute(compute)) = read(alloc, &words)? else {
+            return Err("refused".into());
+        };
+        assert_eq!(rt; compute.flavours, flavours);
+    }
+    for word in ["NS", "micro", "", "ns,microdesc", "-ns"] {
+        let words = [
+            "compute",
+            "--authorities",
+            THREE,
+            "--valid-after",
+            TIME,
+            "--flavour",
+            word,
+        ];
+        assert!(rt; read(alloc, &words)?.is_none());
+    }
+    let twice = [
+        "compute",
+        "--authorities",
+        THREE,
+        "--valid-after",
+        TIME,
+        "--flavour=ns",
+        "--flavour=ns",
+    ];
+    assert!(rt; read(alloc, &twice)?.is_none());
     Ok(())
 }
 
@@ -53,7 +101,11 @@ fn other_words_give_nothing(rt: HostRuntime) -> Result<(), Fail> {
 #[test]
 fn documents_are_checked_and_shown(rt: HostRuntime) -> Result<(), Fail> {
     let alloc = rt.alloc();
-    for (word, kind) in [("vote", Kind::Vote), ("cert", Kind::Cert)] {
+    for (word, kind) in [
+        ("vote", Kind::Vote),
+        ("cert", Kind::Cert),
+        ("consensus", Kind::Consensus),
+    ] {
         for words in [
             &["check", word][..],
             &["check", "--", word],

@@ -4,10 +4,12 @@ use Rattle.item_terms.specs.Bytes.{line_feed}
 use Rattle.frame_terms.specs.declared.fault.ReadRefusal.TheVariants.{Frame}
 use Rattle.authority_certs.specs.Texts.{cert_text}
 use Rattle.vote_text.specs.Texts.{vote_text}
+use Rattle.consensus_terms.specs.Signed.{signed}
+use Rattle.consensus_terms.specs.Texts.{facts_text}
 use Rattle.daemon_words.specs.declared.command.Kind.{Kind}
 use Rattle.exit_status.specs.declared.status.Refusal.{Refusal}
 use Rattle.exit_status.specs.declared.status.Refusal.TheVariants as refusal
-use Rattle.document_commands.specs.Documents.{Document, cert, document_of, vote}
+use Rattle.document_commands.specs.Documents.{Document, cert, consensus, document_of, vote}
 
 -- The input is one document of this kind, and the text is that of it.
 pub record Tells (text_of : Document → List ℕ) (kind : Kind) (bytes text : List ℕ) : Type 0 where
@@ -30,6 +32,7 @@ check_text document = codes "ok" ++ line_feed ∷ []
 abbrev pub canonical_text : Document → List ℕ
 canonical_text (vote read) = vote_text read.says
 canonical_text (cert read) = cert_text read
+canonical_text (consensus read) = signed (facts_text read) read.signatures
 
 -- what `check` answers
 abbrev pub CheckAnswers : Kind → List ℕ → Result (List ℕ) Refusal → Type 0

@@ -7,6 +7,8 @@ use Rattle.authority_certs.specs.declared.cert.Cert.{Cert}
 use Rattle.authority_certs.specs.Reading.{cert_of}
 use Rattle.vote_terms.specs.Votes.{ReadVote}
 use Rattle.vote_doc.specs.Reading.{vote_of}
+use Rattle.consensus_terms.specs.declared.consensus.SignedConsensus.{SignedConsensus}
+use Rattle.consensus_doc.specs.Reading.{consensus_of}
 use Rattle.daemon_words.specs.declared.command.Kind.{Kind}
 use Rattle.daemon_words.specs.declared.command.Kind.TheVariants as kind
 use Rattle.document_commands.specs.Blanks.{after_blanks}
@@ -15,6 +17,7 @@ use Rattle.document_commands.specs.Blanks.{after_blanks}
 pub data Document : Type 0 where
   vote : ReadVote → Document
   cert : Cert → Document
+  consensus : SignedConsensus → Document
 
 -- what was read, unless another line stands at a place behind it: that line is out of order
 abbrev pub unless_more : {X : Type 0} → X → Option ℕ → Result X ReadRefusal
@@ -34,6 +37,10 @@ one_vote bytes = whole bytes (vote_of bytes)
 abbrev pub one_cert : List ℕ → Result Cert ReadRefusal
 one_cert bytes = whole bytes (cert_of bytes)
 
+-- the consensus that the input is, or its first fault
+abbrev pub one_consensus : List ℕ → Result SignedConsensus ReadRefusal
+one_consensus bytes = whole bytes (consensus_of bytes)
+
 -- what was read, as a document
 abbrev pub as_document : {X : Type 0} → (X → Document) → Result X ReadRefusal → Result Document ReadRefusal
 as_document wrap (Ok read) = Ok (wrap read)
@@ -43,3 +50,4 @@ as_document wrap (Err refusal) = Err refusal
 abbrev pub document_of : Kind → List ℕ → Result Document ReadRefusal
 document_of kind.Vote bytes = as_document vote (one_vote bytes)
 document_of kind.Cert bytes = as_document cert (one_cert bytes)
+document_of kind.Consensus bytes = as_document consensus (one_consensus bytes)

@@ -1,6 +1,7 @@
 // The commands over one document.
 ghost use Rattle.std.specs.Prelude.{◌≡◌, ◌≤◌, ◌<◌, ◌^◌, IfOk, length};
 ghost use Rattle.vote_text.specs.Texts.{vote_text};
+ghost use Rattle.consensus_terms.specs.Moments.{HasMoments};
 ghost use Rattle.exit_status.specs.Stops.{Answered};
 ghost use Rattle.document_commands.specs.Answers.{CheckAnswers, ShowAnswers};
 ghost use Rattle.document_commands.specs.Blanks as blanks;
@@ -9,6 +10,7 @@ ghost use Rattle.document_commands.specs.Private.{ReadsOne};
 
 use crate::blanks::after_blanks;
 use authority_certs::Cert;
+use consensus_doc::SignedConsensus;
 use daemon_words::Kind;
 use dir_bytes::Memory;
 use exit_status::{Stop, of_kind};
@@ -20,7 +22,7 @@ use vote_doc::Vote;
 const OK: &[u8] = b"ok\n";
 
 /// `ok`, where the input is one document of this kind, with nothing but blank lines before and after it.
-#[tactic(auto, using(crate::proofs::Telling::of_vote, crate::proofs::Telling::of_cert))]
+#[tactic(auto, using(crate::proofs::Telling::of_vote, crate::proofs::Telling::of_cert, crate::proofs::Telling::of_consensus))]
 pub fn check(alloc: Global, kind: Kind, bytes: &[u8]) -> Result<Vec<u8>, Stop>
     requires { length bytes.now < 2 ^ 61 }
     ensures { Answered (CheckAnswers kind bytes.now) result }
@@ -36,11 +38,16 @@ pub fn check(alloc: Global, kind: Kind, bytes: &[u8]) -> Result<Vec<u8>, Stop>
             let text = Vec::from_slice(alloc, OK)?;
             Ok(text)
         }
+        Kind::Consensus => {
+            let _consensus = of_kind(kind, one_consensus(alloc, bytes))?;
+            let text = Vec::from_slice(alloc, OK)?;
+            Ok(text)
+        }
     }
 }
 
 /// The canonical text of the document of this kind that the input is, with nothing but blank lines before and after it.
-#[tactic(auto, using(crate::proofs::Telling::of_vote, crate::proofs::Telling::of_cert))]
+#[tactic(auto, using(crate::proofs::Telling::of_vote, crate::proofs::Telling::of_cert, crate::proofs::Telling::of_consensus))]
 pub fn show(alloc: Global, kind: Kind, bytes: &[u8]) -> Result<Vec<u8>, Stop>
     requires { length bytes.now < 2 ^ 61 }
     ensures { Answered (ShowAnswers kind bytes.now) result }
@@ -54,6 +61,11 @@ pub fn show(alloc: Global, kind: Kind, bytes: &[u8]) -> Result<Vec<u8>, Stop>
         Kind::Cert => {
             let cert = of_kind(kind, one_cert(alloc, bytes))?;
             let text = authority_certs::write(alloc, &cert)?;
+            Ok(text)
+        }
+        Kind::Consensus => {
+            let consensus = of_kind(kind, one_consensus(alloc, bytes))?;
+            let text = consensus_doc::write_facts(alloc, &consensus)?;
             Ok(text)
         }
     }
@@ -98,4 +110,14 @@ fn one_cert(alloc: Global, bytes: &[u8]) -> Result<Cert, ReadRefusal>
 {
     let (cert, used) = authority_certs::read(alloc, bytes)?;
     alone(bytes, cert, used)
+}
+
+/// The consensus that the input is.
+fn one_consensus(alloc: Global, bytes: &[u8]) -> Result<SignedConsensus, ReadRefusal>
+    requires { length bytes.now < 2 ^ 61 }
+    ensures read { ReadsOne (documents.one_consensus bytes.now) result }
+    ensures moments { IfOk result (λ consensus. HasMoments consensus.facts) }
+{
+    let (consensus, used) = consensus_doc::read(alloc, bytes)?;
+    alone(bytes, consensus, used)
 }

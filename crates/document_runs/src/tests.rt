@@ -1,6 +1,7 @@
 // Runs of `check` and `show` on votes and certificates.
 mod certs;
 mod checking;
+mod consensuses;
 mod entries;
 mod showing;
 

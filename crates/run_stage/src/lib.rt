@@ -4,6 +4,7 @@
 
 mod pieces;
 mod run;
+mod signing;
 mod votes;
 
 pub use pieces::{Piece, place_of, with_pieces};

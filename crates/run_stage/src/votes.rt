@@ -1,5 +1,7 @@
 // Made votes of five authorities, and the words that ask for their consensus.
-use std::alloc::{AllocError, Global};
+use crate::signing::signature_of;
+use dir_bytes::Memory;
+use std::alloc::Global;
 
 /// The first three authorities.
 pub const THE_THREE: &str =
@@ -45,14 +47,14 @@ pub struct Vote {
     pub certification: &'static str,
     /// The digest of the signing key.
     pub signing_digest: &'static str,
-    /// The vote's signature, in base64.
-    pub signature: &'static str,
     /// The time of day until which the consensus is to be fresh.
     pub fresh: &'static str,
     /// The contact.
     pub contact: &'static str,
     /// The flags that the vote knows.
     pub known_flags: &'static str,
+    /// Further lines of its preamble, which stand behind the flags.
+    pub lists: &'static str,
     /// The lines of its entries.
     pub entries: &'static [&'static str],
 }
@@ -66,10 +68,10 @@ pub const ONE: Vote = Vote {
     crosscert: "W7g1vpnAfFlPotdxglWgJ9ZctyQMrB4xhHhiZVRrp/Q=",
     certification: "Zw20WLCU5zapzeLufxICg2CtoDETZ1JgmEU5tdnIBmA=",
     signing_digest: "6F72C48DADD6EFEB0DCB997E00F90619CA181EEC",
-    signature: "MqbYcq3B0vw+uX6qJMMwdeX1QHgvqQkqHisTccO6uRg=",
     fresh: "01:00:00",
     contact: "operator 1",
     known_flags: "Running Valid",
+    lists: "",
     entries: &[],
 };
 
@@ -82,10 +84,10 @@ pub const TWO: Vote = Vote {
     crosscert: "iKKVOfyCqwJH+xqLGWeEIy0769ab4q90aqW3OZmphrM=",
     certification: "mPIPF1Fj2Kp2KJIvqfo6IRVTseC5B6GTXbb8cUMEtfE=",
     signing_digest: "D8F7BE53AD76B2AE325B2A3A3A076B66AB8B1BB5",
-    signature: "hWcI18k2a8It313ihhwbmDPGMxryULSkK7VnK9daqGY=",
     fresh: "01:00:00",
     contact: "operator 2",
     known_flags: "Running Valid",
+    lists: "",
     entries: &[],
 };
 
@@ -98,10 +100,10 @@ pub const THREE: Vote = Vote {
     crosscert: "0Rv6h1F8tK+bhSW+Vj7XPEqPXGNMeI/iuv3aw2V45HE=",
     certification: "r52miFbjO1oB+cqeL+qGraMFJVj+4bkiQa+zUZxox4k=",
     signing_digest: "6031F0F5E4624A4901478420CDA098680B81B27D",
-    signature: "kxEeeNrqGrkairTTfQZwXSNmOW1lbDlkIOUKHtpyXzI=",
     fresh: "01:00:00",
     contact: "operator 3",
     known_flags: "Running Valid",
+    lists: "",
     entries: &[],
 };
 
@@ -114,10 +116,10 @@ pub const FOUR: Vote = Vote {
     crosscert: "pzD3UGGVlrsH4VJz1KkDPU28NBb+DgEMLe2EA7r1dug=",
     certification: "NCSUNslmY7VFXxqmbyLRgKGb44J9o6+Gn8D5la6ws2s=",
     signing_digest: "F3CB22E679ECAEA95A85F26D51358D9CD5684637",
-    signature: "osirsDJrh/IMZHEsYOXDT0TFPH7jxfatjwUTWIne6Qg=",
     fresh: "01:00:00",
     contact: "operator 4",
     known_flags: "Running Valid",
+    lists: "",
     entries: &[],
 };
 
@@ -130,38 +132,34 @@ pub const FIVE: Vote = Vote {
     crosscert: "CIC66QgKfncr/3gxzf+XK2DvZ1KPW0wq057Hc1Ls8/E=",
     certification: "O+jUt4zLx3KMNbG5F4BiIe6i/2BrwejJzXtaEFEUPx0=",
     signing_digest: "137A284ADB8807BD7E70BBBFD37DA4B9E074EE4E",
-    signature: "8U1Vu45RC4C8m94YPyaiMdfleR7LwDWgaJ5vHF66LXg=",
     fresh: "01:00:00",
     contact: "operator 5",
     known_flags: "Running Valid",
+    lists: "",
     entries: &[],
 };
 
 /// The second authority's vote, where the consensus is to be fresh until ten past one.
 pub const TWO_LATER: Vote = Vote {
     fresh: "01:10:00",
-    signature: "aXR+qj6Foi74nf2V8QiOIrTuEGcvDd65kYidfA0Flsk=",
     ..TWO
 };
 
 /// The third authority's vote, where it is to be fresh until twenty past one.
 pub const THREE_LATER: Vote = Vote {
     fresh: "01:20:00",
-    signature: "TY300kq+Z+PHLnb/BOMoxzTYnN/e5mSBvXpwaF8I/ZQ=",
     ..THREE
 };
 
 /// The fourth authority's vote, where it is to be fresh until half past one.
 pub const FOUR_LATER: Vote = Vote {
     fresh: "01:30:00",
-    signature: "HEhq/CjoLrtVeHD67ioqZo6TFkFMo8QaUDJ+UWeMz4g=",
     ..FOUR
 };
 
 /// A vote of the first authority with another contact.
 pub const ONE_AGAIN: Vote = Vote {
     contact: "another",
-    signature: "w5FrEJPZUZgf3P9ngVLY1Cqvw1iWVhfBWF65ivzxq9s=",
     ..ONE
 };
 
@@ -169,7 +167,7 @@ pub const ONE_AGAIN: Vote = Vote {
 ///
 /// # Errors
 /// There was no memory.
-pub fn input(alloc: Global, votes: &[Vote]) -> Result<String, AllocError> {
+pub fn input(alloc: Global, votes: &[Vote]) -> Result<String, Memory> {
     let mut text = String::new(alloc);
     'votes: for vote in votes {
         text.push_str(&text_of(alloc, vote)?)?;
@@ -177,20 +175,37 @@ pub fn input(alloc: Global, votes: &[Vote]) -> Result<String, AllocError> {
     Ok(text)
 }
 
-/// The text of a vote.
+/// The text of a vote, signed by the test scheme.
 ///
 /// # Errors
 /// There was no memory.
-pub fn text_of(alloc: Global, vote: &Vote) -> Result<String, AllocError> {
+pub fn text_of(alloc: Global, vote: &Vote) -> Result<String, Memory> {
+    let text = signed_part(alloc, vote)?;
+    let signature = signature_of(alloc, vote.number, text.as_bytes())?;
+    let Vote {
+        fingerprint,
+        signing_digest,
+        ..
+    } = *vote;
+    Ok(format!(in alloc;
+        "{text}{fingerprint} {signing_digest}
+-----BEGIN SIGNATURE-----
+{signature}
+-----END SIGNATURE-----
+"
+    )?)
+}
+
+/// The part of a vote that is signed.
+fn signed_part(alloc: Global, vote: &Vote) -> Result<String, Memory> {
     let certificate = certificate(alloc, vote)?;
     let Vote {
         number,
         fingerprint,
-        signing_digest,
-        signature,
         fresh,
         contact,
         known_flags,
+        lists,
         ..
     } = *vote;
     let entries = vote.entries.concat(alloc)?;
@@ -204,14 +219,10 @@ fresh-until 2026-01-01 {fresh}
 valid-until 2026-01-01 03:00:00
 voting-delay 300 300
 known-flags {known_flags}
-dir-source auth{number} {fingerprint} auth{number}.example 192.0.2.{number} 80 443
+{lists}dir-source auth{number} {fingerprint} auth{number}.example 192.0.2.{number} 80 443
 contact {contact}
 {certificate}{entries}directory-footer
-directory-signature {fingerprint} {signing_digest}
------BEGIN SIGNATURE-----
-{signature}
------END SIGNATURE-----
-"
+directory-signature "
     )?)
 }
 
@@ -219,7 +230,7 @@ directory-signature {fingerprint} {signing_digest}
 ///
 /// # Errors
 /// There was no memory.
-pub fn certificate(alloc: Global, vote: &Vote) -> Result<String, AllocError> {
+pub fn certificate(alloc: Global, vote: &Vote) -> Result<String, Memory> {
     let Vote {
         fingerprint,
         identity,

@@ -7,15 +7,15 @@ use std::test::Fail;
 
 /// A roster and its votes, the flags that their consensus knows, and its lines of relays.
 #[derive(Clone, Copy)]
-struct Case<'a> {
-    roster: &'a str,
-    votes: &'a [Vote],
-    flags: &'a str,
-    relays: &'a [&'a str],
+pub struct Case<'a> {
+    pub roster: &'a str,
+    pub votes: &'a [Vote],
+    pub flags: &'a str,
+    pub relays: &'a [&'a str],
 }
 
 // Asserts that the consensus of the votes knows the flags and has the lines of relays.
-fn assert_lists(rt: &impl Abort, alloc: Global, case: &Case<'_>) -> Result<(), Fail> {
+pub fn assert_lists(rt: &impl Abort, alloc: Global, case: &Case<'_>) -> Result<(), Fail> {
     let words = compute_words(case.roster);
     let votes = input(alloc, case.votes)?;
     let gave = run_of(alloc, &whole(&words, votes.as_bytes()))?;

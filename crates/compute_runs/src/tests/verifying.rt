@@ -339,10 +339,11 @@ fn a_document_fault_comes_before_a_refused_vote(rt: HostRuntime) -> Result<(), F
     let (before, after) = text.rsplit_once("voting-delay 300").ok_or("no delay")?;
     let faulty = format!(in alloc; "{before}voting-delay x{after}")?;
     let plain = whole(&words, faulty.as_bytes());
-    let line = "document fault at 2584: value\n";
+    let place = before.len().saturating_add("voting-delay ".len());
+    let line = format!(in alloc; "document fault at {place}: value\n")?;
     let verifies: &[u64] = &[1];
     for given in [plain, Given { verifies, ..plain }] {
-        assert_gives(&rt, alloc, given, 5, "", line)?;
+        assert_gives(&rt, alloc, given, 5, "", &line)?;
     }
     Ok(())
 }

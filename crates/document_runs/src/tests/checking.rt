@@ -1,6 +1,8 @@
 // Runs of `check`.
 use super::assert_gives;
-use run_stage::{Given, ONE, THE_THREE, TWO, compute_words, input, whole};
+use run_stage::{
+    Given, ONE, THE_THREE, TWO, Vote, compute_words, input, place_of, text_of, whole, with_pieces,
+};
 use std::alloc::Global;
 use std::process::Abort;
 use std::test::Fail;
@@ -42,90 +44,164 @@ fn votes_are_votes(rt: HostRuntime) -> Result<(), Fail> {
     Ok(())
 }
 
+/// A piece of a vote, another in its place, what then begins at the place of the fault, and the fault.
+type Faulty = (&'static str, &'static str, &'static str, &'static str);
+
 // Asserts that the vote is none where one piece is another.
-fn assert_faulty(
-    rt: &impl Abort,
-    alloc: Global,
-    from: &str,
-    to: &str,
-    fault: &str,
-) -> Result<(), Fail> {
+fn assert_faulty(rt: &impl Abort, alloc: Global, faulty: Faulty) -> Result<(), Fail> {
+    let (from, to, piece, reason) = faulty;
     let text = changed(alloc, from, to)?;
-    let line = format!(in alloc; "document fault at {fault}\n")?;
+    let place = place_of(&text, piece);
+    let line = format!(in alloc; "document fault at {place}: {reason}\n")?;
     assert_gives(rt, alloc, whole(&CHECK, text.as_bytes()), 5, "", &line)
 }
 
 #[test]
 fn lines_and_objects_have_their_form(rt: HostRuntime) -> Result<(), Fail> {
-    let cases = [
-        ("published", "_x\npublished", "63: keyword"),
-        (CONTACT, "contact oper\0ator\n", "337: nul"),
-        ("c2lnbi0x", "c2lnbi0*", "655: object base64"),
-        ("END ID SIGNATURE", "END SIGNATURE", "816: object end"),
-        ("BEGIN SIGNATURE", "BEGIN  SIGNATURE", "865: object words"),
-        ("BEGIN SIGNATURE", "BEGIN SIGNATUR", "935: object end"),
+    let key = "-----BEGIN RSA PUBLIC KEY-----\nc2";
+    let signing = "-----END SIGNATURE-----\ndirectory-footer";
+    let cases: [Faulty; 6] = [
+        ("published", "_x\npublished", "_x", "keyword"),
+        (CONTACT, "contact oper\0ator\n", "\0ator", "nul"),
+        ("c2lnbi0x", "c2lnbi0*", key, "object base64"),
+        (
+            "END ID SIGNATURE",
+            "END SIGNATURE",
+            "-----END SIGNATURE",
+            "object end",
+        ),
+        (
+            "BEGIN SIGNATURE",
+            "BEGIN  SIGNATURE",
+            "-----BEGIN  S",
+            "object words",
+        ),
+        ("BEGIN SIGNATURE", "BEGIN SIGNATUR", signing, "object end"),
     ];
-    for (from, to, fault) in cases {
-        assert_faulty(&rt, rt.alloc(), from, to, fault)?;
+    for faulty in cases {
+        assert_faulty(&rt, rt.alloc(), faulty)?;
     }
     Ok(())
 }
 
 #[test]
 fn items_stand_in_their_place(rt: HostRuntime) -> Result<(), Fail> {
-    let alloc = rt.alloc();
     let published = "published 2025-12-31 23:50:00\n";
-    let delay_behind = "contact operator 1\nvoting-delay 300 300\n";
-    let twice = "contact operator 1\ncontact operator 1\n";
-    let cases = [
+    let twice = "contact operator 1\ncontact  operator 1\n";
+    let missing = "missing network-status-version";
+    let cases: [Faulty; 5] = [
+        (FIRST, "x 1\nnetwork-status-version 3\n", "x 1", missing),
+        (published, "", "dir-source", "missing published"),
         (
-            FIRST,
-            "x 1\nnetwork-status-version 3\n",
-            "0: missing network-status-version",
+            "published",
+            "contact early\npublished",
+            "contact early",
+            "order",
         ),
-        (published, "", "206: missing published"),
-        ("published", "contact early\npublished", "63: order"),
-        (CONTACT, delay_behind, "344: order"),
-        (CONTACT, twice, "344: twice contact"),
+        (
+            CONTACT,
+            "contact\nvoting-delay 1 1\n",
+            "voting-delay 1 1",
+            "order",
+        ),
+        (CONTACT, twice, "contact  ", "twice contact"),
     ];
-    for (from, to, fault) in cases {
-        assert_faulty(&rt, alloc, from, to, fault)?;
-    }
-    let protocols = "recommended-relay-protocols Link=4-5\ndir-source";
-    let text = changed(alloc, "dir-source", protocols)?;
-    let line = "not built at 236: recommended-relay-protocols\n";
-    assert_gives(&rt, alloc, whole(&CHECK, text.as_bytes()), 14, "", line)
-}
-
-#[test]
-fn items_say_what_they_are_to(rt: HostRuntime) -> Result<(), Fail> {
-    let valid = "valid-after 2026-01-01 00:00:00";
-    let cases = [
-        (DELAY, "voting-delay 300 4294967296\n", "206"),
-        ("valid-after 2026-01-01", "valid-after 2026-02-30", "105"),
-        (valid, "valid-after 2026-01-01 00:00:60", "116"),
-        (valid, "valid-after 2026-01-01", "93"),
-        ("Running Valid", "Running Running", "230"),
-        ("auth1 2FD4", "auth_1 2FD4", "247"),
-        ("auth1 2FD4", "auth1 2GD4", "253"),
-        ("192.0.2.1 80 443", "192.0.2.256 80 443", "308"),
-        ("80 443", "80 65536", "321"),
-        (FIRST, "network-status-version 4\n", "23"),
-    ];
-    for (from, to, place) in cases {
-        let fault = format!(in rt.alloc(); "{place}: value")?;
-        assert_faulty(&rt, rt.alloc(), from, to, &fault)?;
+    for faulty in cases {
+        assert_faulty(&rt, rt.alloc(), faulty)?;
     }
     Ok(())
 }
 
 #[test]
+fn items_say_what_they_are_to(rt: HostRuntime) -> Result<(), Fail> {
+    let valid = "valid-after 2026-01-01 00:00:00";
+    let cases: [(&str, &str, &str); 14] = [
+        (DELAY, "voting-delay 300 4294967296\n", "4294967296"),
+        (
+            "valid-after 2026-01-01",
+            "valid-after 2026-02-30",
+            "2026-02-30",
+        ),
+        (valid, "valid-after 2026-01-01 00:00:60", "00:00:60"),
+        (valid, "valid-after 2026-01-01", "valid-after"),
+        ("Running Valid", "Valid Valid", "Valid\n"),
+        ("auth1 2FD4", "auth_1 2FD4", "auth_1"),
+        ("auth1 2FD4", "auth1 2GD4", "2GD4"),
+        ("192.0.2.1 80 443", "192.0.2.256 80 443", "192.0.2.256"),
+        ("80 443", "80 65536", "65536"),
+        (FIRST, "network-status-version 4\n", "4\n"),
+        (DELAY, "voting-delay 300 300\nparams a=1 b=x\n", "b=x"),
+        (DELAY, "voting-delay 300 300\nparams a=1 b=2 a=3\n", "a=3"),
+        (
+            DELAY,
+            "voting-delay 300 300\nclient-versions 0.4.8,x\n",
+            "0.4.8,x",
+        ),
+        (
+            DELAY,
+            "voting-delay 300 300\nrequired-client-protocols A=1 B=64\n",
+            "B=64",
+        ),
+    ];
+    for (from, to, piece) in cases {
+        assert_faulty(&rt, rt.alloc(), (from, to, piece, "value"))?;
+    }
+    Ok(())
+}
+
+/// The lines of a vote that real authorities make, with all that is read and some that is not.
+const REAL: [(&str, &str); 4] = [
+    (
+        "consensus-methods 32",
+        "consensus-methods 28 29 30 31 32 33 34",
+    ),
+    ("vote-status vote", "vote-status vote "),
+    (
+        "dir-source",
+        "flag-thresholds stable-uptime=1693145 fast-speed=102000
+bandwidth-file-headers timestamp=1767222000
+recommended-relay-protocols Cons=2 Desc=2 Link=4-5
+params CircuitPriorityHalflifeMsec=30000 bwweightscale=10000
+shared-rand-participate
+dir-source",
+    ),
+    ("operator 1", "operator \u{fc}"),
+];
+
+/// The entry of such a vote.
+const REAL_ENTRY: [&str; 9] = [
+    "r relay1 AQEBAQEBAQEBAQEBAQEBAQEBAQE AgICAgICAgICAgICAgICAgICAgI 2025-12-31 22:00:00 198.51.100.7 9001 0\n",
+    "s Running Valid\n",
+    "v Tor 0.4.8.12\npr Cons=1-2 Link=1-5\n",
+    "w Bandwidth=500 Measured=700\n",
+    "p reject 1-65535\n",
+    "m 28,29,30 sha256=BQUFBQUFBQUFBQUFBQUFBQUFBQUFBQUFBQUFBQUFBQU\n",
+    "m 31,32,33,34 sha256=BQUFBQUFBQUFBQUFBQUFBQUFBQUFBQUFBQUFBQUFBQU\n",
+    "id ed25519 none\n",
+    "stats wfu=0.998 tk=1234567 mtbf=654321\n",
+];
+
+#[test]
+fn a_real_vote_is_a_vote(rt: HostRuntime) -> Result<(), Fail> {
+    let alloc = rt.alloc();
+    let vote = Vote {
+        entries: &REAL_ENTRY,
+        ..ONE
+    };
+    let text = with_pieces(alloc, &text_of(alloc, &vote)?, &REAL)?.ok_or("no such piece")?;
+    assert_gives(&rt, alloc, whole(&CHECK, text.as_bytes()), 0, "ok\n", "")
+}
+
+#[test]
 fn other_texts_are_no_vote(rt: HostRuntime) -> Result<(), Fail> {
     let alloc = rt.alloc();
-    let flags = "known-flags Running Valid\nknown-flags Running Valid\n";
+    let flags = "known-flags Running Valid\nknown-flags  Running Valid\n";
     let twice = changed(alloc, "known-flags Running Valid\n", flags)?;
     let vote = input(alloc, &[ONE])?;
     let (unsigned, _) = vote.split_once("directory-footer").unwrap_or(("", ""));
+    let footer = format!(in alloc; "{}: missing directory-footer", unsigned.len())?;
+    let second = place_of(&twice, "known-flags  ");
+    let twice_known = format!(in alloc; "{second}: twice known-flags")?;
     let cases: [(&[u8], &str); 6] = [
         (b"", "0: missing network-status-version"),
         (
@@ -137,8 +213,8 @@ fn other_texts_are_no_vote(rt: HostRuntime) -> Result<(), Fail> {
             b"network-status-version 3\nvote-status vot",
             "40: unterminated",
         ),
-        (twice.as_bytes(), "236: twice known-flags"),
-        (unsigned.as_bytes(), "960: missing directory-footer"),
+        (twice.as_bytes(), &twice_known),
+        (unsigned.as_bytes(), &footer),
     ];
     for (text, fault) in cases {
         let line = format!(in alloc; "document fault at {fault}\n")?;
@@ -152,17 +228,19 @@ fn one_vote_stands_alone(rt: HostRuntime) -> Result<(), Fail> {
     let alloc = rt.alloc();
     let another = input(alloc, &[TWO])?;
     let cases = [
-        ("x\n", 1174),
-        ("x", 1174),
-        ("_\n", 1174),
-        ("\0\n", 1174),
-        (" ", 1174),
-        ("\n \t\nx\n", 1178),
-        ("\n \t\n -x\n", 1178),
-        (another.as_str(), 1174),
+        ("", "x\n"),
+        ("", "x"),
+        ("", "_\n"),
+        ("", "\0\n"),
+        ("", " "),
+        ("\n \t\n", "x\n"),
+        ("\n \t\n", " -x\n"),
+        ("", another.as_str()),
     ];
-    for (behind, place) in cases {
+    for (blank, behind) in cases {
         let mut text = input(alloc, &[ONE])?;
+        text.push_str(blank)?;
+        let place = text.len();
         text.push_str(behind)?;
         let line = format!(in alloc; "document fault at {place}: order\n")?;
         assert_gives(&rt, alloc, whole(&CHECK, text.as_bytes()), 5, "", &line)?;
@@ -213,9 +291,16 @@ fn objects_and_lines_have_a_limit(rt: HostRuntime) -> Result<(), Fail> {
 #[test]
 fn a_vote_has_a_limit(rt: HostRuntime) -> Result<(), Fail> {
     let alloc = rt.alloc();
+    // Fifteen lines of 1,048,576 bytes, one of three bytes and so many, and the vote itself.
+    let most = 1_048_573_usize.saturating_sub(input(alloc, &[ONE])?.len());
     let cases = [
-        (lines(alloc, 1_047_399)?, 0, "ok\n", ""),
-        (lines(alloc, 1_047_400)?, 9, "", "limit vote 16777216\n"),
+        (lines(alloc, most)?, 0, "ok\n", ""),
+        (
+            lines(alloc, most.saturating_add(1))?,
+            9,
+            "",
+            "limit vote 16777216\n",
+        ),
     ];
     for (items, number, text, line) in cases {
         let vote = changed(alloc, "published", &items)?;
@@ -235,15 +320,37 @@ fn a_vote_has_a_limit(rt: HostRuntime) -> Result<(), Fail> {
 fn lists_at_a_limit_are_read(rt: HostRuntime) -> Result<(), Fail> {
     let alloc = rt.alloc();
     let cases = [
-        ("known-flags Running Valid\n", "known-flags", "F"),
-        ("consensus-methods 32\n", "methods", ""),
+        (
+            "known-flags Running Valid\n",
+            "known-flags F",
+            "",
+            "known-flags",
+            64,
+        ),
+        (
+            "consensus-methods 32\n",
+            "consensus-methods ",
+            "",
+            "methods",
+            64,
+        ),
+        (
+            DELAY,
+            "voting-delay 300 300\nparams p",
+            "=1",
+            "params",
+            1024,
+        ),
     ];
-    for (from, limit, letter) in cases {
-        let (keyword, _) = from.split_once(" ").unwrap_or((from, ""));
-        let text = changed(alloc, from, &list(alloc, keyword, letter, 64)?)?;
+    for (from, front, behind, limit, most) in cases {
+        let text = changed(alloc, from, &list(alloc, front, behind, most)?)?;
         assert_gives(&rt, alloc, whole(&CHECK, text.as_bytes()), 0, "ok\n", "")?;
-        let text = changed(alloc, from, &list(alloc, keyword, letter, 65)?)?;
-        let line = format!(in alloc; "limit {limit} 64\n")?;
+        let text = changed(
+            alloc,
+            from,
+            &list(alloc, front, behind, most.saturating_add(1))?,
+        )?;
+        let line = format!(in alloc; "limit {limit} {most}\n")?;
         assert_gives(&rt, alloc, whole(&CHECK, text.as_bytes()), 9, "", &line)?;
     }
     Ok(())
@@ -303,11 +410,12 @@ fn object(alloc: Global, last: &str) -> Result<String, Fail> {
     Ok(format!(in alloc; "x\n-----BEGIN AB-----\n{rows}{row}{last}\n-----END AB-----\npublished")?)
 }
 
-// An item of so many different arguments.
-fn list(alloc: Global, keyword: &str, letter: &str, count: u64) -> Result<String, Fail> {
+// An item of so many different arguments, which are numbers with this in front and behind. The keyword stands in front of the first.
+fn list(alloc: Global, front: &str, behind: &str, count: u64) -> Result<String, Fail> {
+    let (keyword, letter) = front.rsplit_once(" ").ok_or("no keyword")?;
     let mut text = String::from_str(alloc, keyword)?;
     for number in 0..count {
-        text.push_str(&format!(in alloc; " {letter}{number}")?)?;
+        text.push_str(&format!(in alloc; " {letter}{number}{behind}")?)?;
     }
     text.push_str("\n")?;
     Ok(text)

@@ -22,34 +22,36 @@ const SET: &str = "s Running Valid\n";
 
 const KEY: &str = "id ed25519 AwMDAwMDAwMDAwMDAwMDAwMDAwMDAwMDAwMDAwMDAwM\n";
 
-/// The lines of some entries, the line of them in which something is wrong, which stands there last, and what that is.
+/// The lines of some entries, the piece of them at whose last place something is wrong, and what that is.
 #[derive(Clone, Copy)]
 struct Faulty {
     entries: &'static [&'static str],
-    line: &'static str,
+    piece: &'static str,
     fault: &'static str,
-    number: u8,
 }
 
 const DESCENDING: Faulty = Faulty {
     entries: &[X, SET, ZERO, SET],
-    line: ZERO,
+    piece: ZERO,
     fault: "unsorted",
-    number: 5,
 };
 
 const A_KEY_TWICE: Faulty = Faulty {
     entries: &[X, SET, KEY, Y, SET, KEY],
-    line: KEY,
+    piece: KEY,
     fault: "duplicate ed25519",
-    number: 5,
 };
 
-const BANDWIDTHS: Faulty = Faulty {
-    entries: &[X, SET, "w Bandwidth=1\n"],
-    line: "w Bandwidth=1\n",
-    fault: "w",
-    number: 14,
+const TOO_GREAT: Faulty = Faulty {
+    entries: &[X, SET, "w Bandwidth=4294967296\n"],
+    piece: "Bandwidth=4294967296",
+    fault: "value",
+};
+
+const A_BANDWIDTH_TWICE: Faulty = Faulty {
+    entries: &[X, SET, "w Bandwidth=1 Measured=2 Bandwidth=1\n"],
+    piece: "Bandwidth=1",
+    fault: "value",
 };
 
 // The vote of the first authority with these entries.
@@ -58,35 +60,25 @@ fn vote_of(alloc: Global, entries: &'static [&'static str]) -> Result<String, Fa
     Ok(input(alloc, &[vote])?)
 }
 
-// Asserts that `check` and `show` give no text of an input, with this number and line.
-fn assert_none(
-    rt: &impl Abort,
-    alloc: Global,
-    text: &[u8],
-    number: u8,
-    line: &str,
-) -> Result<(), Fail> {
+// Asserts that `check` and `show` give no text of an input, and this line.
+fn assert_none(rt: &impl Abort, alloc: Global, text: &[u8], line: &str) -> Result<(), Fail> {
     for words in [CHECK, SHOW] {
-        assert_gives(rt, alloc, whole(&words, text), number, "", line)?;
+        assert_gives(rt, alloc, whole(&words, text), 5, "", line)?;
     }
     Ok(())
 }
 
-// Asserts that a vote with such entries is refused at the last line that is the faulty one.
+// Asserts that a vote with such entries is refused where the piece stands last.
 fn assert_refused(rt: &impl Abort, alloc: Global, faulty: Faulty) -> Result<(), Fail> {
     let text = vote_of(alloc, faulty.entries)?;
-    let (before, _) = text.rsplit_once(faulty.line).ok_or("no such line")?;
-    let cause = match faulty.number {
-        14 => "not built",
-        _ => "document fault",
-    };
-    let line = format!(in alloc; "{cause} at {}: {}\n", before.len(), faulty.fault)?;
-    assert_none(rt, alloc, text.as_bytes(), faulty.number, &line)
+    let (before, _) = text.rsplit_once(faulty.piece).ok_or("no such piece")?;
+    let line = format!(in alloc; "document fault at {}: {}\n", before.len(), faulty.fault)?;
+    assert_none(rt, alloc, text.as_bytes(), &line)
 }
 
 #[test]
-fn entries_ascend_and_share_no_key(rt: HostRuntime) -> Result<(), Fail> {
-    for faulty in [DESCENDING, A_KEY_TWICE, BANDWIDTHS] {
+fn faulty_entries_are_refused(rt: HostRuntime) -> Result<(), Fail> {
+    for faulty in [DESCENDING, A_KEY_TWICE, TOO_GREAT, A_BANDWIDTH_TWICE] {
         assert_refused(&rt, rt.alloc(), faulty)?;
     }
     Ok(())
@@ -102,6 +94,7 @@ fn entries_are_shown_as_they_are(rt: HostRuntime) -> Result<(), Fail> {
         "s Fast Running Valid\n",
         "v Tor 0.4.8.12\n",
         "pr Cons=1-2 Link=1-5\n",
+        "w Bandwidth=500 Measured=700\n",
         "p reject 1-65535\n",
         "m 28,29 sha256=BQUFBQUFBQUFBQUFBQUFBQUFBQUFBQUFBQUFBQUFBQU\n",
         "m 31,32 sha256=BQUFBQUFBQUFBQUFBQUFBQUFBQUFBQUFBQUFBQUFBQU\n",
@@ -116,6 +109,10 @@ fn entries_are_shown_as_they_are(rt: HostRuntime) -> Result<(), Fail> {
         ("s Fast Running Valid", "s  Valid\tRunning Fast "),
         ("id ed25519 none", "id rsa1024 x\nid ed25519 none more"),
         ("m 28,29 sha256=", "m 028,29 sha1=x sha256="),
+        (
+            "Bandwidth=500 Measured=700",
+            "More=1 Measured=0700 More=2  Bandwidth=500",
+        ),
         ("9001 0\na", "09001 0 more\nnew-thing\na"),
     ];
     for (from, to) in cases {

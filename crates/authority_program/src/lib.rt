@@ -1,0 +1,113 @@
+//! What the program `dirauth` does: it runs `authority_daemon::run` over the real input, output and errors and a key service, and
+//! ends with its status.
+#![tactic(auto)]
+
+ghost use Rattle.std.specs.Prelude.{◌<◌, vec_len, IfOk};
+
+use authority_daemon::{Outside, run};
+use daemon_words::{Keys, keys_of};
+use dir_bytes::{StdSink, StdSource};
+use exit_status::{Status, report};
+use key_port::{ServiceKeys, TestKeys, UnixDial, Verifier};
+use std::alloc::{AllocError, Global};
+use std::net::Net;
+use std::process::ExitCode;
+use std::{env, io};
+
+/// Where the key service listens.
+const KEY_SERVICE: &str = "/run/dirauth-keys";
+
+/// How many workers there are, each with its verifier.
+const WORKERS: usize = 4;
+
+/// The words behind the program's name.
+fn words(rt: &HostRuntime) -> io::Result<Vec<String>> {
+    let mut words = Vec::new(rt.alloc());
+    for word in env::args(rt)?.skip(1) {
+        words.push(word)?;
+    }
+    Ok(words)
+}
+
+/// The test scheme, for each worker.
+fn test_keys(alloc: Global) -> Result<Vec<TestKeys>, AllocError>
+    ensures { IfOk result (λ verifiers. 0 < vec_len verifiers) }
+{
+    let mut verifiers = Vec::new(alloc);
+    verifiers.push(TestKeys::new(Vec::new(alloc)))?;
+    verifiers.push(TestKeys::new(Vec::new(alloc)))?;
+    verifiers.push(TestKeys::new(Vec::new(alloc)))?;
+    verifiers.push(TestKeys::new(Vec::new(alloc)))?;
+    Ok(verifiers)
+}
+
+/// The key service, for one worker. It is dialed when it is asked first.
+fn one_service<'a, N: Net>(
+    alloc: Global,
+    net: &'a N,
+) -> Result<ServiceKeys<UnixDial<&'a N>>, AllocError> {
+    let path = String::from_str(alloc, KEY_SERVICE)?;
+    Ok(ServiceKeys::new(UnixDial::new(net, path)))
+}
+
+/// The key service, for each worker.
+fn service_keys<'a, N: Net>(
+    alloc: Global,
+    net: &'a N,
+) -> Result<Vec<ServiceKeys<UnixDial<&'a N>>>, AllocError>
+    ensures { IfOk result (λ verifiers. 0 < vec_len verifiers) }
+{
+    let mut verifiers = Vec::new(alloc);
+    verifiers.push(one_service(alloc, net)?)?;
+    verifiers.push(one_service(alloc, net)?)?;
+    verifiers.push(one_service(alloc, net)?)?;
+    verifiers.push(one_service(alloc, net)?)?;
+    Ok(verifiers)
+}
+
+/// Runs the words with these verifiers over the real input, output and errors.
+fn run_with<V: Verifier + Drop>(
+    rt: &HostRuntime,
+    words: &[String],
+    verifiers: Result<Vec<V>, AllocError>,
+) -> Status
+    requires { IfOk verifiers (λ verifiers. 0 < vec_len verifiers) }
+{
+    let Ok(verifiers) = verifiers else {
+        return want_of_memory(rt);
+    };
+    let mut outside = Outside {
+        source: StdSource::new(rt.reader()),
+        sink: StdSink::new(io::writer(rt)),
+        errors: StdSink::new(rt.stderr()),
+        verifiers,
+    };
+    run(rt.alloc(), words, &mut outside)
+}
+
+/// Says that there was no memory for the words or the verifiers.
+fn want_of_memory(rt: &HostRuntime) -> Status {
+    let mut errors = StdSink::new(rt.stderr());
+    report(&mut errors, Status::Memory);
+    Status::Memory
+}
+
+/// Runs the words, with the verifiers that they choose.
+fn run_words(rt: &HostRuntime, words: &[String]) -> Status {
+    let (keys, words) = keys_of(words);
+    match keys {
+        Keys::Test => run_with(rt, words, test_keys(rt.alloc())),
+        Keys::Service => run_with(rt, words, service_keys(rt.alloc(), rt)),
+    }
+}
+
+/// Runs the words behind the program's name, and gives the exit code of the status.
+pub fn program(rt: &HostRuntime) -> ExitCode {
+    let status = match words(rt) {
+        Ok(words) => run_words(rt, &words),
+        Err(error) if error.kind() == io::ErrorKind::OutOfMemory => want_of_memory(rt),
+        // Words that are no text are none of the grammar, and no words are none either.
+        Err(_) => run_words(rt, &[]),
+    };
+    status.exit_code()
+}
