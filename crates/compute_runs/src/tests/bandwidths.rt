@@ -20,91 +20,110 @@ const W_500_900: &str = "w Bandwidth=500 Measured=900\n";
 
 const MEASURED: &str = "w Bandwidth=1 Measured=1\n";
 
-/// A vote for the relay and for another one that is not listed, which it measures.
-const MEASURES: Vote = Vote {
-    entries: &[X, SET, W_500, Y, VALID, MEASURED],
-    ..THREE
-};
+/// Entries for the relay and for another one that is not listed, which they measure.
+const MEASURE_ONE: &[&str] = &[X, SET, W_500, Y, VALID, MEASURED];
 
-/// The same, and it measures the relay too.
-const MEASURES_BOTH: Vote = Vote {
-    entries: &[X, SET, W_500_700, Y, VALID, MEASURED],
+/// The same, and they measure the relay too.
+const MEASURE_BOTH: &[&str] = &[X, SET, W_500_700, Y, VALID, MEASURED];
+
+/// Entries that say a bandwidth, and measure nothing.
+const SAY_500: &[&str] = &[X, SET, W_500];
+
+const ONE_MEASURES_BOTH: Vote = Vote {
+    entries: MEASURE_BOTH,
     ..ONE
 };
 
-/// A vote that says a bandwidth, and measures nothing.
-const SAYS_500: Vote = Vote {
-    entries: &[X, SET, W_500],
+const TWO_MEASURES_BOTH: Vote = Vote {
+    entries: MEASURE_BOTH,
+    ..TWO
+};
+
+const THREE_MEASURES_ONE: Vote = Vote {
+    entries: MEASURE_ONE,
+    ..THREE
+};
+
+const FOUR_SAYS_500: Vote = Vote {
+    entries: SAY_500,
     ..FOUR
+};
+
+const FIVE_SAYS_500: Vote = Vote {
+    entries: SAY_500,
+    ..FIVE
+};
+
+const ONE_SAYS_700: Vote = Vote {
+    entries: &[X, SET, W_500_700],
+    ..ONE
+};
+
+const TWO_SAYS_900: Vote = Vote {
+    entries: &[X, SET, W_500_900],
+    ..TWO
+};
+
+const THREE_SAYS_800: Vote = Vote {
+    entries: &[X, SET, W_500_800],
+    ..THREE
 };
 
 /// What an unmeasured bandwidth is at most.
 const LIMIT: &str = "params maxunmeasuredbw=100\n";
 
+const ONE_WITH_LIMIT: Vote = Vote {
+    lists: LIMIT,
+    ..ONE_MEASURES_BOTH
+};
+
+const TWO_WITH_LIMIT: Vote = Vote {
+    lists: LIMIT,
+    ..TWO_MEASURES_BOTH
+};
+
+const THREE_WITH_LIMIT: Vote = Vote {
+    lists: LIMIT,
+    ..THREE_MEASURES_ONE
+};
+
 #[test]
-fn a_bandwidth_is_measured_by_three_votes_or_has_a_limit(rt: HostRuntime) -> Result<(), Fail> {
-    let two = Vote {
-        entries: MEASURES_BOTH.entries,
-        ..TWO
-    };
-    let five = Vote {
-        entries: SAYS_500.entries,
-        ..FIVE
-    };
-    let cases: [Case; 4] = [
+fn what_three_votes_measure_limits_what_is_not_measured(rt: HostRuntime) -> Result<(), Fail> {
+    let cases: [Case; 3] = [
         Case {
             roster: THE_FIVE,
-            votes: &[MEASURES_BOTH, two, MEASURES, SAYS_500, five],
+            votes: &[
+                ONE_MEASURES_BOTH,
+                TWO_MEASURES_BOTH,
+                THREE_MEASURES_ONE,
+                FOUR_SAYS_500,
+                FIVE_SAYS_500,
+            ],
             flags: "NoEdConsensus Running Valid",
             relays: &[X, SET_BARE, "w Bandwidth=20 Unmeasured=1\n"],
         },
         Case {
             roster: THE_FIVE,
             votes: &[
-                Vote {
-                    lists: LIMIT,
-                    ..MEASURES_BOTH
-                },
-                Vote {
-                    lists: LIMIT,
-                    ..two
-                },
-                Vote {
-                    lists: LIMIT,
-                    ..MEASURES
-                },
-                SAYS_500,
-                five,
+                ONE_WITH_LIMIT,
+                TWO_WITH_LIMIT,
+                THREE_WITH_LIMIT,
+                FOUR_SAYS_500,
+                FIVE_SAYS_500,
             ],
             flags: "NoEdConsensus Running Valid",
             relays: &[X, SET_BARE, "w Bandwidth=100 Unmeasured=1\n"],
         },
         Case {
             roster: THE_FIVE,
-            votes: &[MEASURES_BOTH, two, SAYS_500, five],
-            flags: "NoEdConsensus Running Valid",
-            relays: &[X, SET_BARE, "w Bandwidth=500 Unmeasured=1\n"],
-        },
-        Case {
-            roster: THE_FIVE,
             votes: &[
-                Vote {
-                    entries: &[X, SET, W_500_700],
-                    ..ONE
-                },
-                Vote {
-                    entries: &[X, SET, W_500_900],
-                    ..TWO
-                },
-                Vote {
-                    entries: &[X, SET, W_500_800],
-                    ..THREE
-                },
-                SAYS_500,
-                five,
+                ONE_MEASURES_BOTH,
+                TWO_MEASURES_BOTH,
+                FOUR_SAYS_500,
+                FIVE_SAYS_500,
             ],
             flags: "NoEdConsensus Running Valid",
-            relays: &[X, SET_BARE, "w Bandwidth=800\n"],
+            relays: &[X, SET_BARE, "w Bandwidth=500 Unmeasured=1\n"],
         },
     ];
     for case in &cases {
@@ -113,36 +132,59 @@ fn a_bandwidth_is_measured_by_three_votes_or_has_a_limit(rt: HostRuntime) -> Res
     Ok(())
 }
 
-/// A vote that sets all that it knows on the relay.
-const SETS_ALL: Vote = Vote {
-    known_flags: "Exit Guard MiddleOnly Running Valid",
-    entries: &[
-        X,
-        "s Exit Guard MiddleOnly Running Valid\n",
-        "w Bandwidth=1000\n",
-    ],
+#[test]
+fn a_bandwidth_of_three_measures_is_their_low_median(rt: HostRuntime) -> Result<(), Fail> {
+    let case = Case {
+        roster: THE_FIVE,
+        votes: &[
+            ONE_SAYS_700,
+            TWO_SAYS_900,
+            THREE_SAYS_800,
+            FOUR_SAYS_500,
+            FIVE_SAYS_500,
+        ],
+        flags: "NoEdConsensus Running Valid",
+        relays: &[X, SET_BARE, "w Bandwidth=800\n"],
+    };
+    assert_lists(&rt, rt.alloc(), &case)
+}
+
+/// Entries and flags of a relay that all that is known is set on.
+const ALL_FLAGS: &str = "Exit Guard MiddleOnly Running Valid";
+
+const SET_ALL: &[&str] = &[
+    X,
+    "s Exit Guard MiddleOnly Running Valid\n",
+    "w Bandwidth=1000\n",
+];
+
+const ONE_SETS_ALL: Vote = Vote {
+    known_flags: ALL_FLAGS,
+    entries: SET_ALL,
     ..ONE
 };
 
+const TWO_SETS_ALL: Vote = Vote {
+    known_flags: ALL_FLAGS,
+    entries: SET_ALL,
+    ..TWO
+};
+
+const THREE_SETS_ALL: Vote = Vote {
+    known_flags: ALL_FLAGS,
+    entries: SET_ALL,
+    ..THREE
+};
+
+/// The weights of a consensus whose relays are all of the middle.
+const MIDDLE_WEIGHTS: &str =
+    "bandwidth-weights Wbd=0 Wbe=0 Wbg=0 Wbm=10000 Wdb=10000 Web=10000 Wed=10000 Wee=10000 Weg=10000 Wem=10000 Wgb=10000 Wgd=0 Wgg=10000 Wgm=10000 Wmb=10000 Wmd=0 Wme=0 Wmg=0 Wmm=10000\n";
+
 #[test]
 fn a_middle_relay_weighs_in_the_middle_alone(rt: HostRuntime) -> Result<(), Fail> {
-    let alloc = rt.alloc();
-    let votes = [
-        SETS_ALL,
-        Vote {
-            known_flags: SETS_ALL.known_flags,
-            entries: SETS_ALL.entries,
-            ..TWO
-        },
-        Vote {
-            known_flags: SETS_ALL.known_flags,
-            entries: SETS_ALL.entries,
-            ..THREE
-        },
-    ];
     let case = Case {
         roster: THE_THREE,
-        votes: &votes,
+        votes: &[ONE_SETS_ALL, TWO_SETS_ALL, THREE_SETS_ALL],
         flags: "BadExit Exit Guard MiddleOnly NoEdConsensus Running Valid",
         relays: &[
             X,
@@ -150,12 +192,15 @@ fn a_middle_relay_weighs_in_the_middle_alone(rt: HostRuntime) -> Result<(), Fail
             "w Bandwidth=1000 Unmeasured=1\n",
         ],
     };
-    assert_lists(&rt, alloc, &case)?;
+    assert_lists(&rt, rt.alloc(), &case)
+}
+
+#[test]
+fn a_footer_has_the_weights(rt: HostRuntime) -> Result<(), Fail> {
+    let alloc = rt.alloc();
     let words = compute_words(THE_THREE);
-    let text = input(alloc, &votes)?;
+    let text = input(alloc, &[ONE_SETS_ALL, TWO_SETS_ALL, THREE_SETS_ALL])?;
     let gave = run_of(alloc, &whole(&words, text.as_bytes()))?;
-    let footer =
-        "bandwidth-weights Wbd=0 Wbe=0 Wbg=0 Wbm=10000 Wdb=10000 Web=10000 Wed=10000 Wee=10000 Weg=10000 Wem=10000 Wgb=10000 Wgd=0 Wgg=10000 Wgm=10000 Wmb=10000 Wmd=0 Wme=0 Wmg=0 Wmm=10000\n";
-    assert!(rt; gave.text.ends_with(footer.as_bytes()));
+    assert!(rt; gave.text.ends_with(MIDDLE_WEIGHTS.as_bytes()));
     Ok(())
 }
