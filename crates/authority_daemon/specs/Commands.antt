@@ -1,5 +1,5 @@
 -- What each command answers to an input.
-use Rattle.std.specs.Prelude.{ℕ, List, Result}
+use Rattle.std.specs.Prelude.{Bool, true, false, ℕ, List, Option, Some, None, Result}
 use Rattle.key_port.specs.Answers.{Rules}
 use Rattle.daemon_words.specs.declared.command.Command.{Command}
 use Rattle.daemon_words.specs.declared.command.Command.TheVariants as command
@@ -12,6 +12,17 @@ abbrev pub Answers : Rules → Command → List ℕ → Result (List ℕ) Refusa
 Answers rules (command.Compute wanted) bytes answer = ComputeAnswers rules wanted bytes answer
 Answers rules (command.Check kind) bytes answer = CheckAnswers kind bytes answer
 Answers rules (command.Show kind) bytes answer = ShowAnswers kind bytes answer
+
+-- whether a command verifies signatures, a line for each command
+abbrev pub verifies : Command → Bool
+verifies (command.Compute wanted) = true
+verifies (command.Check kind) = false
+verifies (command.Show kind) = false
+
+-- whether words that give this command, or none, have signatures verified
+abbrev pub verifies_if : Option Command → Bool
+verifies_if None = false
+verifies_if (Some given) = verifies given
 
 -- the inputs that a command has to answer with a text, a line for each command
 abbrev pub Answerable : Rules → Command → List ℕ → Type 0

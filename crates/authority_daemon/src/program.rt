@@ -1,5 +1,5 @@
 // The program over what stands outside.
-ghost use Rattle.std.specs.Prelude.{◌≡◌, ◌≤◌, ◌<◌, ◌^◌, List, ℕ, Some, Err, length, vec_len};
+ghost use Rattle.std.specs.Prelude.{◌≡◌, ◌≤◌, ◌<◌, ◌^◌, List, ℕ, Some, Err, drop, false, length, vec_len};
 ghost use Rattle.dir_bytes.specs.Causes.{Rose};
 ghost use Rattle.key_port.specs.Answers.{rules};
 ghost use Rattle.daemon_words.specs.declared.command.Command.{Command};
@@ -7,9 +7,10 @@ ghost use Rattle.daemon_words.specs.Words as grammar;
 ghost use Rattle.exit_status.specs.Lines.{line_of};
 ghost use Rattle.exit_status.specs.Reports.{Reports};
 ghost use Rattle.exit_status.specs.Stops.{Answered};
-ghost use Rattle.authority_daemon.specs.Commands.{Answers};
+ghost use Rattle.authority_daemon.specs.Commands.{Answers, verifies, verifies_if};
 ghost use Rattle.authority_daemon.specs.Runs.{Told, KnowsWords, KeepsLimit, Ends, WritesOnlyAnswers, ReadsThrough, first_count, MustAnswer, IsDoneOrMemory};
 
+use bytes::Bytes;
 use compute_command::compute;
 use daemon_words::{Command, command_of};
 use dir_bytes::{ReadAllFault, Sink, Source, WriteAll, read_all, write_all};
@@ -62,6 +63,10 @@ pub fn run<S: Source + Drop, K: Sink + Drop, E: Sink + Drop, V: Verifier + Drop>
     ensures write_fault { result ≡ Status.WriteFault → Rose (K.faults outside.old.sink) (K.faults outside.new.sink) }
     ensures verifier_fault { result ≡ Status.Refused Refusal.Verifier →
         Rose (first_count V.faults outside.old.verifiers.items) (first_count V.faults outside.new.verifiers.items) }
+    // The first verifier alone is asked.
+    ensures others { drop 1 outside.new.verifiers.items ≡ drop 1 outside.old.verifiers.items }
+    // Words that give no command, and a command that verifies nothing, ask none.
+    ensures unasked { verifies_if (grammar.command_of words.now) ≡ false → outside.new.verifiers.items ≡ outside.old.verifiers.items }
     // The errors sink gets the line of the status.
     ensures errors { Reports (E.written outside.old.errors) (E.written outside.new.errors)
         (E.faults outside.old.errors) (E.faults outside.new.errors) (line_of result) }
@@ -100,6 +105,7 @@ fn run_command<S: Source, K: Sink, V: Verifier>(
     ensures read_fault { result ≡ Status.ReadFault → Rose (S.faults source.old) (S.faults source.new) }
     ensures write_fault { result ≡ Status.WriteFault → Rose (K.faults sink.old) (K.faults sink.new) }
     ensures verifier_fault { result ≡ Status.Refused Refusal.Verifier → Rose (V.faults verifier.old) (V.faults verifier.new) }
+    ensures unasked { verifies_if (grammar.command_of words.now) ≡ false → verifier.new ≡ verifier.old }
 {
     let command = match command_of(alloc, words) {
         Ok(Some(command)) => command,
@@ -111,6 +117,9 @@ fn run_command<S: Source, K: Sink, V: Verifier>(
         Err(ReadAllFault::TooLong) => return Status::TooLong,
         Err(ReadAllFault::ReadFault) => return Status::ReadFault,
         Err(ReadAllFault::Memory) => return Status::Memory,
+    };
+    let Ok(bytes) = Bytes::from_vec(bytes) else {
+        return Status::Memory;
     };
     match answer(alloc, &command, &bytes, verifier) {
         Ok(text) => match write_all(sink, &text) {
@@ -126,12 +135,13 @@ fn run_command<S: Source, K: Sink, V: Verifier>(
 fn answer<V: Verifier>(
     alloc: Global,
     command: &Command,
-    bytes: &[u8],
+    bytes: &Bytes,
     verifier: &mut V,
 ) -> Result<Vec<u8>, Stop>
     requires { length bytes.now < 2 ^ 61 }
     ensures answer { Answered (Answers (rules V.may_accept V.may_refuse) command.now bytes.now) result }
     ensures fault { result ≡ Err (Stop.Refused Refusal.Verifier) → Rose (V.faults verifier.old) (V.faults verifier.new) }
+    ensures unasked { verifies command.now ≡ false → verifier.new ≡ verifier.old }
 {
     match command {
         Command::Compute(wanted) => compute(alloc, wanted, bytes, verifier),

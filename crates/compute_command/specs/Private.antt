@@ -11,12 +11,6 @@ use Rattle.exit_status.specs.declared.status.Refusal.TheVariants as refusal
 use Rattle.exit_status.specs.declared.stop.Stop.{Stop}
 use Rattle.exit_status.specs.declared.stop.Stop.TheVariants as stop
 use Rattle.exit_status.specs.declared.vote_refusal.VoteListRefusal.TheVariants as list
-use Rattle.compute_command.specs.Votes.{vote_at}
-
--- the vote that begins at a place, or its fault
-abbrev pub ReadsAt : ℕ → List ℕ → Result (ReadVote × ℕ) ReadRefusal → Type 0
-ReadsAt place rest (Ok (vote, used)) = vote_at place rest ≡ Ok (vote, used)
-ReadsAt place rest (Err refusal) = Fails refusal (vote_at place rest)
 
 -- what was read are the votes, or the refusal is their fault
 abbrev pub ReadsVotes : Result (List ReadVote) ReadRefusal → Result (Vec ReadVote) ReadRefusal → Type 0

@@ -1,38 +1,21 @@
 -- The votes that an input is: one after the other, with nothing but blank lines before, between and after them.
-use Rattle.std.specs.Prelude.{ℕ, zero, suc, ◌+◌, ◌-◌, ◌^◌, min, List, [], ◌∷◌, ◌++◌, drop, Option, Some, None, Result, Ok, Err, unwrap_or}
-use Rattle.item_terms.specs.Items.{Item, items_of}
+use Rattle.std.specs.Prelude.{ℕ, zero, suc, List, [], ◌∷◌, ◌++◌, Option, Some, None, Result, Ok, Err, unwrap_or}
+use Rattle.item_terms.specs.Items.{Item, items_from}
 use Rattle.item_terms.specs.declared.fault.DocFault.{DocFault}
 use Rattle.frame_terms.specs.declared.fault.FrameFault.{FrameFault}
 use Rattle.frame_terms.specs.declared.fault.FrameReason.TheVariants.{TooMany}
 use Rattle.frame_terms.specs.declared.fault.ReadRefusal.{ReadRefusal}
-use Rattle.frame_terms.specs.declared.fault.ReadRefusal.TheVariants.{Frame, Memory}
+use Rattle.frame_terms.specs.declared.fault.ReadRefusal.TheVariants.{Frame}
 use Rattle.frame_terms.specs.declared.row.Limit.TheVariants.{Votes}
 use Rattle.frame_terms.specs.Decisions.{first_fault}
 use Rattle.frame_terms.specs.Refusals.{of_doc}
 use Rattle.vote_terms.specs.Votes.{ReadVote}
-use Rattle.vote_doc.specs.Reading.{vote_of}
+use Rattle.vote_doc.specs.Reading.{vote_from}
 use Rattle.vote_frame.specs.Tables.{vote_tables}
 
 -- more bytes than an input has
 abbrev pub no_limit : ℕ
 no_limit = 2305843009213693952
-
--- a sum of places, as far as a u64 goes
-abbrev pub plus : ℕ → ℕ → ℕ
-plus a b = min (a + b) (2 ^ 64 - 1)
-
--- a refusal of what begins at a place, with its place in the whole input
-abbrev pub shifted : ℕ → ReadRefusal → ReadRefusal
-shifted place (Frame fault) = Frame (record { place = plus place fault.place; reason = fault.reason })
-shifted place Memory = Memory
-
--- the vote that begins at a place of the input, and how many bytes it has
-abbrev pub vote_at : ℕ → List ℕ → Result (ReadVote × ℕ) ReadRefusal
-vote_at place rest = at_place place (vote_of rest)
-  where
-    at_place : ℕ → Result (ReadVote × ℕ) ReadRefusal → Result (ReadVote × ℕ) ReadRefusal
-    at_place place (Ok read) = Ok read
-    at_place place (Err refusal) = Err (shifted place refusal)
 
 -- ---- whether there is one more
 
@@ -45,9 +28,9 @@ by_first [] None = None
 by_first [] (Some fault) = Some (of_doc fault)
 by_first (item ∷ items) fault = Some (Frame (item_too_many item))
 
--- nothing where only blank lines follow, and else why one more vote is refused
-abbrev pub one_more : List ℕ → Option ReadRefusal
-one_more rest = by_first (items_of no_limit rest).items (items_of no_limit rest).fault
+-- nothing where only blank lines follow a place, and else why one more vote is refused
+abbrev pub one_more : ℕ → List ℕ → Option ReadRefusal
+one_more place bytes = by_first (items_from place no_limit bytes).items (items_from place no_limit bytes).fault
 
 -- ---- the votes
 
@@ -65,17 +48,17 @@ abbrev pub unless_end : Option ReadRefusal → Result (List ReadVote) ReadRefusa
 unless_end None votes = Ok []
 unless_end (Some refusal) votes = votes
 
-abbrev pub refused_at : ℕ → Option ReadRefusal → Result (List ReadVote) ReadRefusal
-refused_at place None = Ok []
-refused_at place (Some refusal) = Err (shifted place refusal)
+-- no votes where the input ends, and else the refusal of one too many
+abbrev pub unless_more : Option ReadRefusal → Result (List ReadVote) ReadRefusal
+unless_more None = Ok []
+unless_more (Some refusal) = Err refusal
 
 -- the votes from a place of the input on, of which there may be so many
 unfoldable pub votes_from : ℕ → ℕ → List ℕ → Result (List ReadVote) ReadRefusal
-votes_from zero place rest = refused_at place (one_more rest)
-votes_from (suc room) place rest =
-    unless_end (one_more rest)
-    (then_votes (vote_at place rest)
-    (λ read. with_front (read.0 ∷ []) (votes_from room (plus place read.1) (drop read.1 rest))))
+votes_from zero place bytes = unless_more (one_more place bytes)
+votes_from (suc room) place bytes =
+    unless_end (one_more place bytes)
+    (then_votes (vote_from place bytes) (λ read. with_front (read.0 ∷ []) (votes_from room read.1 bytes)))
 
 -- how many votes an input may have
 abbrev pub most_votes : ℕ

@@ -9,6 +9,7 @@ ghost use Rattle.compute_command.specs.Private.{GivesConsensus};
 
 use crate::accepting::accept;
 use crate::reading::votes_of;
+use bytes::Bytes;
 use consensus_calc::CalcFault;
 use consensus_terms::{Consensus, Flavour};
 use consensus_text::{unsigned, unsigned_both};
@@ -24,7 +25,7 @@ use vote_doc::Accepted;
 pub fn compute<V: Verifier>(
     alloc: Global,
     wanted: &Compute,
-    bytes: &[u8],
+    bytes: &Bytes,
     verifier: &mut V,
 ) -> Result<Vec<u8>, Stop>
     requires { length bytes.now < 2 ^ 61 }

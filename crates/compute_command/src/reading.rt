@@ -1,8 +1,9 @@
 // The votes that an input is.
-ghost use Rattle.std.specs.Prelude.{◌≡◌, ◌≤◌, ◌<◌, ◌^◌, IfOk, drop, length, vec_len};
+ghost use Rattle.std.specs.Prelude.{◌≡◌, ◌≤◌, ◌<◌, ◌^◌, IfOk, length, vec_len};
 ghost use Rattle.compute_command.specs.Votes as votes;
-ghost use Rattle.compute_command.specs.Private.{ReadsAt, ReadsVotes};
+ghost use Rattle.compute_command.specs.Private.{ReadsVotes};
 
+use bytes::Bytes;
 use dirdoc_grammar::Items;
 use frame_reader::first_fault;
 use frame_terms::{FrameFault, FrameReason, Limit, ReadRefusal};
@@ -15,36 +16,13 @@ const MOST_VOTES: usize = 64;
 /// More bytes than an input has.
 const NO_LIMIT: u64 = 2_305_843_009_213_693_952;
 
-/// A refusal of what begins at a place, with its place in the whole input.
-fn shifted(place: u64, refusal: ReadRefusal) -> ReadRefusal
-    ensures { result ≡ votes.shifted place refusal }
+/// Nothing where only blank lines follow a place, and else why one more vote is refused.
+fn one_more(bytes: &[u8], place: usize) -> Option<ReadRefusal>
+    requires within { place ≤ length bytes.now }
+    requires short { length bytes.now < 2 ^ 61 }
+    ensures { result ≡ votes.one_more place bytes.now }
 {
-    match refusal {
-        ReadRefusal::Frame(fault) => ReadRefusal::Frame(FrameFault {
-            place: place.saturating_add(fault.place),
-            reason: fault.reason,
-        }),
-        ReadRefusal::Memory => ReadRefusal::Memory,
-    }
-}
-
-/// The vote that begins at a place of the input, and how many bytes it has.
-fn vote_at(alloc: Global, place: u64, rest: &[u8]) -> Result<(Vote, usize), ReadRefusal>
-    requires { length rest.now < 2 ^ 61 }
-    ensures { ReadsAt place rest.now result }
-{
-    match read(alloc, rest) {
-        Ok(read) => Ok(read),
-        Err(refusal) => Err(shifted(place, refusal)),
-    }
-}
-
-/// Nothing where only blank lines follow, and else why one more vote is refused.
-fn one_more(rest: &[u8]) -> Option<ReadRefusal>
-    requires { length rest.now < 2 ^ 61 }
-    ensures { result ≡ votes.one_more rest.now }
-{
-    match Items::new(rest, NO_LIMIT).next() {
+    match Items::starting_at(bytes, place as u64, NO_LIMIT).next() {
         Ok(None) => None,
         Err(fault) => Some(ReadRefusal::from(fault)),
         Ok(Some(item)) => Some(ReadRefusal::Frame(match first_fault(VoteFrame, &item) {
@@ -57,41 +35,27 @@ fn one_more(rest: &[u8]) -> Option<ReadRefusal>
     }
 }
 
-/// What is left of a text behind its first bytes.
-fn after(text: &[u8], count: usize) -> &[u8]
-    ensures rest { result.now ≡ drop count text.now }
-    ensures within { length result.now ≤ length text.now }
-{
-    if count <= text.len() {
-        &text[count..]
-    } else {
-        &[]
-    }
-}
-
 /// The votes that the input is, in their order: one after the other, with nothing but blank lines before, between and
-/// after them, and at most 64.
+/// after them, and at most 64. They share the input's bytes.
 ///
 /// # Errors
 /// `Frame` is the input's first fault, with its place in the input; a 65th vote is refused at its first item. `Memory`
 /// is want of memory.
-pub fn votes_of(alloc: Global, bytes: &[u8]) -> Result<Vec<Vote>, ReadRefusal>
+pub fn votes_of(alloc: Global, bytes: &Bytes) -> Result<Vec<Vote>, ReadRefusal>
     requires { length bytes.now < 2 ^ 61 }
     ensures votes { ReadsVotes (votes.votes_of bytes.now) result }
     ensures few { IfOk result (λ found. vec_len found ≤ 64) }
 {
     let mut found = Vec::new(alloc);
-    let mut rest = bytes;
-    let mut place: u64 = 0;
+    let mut place: usize = 0;
     let mut room = MOST_VOTES;
-    'votes: while let Some(refusal) = one_more(rest) {
+    'votes: while let Some(refusal) = one_more(bytes, place) {
         if room == 0 {
-            return Err(shifted(place, refusal));
+            return Err(refusal);
         }
-        let (vote, used) = vote_at(alloc, place, rest)?;
+        let (vote, after) = read(alloc, bytes, place)?;
         found.push(vote)?;
-        place = place.saturating_add(used as u64);
-        rest = after(rest, used);
+        place = after;
         room -= 1;
     }
     Ok(found)

@@ -10,6 +10,7 @@ ghost use Rattle.document_commands.specs.Private.{ReadsOne};
 
 use crate::blanks::after_blanks;
 use authority_certs::Cert;
+use bytes::Bytes;
 use consensus_doc::SignedConsensus;
 use daemon_words::Kind;
 use dir_bytes::Memory;
@@ -23,7 +24,7 @@ const OK: &[u8] = b"ok\n";
 
 /// `ok`, where the input is one document of this kind, with nothing but blank lines before and after it.
 #[tactic(auto, using(crate::proofs::Telling::of_vote, crate::proofs::Telling::of_cert, crate::proofs::Telling::of_consensus))]
-pub fn check(alloc: Global, kind: Kind, bytes: &[u8]) -> Result<Vec<u8>, Stop>
+pub fn check(alloc: Global, kind: Kind, bytes: &Bytes) -> Result<Vec<u8>, Stop>
     requires { length bytes.now < 2 ^ 61 }
     ensures { Answered (CheckAnswers kind bytes.now) result }
 {
@@ -48,7 +49,7 @@ pub fn check(alloc: Global, kind: Kind, bytes: &[u8]) -> Result<Vec<u8>, Stop>
 
 /// The canonical text of the document of this kind that the input is, with nothing but blank lines before and after it.
 #[tactic(auto, using(crate::proofs::Telling::of_vote, crate::proofs::Telling::of_cert, crate::proofs::Telling::of_consensus))]
-pub fn show(alloc: Global, kind: Kind, bytes: &[u8]) -> Result<Vec<u8>, Stop>
+pub fn show(alloc: Global, kind: Kind, bytes: &Bytes) -> Result<Vec<u8>, Stop>
     requires { length bytes.now < 2 ^ 61 }
     ensures { Answered (ShowAnswers kind bytes.now) result }
 {
@@ -95,11 +96,11 @@ fn alone<D: Drop>(bytes: &[u8], document: D, used: usize) -> Result<D, ReadRefus
 }
 
 /// The vote that the input is.
-fn one_vote(alloc: Global, bytes: &[u8]) -> Result<Vote, ReadRefusal>
+fn one_vote(alloc: Global, bytes: &Bytes) -> Result<Vote, ReadRefusal>
     requires { length bytes.now < 2 ^ 61 }
     ensures { ReadsOne (documents.one_vote bytes.now) result }
 {
-    let (vote, used) = vote_doc::read(alloc, bytes)?;
+    let (vote, used) = vote_doc::read(alloc, bytes, 0)?;
     alone(bytes, vote, used)
 }
 

@@ -1,13 +1,13 @@
 -- Where items end that are written one after the other.
 use Rattle.std.proofs.Common.{◌≡◌, ℕ, ◌+◌, ◌≤◌, false, List, [], ◌∷◌, ◌++◌, length, refl, ap, subst, ◌∙◌, arith}
 use Rattle.std.specs.Prelude.{◌&&◌, map}
-use Rattle.std.proofs.lemmas.List.{length-append}
+use Rattle.std.proofs.lemmas.List.{drop_at, length-append}
 use Rattle.item_terms.specs.Items.{Contents, Item, contents, items_from, nothing}
 use Rattle.item_terms.specs.Words.{begins_dash}
 use Rattle.dirdoc_laws.proofs.ItemsAgain.{items_again}
 use Rattle.dirdoc_grammar.proofs.Places.{stand_in_place}
 use Rattle.dirdoc_grammar.specs.InPlace.{EachInPlace}
-use Rattle.dirdoc_grammar.specs.Writing.{AreWritable, NewItem, all_written, in_front, is_open, item_text, items_text}
+use Rattle.dirdoc_grammar.specs.Writing.{AreWritable, IsWritable, NewItem, all_written, in_front, is_open, item_text, items_text}
 use Rattle.dirdoc_grammar.specs.Writing.{written}
 use Rattle.frame_terms.specs.declared.document.Taken.{Taken}
 use Rattle.frame_laws.proofs.Entries.{Entry, after_one, all_taken, item_of, taken_at}
@@ -110,14 +110,37 @@ part_in_place bytes place items others each =
     both_in_place bytes (all_written place items) (all_written (place + length (items_text items)) others)
     (subst (λ (l : List Item). EachInPlace bytes l) (all_written-append place items others) each)
 
--- items that were written stand in place in their text, whatever follows it
-pub written_in_place : (limit : ℕ) (items : List NewItem) (rest : List ℕ) → AreWritable limit 0 items
-    → (is_open items && begins_dash rest) ≡ false → EachInPlace (items_text items ++ rest) (all_written 0 items)
-written_in_place limit items rest are closed =
-    let bytes = items_text items ++ rest in
-    let after = contents limit (0 + length (items_text items)) nothing rest in
-    let all : 0 + limit ≡ limit = omega arith in
-    let read : items_from 0 limit bytes ≡ in_front (all_written 0 items) after =
-    ap (λ (k : ℕ). contents k 0 nothing bytes) all ∙ items_again limit 0 items rest are closed in
-    (both_in_place bytes (all_written 0 items) after.items
-    (subst (λ (c : Contents). EachInPlace bytes c.items) read (stand_in_place 0 limit bytes))).front
+-- items that may be written from the first place on may be so behind other bytes, within a limit that counts from there
+pub moved : (at limit place : ℕ) (items : List NewItem) → AreWritable limit place items
+    → AreWritable (at + limit) (at + place) items
+moved at limit place [] are = tt
+moved at limit place (item ∷ items) are =
+    let next = place + length (item_text item) in
+    let same : at + next ≡ (at + place) + length (item_text item) = omega arith in
+    let first : IsWritable (at + limit) (at + place) item = record {
+      keyword = are.0.keyword;
+      arguments = are.0.arguments;
+      line_fits = are.0.line_fits;
+      object = are.0.object;
+      within = omega (arith, are.0.within);
+    } in
+    (first, subst (λ (n : ℕ). AreWritable (at + limit) n items) same (moved at limit next items are.1))
+
+pub written_behind : (at limit : ℕ) (items : List NewItem) → AreWritable limit 0 items → AreWritable (at + limit) at items
+written_behind at limit items are =
+    let here : at + 0 ≡ at = omega arith in
+    subst (λ (n : ℕ). AreWritable (at + limit) n items) here (moved at limit 0 items are)
+
+-- items that were written stand in place in their text, whatever stands before and behind it
+pub written_in_place : (front : List ℕ) (limit : ℕ) (items : List NewItem) (rest : List ℕ)
+    → AreWritable (length front + limit) (length front) items → (is_open items && begins_dash rest) ≡ false
+    → EachInPlace (front ++ (items_text items ++ rest)) (all_written (length front) items)
+written_in_place front limit items rest are closed =
+    let at = length front in
+    let bytes = front ++ (items_text items ++ rest) in
+    let after = contents (at + limit) (at + length (items_text items)) nothing rest in
+    let read : items_from at limit bytes ≡ in_front (all_written at items) after =
+    ap (λ (l : List ℕ). contents (at + limit) at nothing l) (drop_at front (items_text items ++ rest) (length front) refl)
+    ∙ items_again (at + limit) at items rest are closed in
+    (both_in_place bytes (all_written at items) after.items
+    (subst (λ (c : Contents). EachInPlace bytes c.items) read (stand_in_place at limit bytes))).front

@@ -1,5 +1,6 @@
 // What the entries of a vote say.
 use super::*;
+use bytes::Bytes;
 use dir_values::{Digest1, Digest2, Fingerprint};
 use frame_terms::ReadRefusal;
 use std::alloc::Global;
@@ -77,7 +78,7 @@ struct Said {
 
 /// What each of the two entries says, where there are two.
 fn both_entries(alloc: Global) -> Result<Option<[Said; 2]>, ReadRefusal> {
-    let (vote, _) = read(alloc, VOTE)?;
+    let (vote, _) = read(alloc, &Bytes::from_static(VOTE), 0)?;
     if vote.len() != 2 {
         return Ok(None);
     }
@@ -126,7 +127,7 @@ fn reads_the_entries_of_a_vote(rt: HostRuntime) -> Result<(), Fail> {
 
 /// The digests that the second entry gives for these methods.
 fn micros(alloc: Global, methods: [u32; 2]) -> Result<[Option<Digest2>; 2], ReadRefusal> {
-    let (vote, _) = read(alloc, VOTE)?;
+    let (vote, _) = read(alloc, &Bytes::from_static(VOTE), 0)?;
     if vote.len() != 2 {
         return Ok([None, None]);
     }

@@ -1,5 +1,6 @@
 // Votes without relays: what one says, that it is written as it was, and which of two of one authority is held.
 use super::*;
+use bytes::Bytes;
 use dir_bytes::{BadField, Memory, read_hex};
 use dir_values::{Digest1, Digest2, Fingerprint, Roster};
 use frame_terms::ReadRefusal;
@@ -76,7 +77,7 @@ fn vote_of(
     if bytes.len() > 100_000 {
         return Err(ReadRefusal::Memory);
     }
-    read(alloc, &bytes)
+    read(alloc, &Bytes::from_vec(bytes)?, 0)
 }
 
 /// The vote with this `contact` line and this signature, and how many bytes were read.

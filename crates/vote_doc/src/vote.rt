@@ -8,6 +8,7 @@ ghost use Rattle.vote_doc.specs.Facts as facts;
 use crate::head_values::HeadValues;
 use crate::kept::Kept;
 use authority_certs::Cert;
+use bytes::Bytes;
 use dir_values::{Digest1, Digest2, Fingerprint, FlagSet};
 use frame_values::{between, moment, part, part_if};
 use sha1::Sha1;
@@ -16,10 +17,11 @@ use std::marker::Model;
 use vote_entries::Entry;
 use vote_terms::{Rank, SignatureFacts, VoteLists};
 
-/// A vote (dir-spec, "Vote and consensus status document formats"). Its texts are slices of its bytes.
+/// A vote (dir-spec, "Vote and consensus status document formats"). Its texts are slices of the bytes of the input, which it shares
+/// with it.
 #[derive(Drop)]
 pub struct Vote {
-    pub(crate) bytes: Vec<u8>,
+    pub(crate) bytes: Bytes,
     pub(crate) kept: Kept,
     values: HeadValues,
 }
@@ -30,16 +32,16 @@ impl Model for Vote {
 
     ghost Value = { ReadVote };
 
-    ghost view = { λ v. vote_in v.bytes.items v.kept };
+    ghost view = { λ v. vote_in v.bytes v.kept };
 
-    ghost invariant = { λ v. IsKept v.bytes.items v.kept.head v.values };
+    ghost invariant = { λ v. IsKept v.bytes v.kept.head v.values };
 }
 
 impl Vote {
-    /// The vote of these bytes, of which this was kept.
-    pub(crate) fn new(bytes: Vec<u8>, kept: Kept, values: HeadValues) -> Vote
-        requires { facts.IsKept bytes.items kept.head values }
-        ensures { result ≡ facts.vote_in bytes.items kept }
+    /// The vote in these bytes, of which this was kept.
+    pub(crate) fn new(bytes: Bytes, kept: Kept, values: HeadValues) -> Vote
+        requires { facts.IsKept bytes kept.head values }
+        ensures { result ≡ facts.vote_in bytes kept }
     {
         Vote {
             bytes,

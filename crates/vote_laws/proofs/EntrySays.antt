@@ -14,7 +14,7 @@ use Rattle.frame_terms.specs.declared.keyword.Keyword.TheVariants as the
 use Rattle.frame_terms.specs.declared.row.Count.TheVariants.{Many, One, Optional}
 use Rattle.frame_values.specs.Fields.{span}
 use Rattle.frame_values.specs.Parts.{moment_of, part}
-use Rattle.frame_values.specs.Values.{item_at, own_of_value, text_if, text_in, text_of_value}
+use Rattle.frame_values.specs.Values.{item_at, text_if, text_in, text_of_value}
 use Rattle.frame_values.specs.declared.found.Span.{Span}
 use Rattle.frame_values.specs.declared.values.Value.{Value}
 use Rattle.frame_values.specs.declared.values.Value.TheVariants as value

@@ -1,8 +1,8 @@
 -- A vote that was written is read: its document, and where it ends.
-use Rattle.std.proofs.Common.{◌≡◌, ℕ, ◌+◌, ◌-◌, ◌≤◌, false, List, [], ◌∷◌, ◌++◌, length, take, Option, None, Result, Ok}
+use Rattle.std.proofs.Common.{◌≡◌, ℕ, ◌+◌, ◌≤◌, false, List, [], ◌∷◌, ◌++◌, length, Option, None, Result, Ok}
 use Rattle.std.proofs.Common.{refl, sym, ap, subst, ◌∙◌, append_assoc, arith}
-use Rattle.std.specs.Prelude.{◌&&◌, map, slice_range}
-use Rattle.std.proofs.Math.Seq.{take-append_seam}
+use Rattle.std.specs.Prelude.{◌&&◌, map}
+use Rattle.std.proofs.lemmas.List.{drop_at}
 use Rattle.item_terms.specs.Items.{Contents, Item, contents, nothing}
 use Rattle.item_terms.specs.Words.{begins_dash}
 use Rattle.item_terms.specs.declared.fault.DocFault.{DocFault}
@@ -23,10 +23,10 @@ use Rattle.frame_laws.proofs.Following.{first_read, section_read}
 use Rattle.frame_laws.proofs.Groups.{groups_in}
 use Rattle.frame_laws.proofs.LastRows.{section_to_whole}
 use Rattle.frame_laws.proofs.Passing.{notes_passing}
-use Rattle.frame_laws.proofs.Places.{after_all-append, both_written}
+use Rattle.frame_laws.proofs.Places.{after_all-append, both_written, written_behind}
 use Rattle.frame_laws.proofs.Sections.{entries_in, others_in, section_before_last, section_whole, taken_in}
 use Rattle.frame_laws.proofs.Steps.{opening}
-use Rattle.frame_laws.proofs.WrittenRows.{ends_with_text, is_closed}
+use Rattle.frame_laws.proofs.WrittenRows.{ends_behind, is_closed}
 use Rattle.certificate_laws.proofs.CertRows.{certificate, certificate_ended, certificate_version, certification}
 use Rattle.certificate_laws.proofs.CertRows.{last_row}
 use Rattle.certificate_laws.proofs.CertSays.{cert_ends}
@@ -37,7 +37,7 @@ use Rattle.vote_terms.specs.declared.facts.VoteFacts.{VoteFacts}
 use Rattle.vote_text.specs.Texts.{vote_items, vote_text}
 use Rattle.vote_doc.specs.Facts.{vote_in}
 use Rattle.vote_doc.specs.Kept.{kept_with, none_kept}
-use Rattle.vote_doc.specs.Reading.{max_vote, vote_of, with_facts}
+use Rattle.vote_doc.specs.Reading.{max_vote, vote_from, with_facts}
 use Rattle.vote_doc.specs.declared.kept.Kept.{Kept}
 use Rattle.vote_frame.specs.Tables.{vote_tables}
 use Rattle.vote_frame.specs.declared.frame.VoteKind.TheVariants as kind
@@ -60,24 +60,24 @@ abbrev in_section : VoteFacts → VotePart
 in_section facts = certificate Certificate kind.Certificate facts.certificate
 
 -- the certificate passes not its limit
-certificate_fits : (facts : VoteFacts) → IsInRange facts → entries_place facts ≤ certificate_place facts + 65536
-certificate_fits facts are =
+certificate_fits : (at : ℕ) (facts : VoteFacts) → IsInRange facts → entries_place at facts ≤ certificate_place at facts + 65536
+certificate_fits at facts are =
     let fits = are.certificate.fits in
-    omega (arith, fits, cert_ends VoteValue (certificate_place facts) facts.certificate)
+    omega (arith, fits, cert_ends VoteValue (certificate_place at facts) facts.certificate)
 
 -- its first item begins it inside the section of its authority
-certificate_made : (facts : VoteFacts) → IsInRange facts
-    → made_by vote_tables none_listed (opening Authority (taken_in (authority_place facts) (authority facts)) None)
-    (written (certificate_place facts) (item_of {V = Value VoteValue} certificate_version))
-    ≡ Ok (Enters Certificate (taken_at (certificate_place facts) certificate_version))
+certificate_made : (at : ℕ) (facts : VoteFacts) → IsInRange facts
+    → made_by vote_tables none_listed (opening Authority (taken_in (authority_place at facts) (authority facts)) None)
+    (written (certificate_place at facts) (item_of {V = Value VoteValue} certificate_version))
+    ≡ Ok (Enters Certificate (taken_at (certificate_place at facts) certificate_version))
 unfolding same
-certificate_made facts are =
-    let place = certificate_place facts in
-    let before = authority_place facts in
+certificate_made at facts are =
+    let place = certificate_place at facts in
+    let before = authority_place at facts in
     let next = after_one {V = Value VoteValue} place certificate_version in
     let near : next ≤ place + 65536 =
-    less next (entries_place facts) (place + 65536)
-    (first_ends place (in_section facts) (certification facts.certificate)) (certificate_fits facts are) in
+    less next (entries_place at facts) (place + 65536)
+    (first_ends place (in_section facts) (certification facts.certificate)) (certificate_fits at facts are) in
     entering vote_tables none_listed Authority Certificate (taken_at before (authority facts).opener)
     (others_in before (authority facts)) place certificate_version
     certificate_row (record { row_there = refl; not_last = refl; begins_nothing = refl }) refl
@@ -88,31 +88,31 @@ certificate_made facts are =
     less a b c first second = omega (arith, first, second)
 
 -- what its authority's section has with that item lacks nothing
-authority_whole : (facts : VoteFacts) → IsInRange facts
+authority_whole : (at : ℕ) (facts : VoteFacts) → IsInRange facts
     → lacking (vote_tables.rows Authority)
-    (taken_in (authority_place facts) (authority facts) ++ taken_at
-    (certificate_place facts) certificate_version ∷ [])
+    (taken_in (authority_place at facts) (authority facts) ++ taken_at
+    (certificate_place at facts) certificate_version ∷ [])
     ≡ None
-authority_whole facts are =
+authority_whole at facts are =
     subst (λ (l : List VoteTaken). lacking (vote_tables.rows Authority) l ≡ None)
-    (taken_to-parts (authority_place facts) (authority facts) certificate_version)
-    (section_to_whole vote_tables (authority_place facts) (authority facts) certificate_row certificate_version
+    (taken_to-parts (authority_place at facts) (authority facts) certificate_version)
+    (section_to_whole vote_tables (authority_place at facts) (authority facts) certificate_row certificate_version
     (authority_written facts are) refl)
 
 -- the items of a vote make it
-document_read : (length_ : ℕ) (facts : VoteFacts) (fault : Option DocFault) (more : List Item) → IsInRange facts
+document_read : (length_ at : ℕ) (facts : VoteFacts) (fault : Option DocFault) (more : List Item) → IsInRange facts
     → read_items vote_tables length_ none_listed (start vote_tables) fault
-    (all_written 0 (map item_of (vote_entries facts)) ++ more) ≡ Ok (vote_document facts)
-document_read length_ facts fault more are =
+    (all_written at (map item_of (vote_entries facts)) ++ more) ≡ Ok (vote_document at facts)
+document_read length_ at facts fault more are =
     let none = none_listed in
     let p = entries_in (preamble facts) in
     let a = entries_in (authority facts) in
     let c = in_cert facts in
     let ef = in_list facts ++ footer_entries facts in
-    let at_a = authority_place facts in
-    let at_c = certificate_place facts in
-    let at_e = entries_place facts in
-    let in_p = in_preamble facts in
+    let at_a = authority_place at facts in
+    let at_c = certificate_place at facts in
+    let at_e = entries_place at facts in
+    let in_p = in_preamble at facts in
     let in_a = taken_in at_a (authority facts) in
     let one : VoteTaken = taken_at at_c certificate_version in
     let rest_a = all_written at_a (map item_of (a ++ (c ++ ef))) ++ more in
@@ -128,16 +128,16 @@ document_read length_ facts fault more are =
     let quiet_c =
     section_to_quiet (in_section facts) (certification facts.certificate)
     (section_quiet (in_section facts) (λ n. refl) refl cert.written.said) (λ n. refl) in
-    let entries = groups_in at_e (sections_of facts) ++ group Footer (in_footer facts) ∷ [] in
+    let entries = groups_in at_e (sections_of facts) ++ group Footer (in_footer at facts) ∷ [] in
     ap (λ (l : List Item). read_items vote_tables length_ none (start vote_tables) fault l)
-    (both_written 0 p (a ++ (c ++ ef)) more)
-    ∙ first_read vote_tables length_ none none 0 (preamble facts) [] fault rest_a refl preamble_first whole
-    (suits_version the.NetworkStatusVersion none 0) (notes_passing vote_tables is_quiet forgotten none 0 p quiet_p)
+    (both_written at p (a ++ (c ++ ef)) more)
+    ∙ first_read vote_tables length_ none none at (preamble facts) [] fault rest_a refl preamble_first whole
+    (suits_version the.NetworkStatusVersion none at) (notes_passing vote_tables is_quiet forgotten none at p quiet_p)
     ∙ ap (λ (l : List Item). read_items vote_tables length_ none (opening Preamble in_p None) fault l)
     (both_written at_a a (c ++ ef) more)
-    ∙ section_read vote_tables length_ none none Preamble (taken_at 0 (preamble facts).opener)
-    (others_in 0 (preamble facts)) at_a (authority facts)
-    (certificate_row ∷ []) fault rest_c (section_whole vote_tables (preamble facts) 0 whole) authority_follows
+    ∙ section_read vote_tables length_ none none Preamble (taken_at at (preamble facts).opener)
+    (others_in at (preamble facts)) at_a (authority facts)
+    (certificate_row ∷ []) fault rest_c (section_whole vote_tables (preamble facts) at whole) authority_follows
     source (suits_source facts are none at_a) (notes_passing vote_tables is_quiet forgotten none at_a a quiet_a)
     ∙ ap (λ (r : Result VoteDocument ReadRefusal). onto (group Preamble in_p) r)
     (ap (λ (l : List Item). read_items vote_tables length_ none (opening Authority in_a None) fault l)
@@ -145,12 +145,12 @@ document_read length_ facts fault more are =
     ∙ inside_read vote_tables length_ none at_c (in_section facts) (last_row kind.Certificate)
     (certification facts.certificate) fault rest_e cert
     none Authority (taken_at at_a (authority facts).opener) (others_in at_a (authority facts))
-    (certificate_fits facts are)
-    (certificate_made facts are) (notes_passing vote_tables is_quiet forgotten none at_c c quiet_c)
-    ∙ ap (λ (r : Result VoteDocument ReadRefusal). onto (group Certificate (in_certificate facts)) r)
-    (tail_read length_ facts fault more are (taken_at at_a (authority facts).opener)
-    (others_in at_a (authority facts) ++ one ∷ []) (authority_whole facts are)
-    ∙ ap (λ (l : List VoteTaken). with_authority_group l entries (vote_end facts))
+    (certificate_fits at facts are)
+    (certificate_made at facts are) (notes_passing vote_tables is_quiet forgotten none at_c c quiet_c)
+    ∙ ap (λ (r : Result VoteDocument ReadRefusal). onto (group Certificate (in_certificate at facts)) r)
+    (tail_read length_ at facts fault more are (taken_at at_a (authority facts).opener)
+    (others_in at_a (authority facts) ++ one ∷ []) (authority_whole at facts are)
+    ∙ ap (λ (l : List VoteTaken). with_authority_group l entries (vote_end at facts))
     (sym (taken_to-parts at_a (authority facts) certificate_version))))
   where
     with_authority_group : List VoteTaken → List (Group VoteSection (Value VoteValue)) → ℕ
@@ -159,19 +159,19 @@ document_read length_ facts fault more are =
         Ok (record { groups = group Authority taken ∷ groups; used = used })
 
 -- it ends where the vote's text ends
-pub used_of : (facts : VoteFacts) → vote_end facts ≡ length (vote_text facts)
-used_of facts =
+pub used_of : (at : ℕ) (facts : VoteFacts) → vote_end at facts ≡ at + length (vote_text facts)
+used_of at facts =
     let p = entries_in (preamble facts) in
     let a = entries_in (authority facts) in
     let c = in_cert facts in
     let e = in_list facts in
     let f = footer_entries facts in
-    sym (after_all-append 0 p (a ++ (c ++ (e ++ f)))
-    ∙ after_all-append (authority_place facts) a (c ++ (e ++ f))
-    ∙ after_all-append (certificate_place facts) c (e ++ f)
-    ∙ after_all-append (entries_place facts) e f)
-    ∙ ends_with_text (vote_entries facts)
-    ∙ ap (λ (l : List NewItem). length (items_text l)) (sym (vote_same facts))
+    sym (after_all-append at p (a ++ (c ++ (e ++ f)))
+    ∙ after_all-append (authority_place at facts) a (c ++ (e ++ f))
+    ∙ after_all-append (certificate_place at facts) c (e ++ f)
+    ∙ after_all-append (entries_place at facts) e f)
+    ∙ ends_behind at (vote_entries facts)
+    ∙ ap (λ (l : List NewItem). at + length (items_text l)) (sym (vote_same facts))
 
 -- its last item has an object, so that no other may follow
 has_object : (signature : SignatureFacts) → lacks_object (signature_entry signature).object ≡ false
@@ -193,38 +193,38 @@ closed facts rest =
         → p ++ (a ++ (c ++ (e ++ (f ++ l)))) ≡ (p ++ (a ++ (c ++ (e ++ f)))) ++ l
     joined p a c e f l = simp append_assoc refl
 
--- it begins at the input's first byte
-pub begins_at : (facts : VoteFacts) → (vote_kept facts).head.begin ≡ 0
+-- it begins where its text does
+pub begins_at : (at : ℕ) (facts : VoteFacts) → (vote_kept at facts).head.begin ≡ at
 unfolding same
-begins_at facts = refl
+begins_at at facts = refl
 
 abbrev read_as : List ℕ → Result VoteDocument ReadRefusal → Result (ReadVote × ℕ) ReadRefusal
 read_as bytes document = with_facts bytes (finish kept_with none_kept document)
 
--- the vote's text in front of other bytes
-front_of : (text rest : List ℕ) (n : ℕ) → n ≡ length text → slice_range (text ++ rest) 0 n ≡ text
-front_of text rest n end =
-    let count : n - 0 ≡ length text = omega (arith, end) in
-    ap (λ (k : ℕ). take k (text ++ rest)) count ∙ take-append_seam text rest
-
 abbrev answer : Kept → List ℕ → ℕ → Result (ReadVote × ℕ) ReadRefusal
-answer kept bytes used = Ok (vote_in bytes kept, used)
+answer kept bytes end = Ok (vote_in bytes kept, end)
 
--- a vote that was written is read, and ends where its text ends
-pub vote_read : (facts : VoteFacts) (rest : List ℕ) → IsInRange facts
-    → vote_of (vote_text facts ++ rest) ≡ Ok (vote_in (vote_text facts) (vote_kept facts), length (vote_text facts))
-vote_read facts rest are =
-    let text = vote_text facts in
-    let bytes = text ++ rest in
+-- a vote's text behind some bytes, and in front of others
+abbrev pub among : List ℕ → VoteFacts → List ℕ → List ℕ
+among front facts rest = front ++ (vote_text facts ++ rest)
+
+-- a vote that was written is read, whatever stands before and behind it, and ends where its text ends
+pub vote_read : (front : List ℕ) (facts : VoteFacts) (rest : List ℕ) → IsInRange facts
+    → vote_from (length front) (among front facts rest)
+    ≡ Ok (vote_in (among front facts rest) (vote_kept (length front) facts), length front + length (vote_text facts))
+vote_read front facts rest are =
+    let at = length front in
+    let bytes = among front facts rest in
     let items = vote_items facts in
-    let after = contents max_vote (0 + length (items_text items)) nothing rest in
-    ap (λ (c : Contents). read_as bytes (document_of vote_tables (length bytes) c))
-    (items_again max_vote 0 items rest are.items (closed facts rest))
+    let limit = at + max_vote in
+    let after = contents limit (at + length (items_text items)) nothing rest in
+    ap (λ (l : List ℕ). read_as bytes (document_of vote_tables (length bytes) (contents limit at nothing l)))
+    (drop_at front (vote_text facts ++ rest) (length front) refl)
+    ∙ ap (λ (c : Contents). read_as bytes (document_of vote_tables (length bytes) c))
+    (items_again limit at items rest (written_behind at max_vote items are.items) (closed facts rest))
     ∙ ap (λ (l : List NewItem). read_as bytes
-    (document_of vote_tables (length bytes) (in_front (all_written 0 l) after))) (vote_same facts)
+    (document_of vote_tables (length bytes) (in_front (all_written at l) after))) (vote_same facts)
     ∙ ap (λ (d : Result VoteDocument ReadRefusal). read_as bytes d)
-    (document_read (length bytes) facts after.fault after.items are)
-    ∙ ap (λ (k : Kept). answer k (slice_range bytes 0 (vote_end facts)) (vote_end facts)) (all_kept facts are)
-    ∙ ap (λ (l : List ℕ). answer (vote_kept facts) l (vote_end facts))
-    (front_of text rest (vote_end facts) (used_of facts))
-    ∙ ap (λ (k : ℕ). answer (vote_kept facts) text k) (used_of facts)
+    (document_read (length bytes) at facts after.fault after.items are)
+    ∙ ap (λ (k : Kept). answer k bytes (vote_end at facts)) (all_kept at facts are)
+    ∙ ap (λ (k : ℕ). answer (vote_kept at facts) bytes k) (used_of at facts)

@@ -1,8 +1,8 @@
 -- Of a vote that was written and is read, the signed part is that of its text.
-use Rattle.std.proofs.Common.{◌≡◌, ℕ, ◌+◌, ◌-◌, ◌^◌, ◌<◌, ◌≤◌, List, [], ◌∷◌, ◌++◌, length, take, refl, sym, ap, ◌∙◌}
+use Rattle.std.proofs.Common.{◌≡◌, ℕ, ◌+◌, ◌-◌, ◌^◌, ◌<◌, ◌≤◌, List, [], ◌∷◌, ◌++◌, length, take, drop, refl, sym, ap, ◌∙◌}
 use Rattle.std.proofs.Common.{append_assoc, arith}
 use Rattle.std.specs.Prelude.{codes, map, min}
-use Rattle.std.proofs.lemmas.List.{length-append, map-append, take_at}
+use Rattle.std.proofs.lemmas.List.{length-append, map-append}
 use Rattle.dir_bytes.specs.FieldTexts.{hex_text}
 use Rattle.dirdoc_grammar.specs.Bodies.{object_text}
 use Rattle.dirdoc_grammar.specs.Writing.{NewItem, item_text, items_text, tail}
@@ -13,7 +13,8 @@ use Rattle.frame_laws.proofs.Entries.{item_of}
 use Rattle.frame_laws.proofs.LastRows.{last_item}
 use Rattle.frame_laws.proofs.Places.{after_all-append}
 use Rattle.frame_laws.proofs.Sections.{end_of, entries_in}
-use Rattle.frame_laws.proofs.WrittenRows.{ends_with_text, from_place}
+use Rattle.frame_laws.proofs.StandingParts.{between_stands}
+use Rattle.frame_laws.proofs.WrittenRows.{ends_behind, from_place}
 use Rattle.vote_terms.specs.declared.facts.SignatureFacts.{SignatureFacts}
 use Rattle.vote_terms.specs.declared.facts.VoteFacts.{VoteFacts}
 use Rattle.vote_text.specs.Texts.{algorithm_text, signer_text, vote_text}
@@ -25,7 +26,7 @@ use Rattle.vote_laws.specs.Again.{IsInRange, signed_text, unsigned_items}
 use Rattle.vote_laws.proofs.VoteItems.{VoteEntry, signature_entry}
 use Rattle.vote_laws.proofs.VotePlaces.{authority_place, certificate_place, entries_place, footer_place, vote_end}
 use Rattle.vote_laws.proofs.VotePlaces.{vote_kept}
-use Rattle.vote_laws.proofs.VoteRead.{begins_at, used_of}
+use Rattle.vote_laws.proofs.VoteRead.{among, begins_at, used_of}
 use Rattle.vote_laws.proofs.VoteRows.{authority, footer, footer_ended, preamble, signature_row}
 use Rattle.vote_laws.proofs.VoteSame.{in_cert, in_list, unsigned_same, vote_same}
 
@@ -91,57 +92,60 @@ text_parts facts =
 -- ---- where it ends
 
 -- the signature begins where the text of the items before it ends
-signature_place : (facts : VoteFacts)
-    → end_of (footer_place facts) footer ≡ length (items_text (unsigned_items facts))
-signature_place facts =
+signature_place : (at : ℕ) (facts : VoteFacts)
+    → end_of (footer_place at facts) footer ≡ at + length (items_text (unsigned_items facts))
+signature_place at facts =
     let p = entries_in (preamble facts) in
     let a = entries_in (authority facts) in
     let c = in_cert facts in
     let e = in_list facts in
     let f = entries_in footer in
-    sym (after_all-append 0 p (a ++ (c ++ (e ++ f)))
-    ∙ after_all-append (authority_place facts) a (c ++ (e ++ f))
-    ∙ after_all-append (certificate_place facts) c (e ++ f)
-    ∙ after_all-append (entries_place facts) e f)
-    ∙ ends_with_text (unsigned_entries facts)
-    ∙ ap (λ (l : List NewItem). length (items_text l)) (sym (unsigned_same facts))
+    sym (after_all-append at p (a ++ (c ++ (e ++ f)))
+    ∙ after_all-append (authority_place at facts) a (c ++ (e ++ f))
+    ∙ after_all-append (certificate_place at facts) c (e ++ f)
+    ∙ after_all-append (entries_place at facts) e f)
+    ∙ ends_behind at (unsigned_entries facts)
+    ∙ ap (λ (l : List NewItem). at + length (items_text l)) (sym (unsigned_same facts))
 
 -- the signed part is no longer than a vote may be
-fits : (facts : VoteFacts) → vote_end facts ≤ max_vote → length (signed_text facts) ≤ 16777216
-fits facts within =
-    short (length (signed_text facts)) (length (after_signed facts.signature ++ [])) (vote_end facts) total within
+fits : (at : ℕ) (facts : VoteFacts) → vote_end at facts ≤ at + max_vote → length (signed_text facts) ≤ 16777216
+fits at facts within =
+    short (length (signed_text facts)) (length (after_signed facts.signature ++ [])) (vote_end at facts) total within
   where
-    total : vote_end facts ≡ length (signed_text facts) + length (after_signed facts.signature ++ [])
+    total : vote_end at facts ≡ at + (length (signed_text facts) + length (after_signed facts.signature ++ []))
     total =
-        used_of facts ∙ ap (λ (l : List ℕ). length l) (text_parts facts)
-        ∙ length-append (signed_text facts) (after_signed facts.signature ++ [])
+        used_of at facts ∙ ap (λ (l : List ℕ). at + length l) (text_parts facts)
+        ∙ ap (λ (n : ℕ). at + n) (length-append (signed_text facts) (after_signed facts.signature ++ []))
 
-    short : (n m all : ℕ) → all ≡ n + m → all ≤ 16777216 → n ≤ 16777216
+    short : (n m all : ℕ) → all ≡ at + (n + m) → all ≤ at + 16777216 → n ≤ 16777216
     short n m all sum within = omega (arith, sum, within)
 
-ends_signed : (facts : VoteFacts) → IsInRange facts → vote_end facts ≤ max_vote
-    → (vote_kept facts).head.signed_end ≡ 0 + length (signed_text facts)
-ends_signed facts are within =
+ends_signed : (at : ℕ) (facts : VoteFacts) → at < 2 ^ 62 → IsInRange facts → vote_end at facts ≤ at + max_vote
+    → (vote_kept at facts).head.signed_end ≡ at + length (signed_text facts)
+ends_signed at facts below are within =
     let ended = footer_ended facts.signature are.signature in
-    let word = codes "directory-signature" in
     ap signed_to
-    (last_item vote_tables (footer_place facts) footer signature_row
+    (last_item vote_tables (footer_place at facts) footer signature_row
     (signature_entry facts.signature) ended.written refl)
-    ∙ sums (end_of (footer_place facts) footer) (length (items_text (unsigned_items facts)))
-    (length (signed_text facts)) (signature_place facts)
-    (length-append (items_text (unsigned_items facts)) (codes "directory-signature ")) (fits facts within)
+    ∙ sums (end_of (footer_place at facts) footer) (length (items_text (unsigned_items facts)))
+    (length (signed_text facts)) (signature_place at facts)
+    (length-append (items_text (unsigned_items facts)) (codes "directory-signature ")) (fits at facts within)
   where
-    sums : (end front all : ℕ) → end ≡ front → all ≡ front + 20 → all ≤ 16777216
-        → min (end + 19 + 1) (2 ^ 64 - 1) ≡ 0 + all
-    sums end front all there sum within = omega (arith, there, sum, within)
+    sums : (end front all : ℕ) → end ≡ at + front → all ≡ front + 20 → all ≤ 16777216
+        → min (end + 19 + 1) (2 ^ 64 - 1) ≡ at + all
+    sums end front all there sum within = omega (arith, there, sum, within, below)
 
 -- The signed part of the vote that is read is that of its text.
-pub signed_is : (facts : VoteFacts) → IsInRange facts → vote_end facts ≤ max_vote
-    → (vote_in (vote_text facts) (vote_kept facts)).signed ≡ signed_text facts
-signed_is facts are within =
+pub signed_is : (front : List ℕ) (facts : VoteFacts) (rest : List ℕ) → length front < 2 ^ 62 → IsInRange facts
+    → vote_end (length front) facts ≤ length front + max_vote
+    → (vote_in (among front facts rest) (vote_kept (length front) facts)).signed ≡ signed_text facts
+signed_is front facts rest below are within =
+    let at = length front in
     let signed = signed_text facts in
     let back = after_signed facts.signature ++ [] in
-    let head = (vote_kept facts).head in
-    from_place (vote_text facts) head.begin head.signed_end 0 signed (begins_at facts)
-    (ends_signed facts are within)
-    (ap (λ (l : List ℕ). take (length signed) l) (text_parts facts) ∙ take_at signed back (length signed) refl)
+    let head = (vote_kept at facts).head in
+    from_place (among front facts rest) head.begin head.signed_end at signed (begins_at at facts)
+    (ends_signed at facts below are within)
+    (ap (λ (l : List ℕ). take (length signed) (drop at (front ++ l)))
+    (ap (λ (l : List ℕ). l ++ rest) (text_parts facts) ∙ append_assoc signed back rest)
+    ∙ between_stands front signed (back ++ rest))

@@ -55,19 +55,19 @@ abbrev after_groups : List (Group VoteSection (Value VoteValue)) → Result Vote
     → Result VoteDocument ReadRefusal
 after_groups groups more = onto_all groups more
 
-pub tail_read : (length_ : ℕ) (facts : VoteFacts) (fault : Option DocFault) (more : List Item) → IsInRange facts
+pub tail_read : (length_ at : ℕ) (facts : VoteFacts) (fault : Option DocFault) (more : List Item) → IsInRange facts
     → (first : VoteTaken) (taken : List VoteTaken) → lacking (vote_tables.rows Authority) (first ∷ taken) ≡ None
     → read_items vote_tables length_ none_listed (opening Authority (first ∷ taken) None) fault
-    (all_written (entries_place facts) (map item_of (in_list facts ++ footer_entries facts)) ++ more)
+    (all_written (entries_place at facts) (map item_of (in_list facts ++ footer_entries facts)) ++ more)
     ≡ Ok (record {
       groups =
           group Authority (first ∷ taken)
-          ∷ (groups_in (entries_place facts) (sections_of facts) ++ group Footer (in_footer facts) ∷ []);
-      used = vote_end facts;
+          ∷ (groups_in (entries_place at facts) (sections_of facts) ++ group Footer (in_footer at facts) ∷ []);
+      used = vote_end at facts;
     })
-tail_read length_ facts fault more are first taken whole =
-    let at_e = entries_place facts in
-    let at_f = footer_place facts in
+tail_read length_ at facts fault more are first taken whole =
+    let at_e = entries_place at facts in
+    let at_f = footer_place at facts in
     let list = sections_of facts in
     let f = footer_entries facts in
     let listed = all_listed none_listed facts.entries in
@@ -76,8 +76,8 @@ tail_read length_ facts fault more are first taken whole =
     let next = entries_next none_listed Authority at_e facts.entries first_follows may in
     let signature = signature_entry facts.signature in
     let quiet = section_to_quiet footer signature (section_quiet footer (λ p. refl) refl tt) (λ p. refl) in
-    let ended = group Footer (in_footer facts) ∷ [] in
-    let last : Result VoteDocument ReadRefusal = Ok (record { groups = ended; used = vote_end facts }) in
+    let ended = group Footer (in_footer at facts) ∷ [] in
+    let last : Result VoteDocument ReadRefusal = Ok (record { groups = ended; used = vote_end at facts }) in
     ap (λ (l : List Item). read_items vote_tables length_ none_listed (opening Authority (first ∷ taken) None) fault l)
     (both_written at_e (in_list facts) f more)
     ∙ sections_read vote_tables length_ none_listed listed Authority first taken at_e list fault rest whole next
@@ -89,4 +89,4 @@ tail_read length_ facts fault more are first taken whole =
     (after_all_entries facts.entries) (suits_nothing the.DirectoryFooter listed at_f)
     (notes_passing vote_tables is_quiet forgotten listed at_f f quiet))
     ∙ onto_all-last Authority first taken at_e list last
-    ∙ onto_all-ok (group Authority (first ∷ taken) ∷ groups_in at_e list) ended (vote_end facts)
+    ∙ onto_all-ok (group Authority (first ∷ taken) ∷ groups_in at_e list) ended (vote_end at facts)

@@ -1,5 +1,5 @@
 -- A vote that was written is read again (dir-spec, "Vote and consensus status document formats").
-use Rattle.std.specs.Prelude.{◌≡◌, ℕ, ◌≤◌, ◌<◌, ◌^◌, true, List, [], ◌∷◌, ◌++◌, length, All, AllPairs, IfSome}
+use Rattle.std.specs.Prelude.{◌≡◌, ℕ, ◌+◌, ◌≤◌, ◌<◌, ◌^◌, true, List, [], ◌∷◌, ◌++◌, length, All, AllPairs, IfSome}
 use Rattle.std.specs.Prelude.{Ok, codes, ℤ}
 use Rattle.dir_bytes.specs.Causes.{last_moment}
 use Rattle.dir_values.specs.FlagSets.{Ascend, is_name}
@@ -26,7 +26,7 @@ use Rattle.vote_terms.specs.declared.facts.VoteFacts.{VoteFacts}
 use Rattle.vote_terms.specs.declared.lists.VoteLists.{VoteLists}
 use Rattle.vote_text.specs.Entries.{entries_items}
 use Rattle.vote_text.specs.Texts.{authority_items, preamble_items, vote_items, vote_text}
-use Rattle.vote_doc.specs.Reading.{max_vote, vote_of}
+use Rattle.vote_doc.specs.Reading.{max_vote, vote_from}
 
 -- the consensus methods are at most 64 numbers of 32 bits
 pub record AreMethods (methods : List ℕ) : Type 0 where
@@ -142,9 +142,11 @@ pub record IsReadBack (facts : VoteFacts) (vote : ReadVote) : Type 0 where
   pub signed : vote.signed ≡ signed_text facts
   pub certificate_bytes : vote.certificate_bytes ≡ cert_text facts.certificate
 
--- A vote that was written is read again, whatever follows: what is read says the same, has the text's bytes, and ends
--- with it.
+-- A vote that was written is read again, whatever stands before it, of fewer than 2 ^ 62 bytes, and behind it: what is read says the
+-- same, has the text's bytes, and ends with it.
 abbrev pub VotesAreReadAgain : Type 0
-VotesAreReadAgain = (facts : VoteFacts) (rest : List ℕ) → IsInRange facts
+VotesAreReadAgain = (front : List ℕ) (facts : VoteFacts) (rest : List ℕ) → length front < 2 ^ 62 → IsInRange facts
     → (vote : ReadVote)
-    × (vote_of (vote_text facts ++ rest) ≡ Ok (vote, length (vote_text facts))) × IsReadBack facts vote
+    × (vote_from (length front) (front ++ (vote_text facts ++ rest))
+    ≡ Ok (vote, length front + length (vote_text facts)))
+    × IsReadBack facts vote

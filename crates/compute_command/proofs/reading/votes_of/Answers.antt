@@ -6,26 +6,30 @@ use Rattle.compute_command.proofs.reading.votes_of.Goals as goal
 
 pub returns-then-room-eq0-clause-votes : goal.returns-then-room-eq0-clause-votes
 returns-then-room-eq0-clause-votes c =
-    rw c.shifted.ensures (too_many c.votes.room c.votes.place c.votes.rest.now c.in-Some.refusal c.votes.found.items (votes_of c.args.bytes.now) c.if-room-eq0.true (sym c.in-Some.ensures) c.votes.invariant.read)
+    too_many c.votes.room c.votes.place c.args.bytes.now c.in-Some.refusal c.votes.found.items (votes_of c.args.bytes.now)
+    c.if-room-eq0.true (sym c.in-Some.ensures) c.votes.invariant.read
 
-pub returns-in_err-vote-clause-votes : goal.returns-in_err-vote-clause-votes
-returns-in_err-vote-clause-votes c =
+pub returns-in_err-read-clause-votes : goal.returns-in_err-read-clause-votes
+returns-in_err-read-clause-votes c =
     let p = err_from_is_err_and c.from_residual.result c.from_residual.ensures.1 in
     let step : c.votes.room ≡ suc (c.votes.room - 1) = omega arith in
-    rw (p.1, p.2) (fails c.votes.room (c.votes.room - 1) c.votes.place c.votes.rest.now c.in-Some.refusal c.in_err-vote.field-0.0 c.votes.found.items (votes_of c.args.bytes.now) step (sym c.in-Some.ensures) c.in_err-vote.ensures c.votes.invariant.read)
+    rw (p.1, p.2) (fails c.votes.room (c.votes.room - 1) c.votes.place c.args.bytes.now c.in-Some.refusal
+    c.in_err-read.field-0.0 c.votes.found.items (votes_of c.args.bytes.now) step (sym c.in-Some.ensures)
+    c.in_err-read.ensures c.votes.invariant.read)
 
 pub votes-preserved : goal.votes-preserved
 votes-preserved c =
     let step : c.votes.room ≡ suc (c.votes.room - 1) = omega arith in
     record {
-      within = omega (arith, c.after-rest.ensures.within, c.votes.invariant.within);
+      within = c.in_ok-read.ensures.1;
       room = omega (arith, c.in_ok-push.ensures.len, c.votes.invariant.room);
-      read = one_read_as c.votes.room (c.votes.room - 1) c.votes.place c.votes.rest.now c.in-Some.refusal c.in_ok-vote.vote c.in_ok-vote.used c.votes.found.items (votes_of c.args.bytes.now)
-          c.push.new.self.items c.saturating_add-place.result c.after-rest.result.now
-          step (sym c.in-Some.ensures) c.in_ok-vote.ensures c.votes.invariant.read c.in_ok-push.ensures.items c.saturating_add-place.ensures c.after-rest.ensures.rest;
+      read = one_read_as c.votes.room (c.votes.room - 1) c.votes.place c.args.bytes.now c.in-Some.refusal
+          c.in_ok-read.vote c.in_ok-read.after c.votes.found.items (votes_of c.args.bytes.now) c.push.new.self.items
+          step (sym c.in-Some.ensures) c.in_ok-read.ensures.0 c.votes.invariant.read c.in_ok-push.ensures.items;
     }
 
 pub returns-clause-votes : goal.returns-clause-votes
 returns-clause-votes c =
-    let more : one_more c.votes.rest.now ≡ None = search rules in
-    done c.votes.room c.votes.place c.votes.rest.now c.votes.found.items (votes_of c.args.bytes.now) more c.votes.invariant.read
+    let more : one_more c.votes.place c.args.bytes.now ≡ None = search rules in
+    done c.votes.room c.votes.place c.args.bytes.now c.votes.found.items (votes_of c.args.bytes.now) more
+    c.votes.invariant.read

@@ -1,12 +1,12 @@
-use Rattle.std.proofs.Common.{◌≡◌, ◌<◌, ◌^◌, ◌+◌, length, vec_len}
+use Rattle.std.proofs.Common.{◌≡◌, ◌≤◌, ◌+◌, length, vec_len}
 use Rattle.compute_command.specs.Votes.{votes_from, votes_of, with_front}
 use Rattle.compute_command.proofs.reading.votes_of.Given as goal
 
 abbrev pub invariant-votes : goal.invariant-votes
 invariant-votes l = record {
-  within : length l.rest < 2 ^ 61;
+  within : l.place ≤ length l.bytes;
   room : vec_len l.found + l.room ≡ 64;
-  read : with_front l.found.items (votes_from l.room l.place l.rest) ≡ votes_of l.fn.bytes;
+  read : with_front l.found.items (votes_from l.room l.place l.bytes) ≡ votes_of l.bytes;
 }
 
 abbrev pub decreases-votes : goal.decreases-votes
