@@ -34,6 +34,7 @@ use Rattle.relay_entries.specs.declared.said.EntryKind.TheVariants as entry
 use Rattle.relay_entries.specs.declared.said.EntryValue.TheVariants as said
 use Rattle.entry_laws.proofs.WrittenMethods.{methods_in-text}
 use Rattle.entry_laws.proofs.WrittenRelays.{relay_shape}
+use Rattle.line_laws.proofs.WrittenDelays.{as_set-text}
 use Rattle.vote_terms.specs.declared.entry.EntryFacts.{EntryFacts}
 use Rattle.vote_terms.specs.declared.entry.MicroFacts.{MicroFacts}
 use Rattle.vote_text.specs.Entries.{line_of, micro_line}
@@ -47,7 +48,6 @@ use Rattle.vote_laws.proofs.EntryItems.{micro_entry}
 use Rattle.vote_laws.proofs.EntryRows.{bandwidths_row, ed_if, entry_kind}
 use Rattle.vote_laws.proofs.Heard.{is_quiet}
 use Rattle.vote_laws.proofs.VoteItems.{VoteEntry}
-use Rattle.vote_laws.proofs.WrittenValues.{as_set-text}
 
 -- what was taken of an entry
 abbrev EntryTaken : Type 0

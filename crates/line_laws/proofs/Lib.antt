@@ -1,0 +1,3 @@
+pub mod WrittenFlags
+pub mod WrittenDelays
+pub mod WrittenSources
