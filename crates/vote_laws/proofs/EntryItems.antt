@@ -1,5 +1,5 @@
 -- Each item of an entry that is written says what its row asks for.
-use Rattle.std.proofs.Common.{◌≡◌, ℕ, ◌<◌, Bool, true, List, Option, Some, None, Result, Ok, Err, refl, ap}
+use Rattle.std.proofs.Common.{◌≡◌, ℕ, ◌<◌, Bool, true, List, Some, Result, Ok, Err, refl, ap}
 use Rattle.std.proofs.Common.{◌∙◌, arith}
 use Rattle.std.specs.Prelude.{nat_lt, if◌then◌else◌}
 use Rattle.dir_values.specs.FlagSets.{set_text}
@@ -37,6 +37,7 @@ use Rattle.entry_laws.proofs.WrittenBandwidths.{bandwidth_again}
 use Rattle.entry_laws.proofs.WrittenKeys.{key_again}
 use Rattle.entry_laws.proofs.WrittenMicros.{micro_again}
 use Rattle.entry_laws.proofs.WrittenRelays.{relay_again}
+use Rattle.line_laws.proofs.WrittenDelays.{flags-written}
 use Rattle.vote_terms.specs.declared.entry.EntryFacts.{EntryFacts}
 use Rattle.vote_terms.specs.declared.entry.MicroFacts.{MicroFacts}
 use Rattle.vote_text.specs.Entries.{line_of, micro_line}
@@ -46,7 +47,6 @@ use Rattle.vote_frame.specs.declared.frame.VoteValue.{VoteValue}
 use Rattle.vote_frame.specs.declared.frame.VoteValue.TheVariants as own
 use Rattle.vote_laws.specs.Again.{AreEntryFlags, IsEntryInRange, IsMicroInRange}
 use Rattle.vote_laws.proofs.VoteItems.{SuitsVote, VoteEntry, suits}
-use Rattle.vote_laws.proofs.WrittenValues.{flags-written}
 
 -- what a vote says where an entry says this
 abbrev lifts : Result (Value EntryValue) ℕ → Result (Value VoteValue) ℕ

@@ -14,7 +14,7 @@ use Rattle.frame_terms.specs.declared.keyword.Keyword.TheVariants as the
 use Rattle.frame_terms.specs.declared.row.Count.TheVariants.{Many, One, Optional}
 use Rattle.frame_values.specs.Fields.{span}
 use Rattle.frame_values.specs.Parts.{moment_of, part}
-use Rattle.frame_values.specs.Values.{item_at, own_of_value, text_if, text_in, text_of_value}
+use Rattle.frame_values.specs.Values.{item_at, text_if, text_in, text_of_value}
 use Rattle.frame_values.specs.declared.found.Span.{Span}
 use Rattle.frame_values.specs.declared.values.Value.{Value}
 use Rattle.frame_values.specs.declared.values.Value.TheVariants as value
@@ -34,6 +34,7 @@ use Rattle.relay_entries.specs.declared.said.EntryKind.TheVariants as entry
 use Rattle.relay_entries.specs.declared.said.EntryValue.TheVariants as said
 use Rattle.entry_laws.proofs.WrittenMethods.{methods_in-text}
 use Rattle.entry_laws.proofs.WrittenRelays.{relay_shape}
+use Rattle.line_laws.proofs.WrittenDelays.{as_set-text}
 use Rattle.vote_terms.specs.declared.entry.EntryFacts.{EntryFacts}
 use Rattle.vote_terms.specs.declared.entry.MicroFacts.{MicroFacts}
 use Rattle.vote_text.specs.Entries.{line_of, micro_line}
@@ -47,7 +48,6 @@ use Rattle.vote_laws.proofs.EntryItems.{micro_entry}
 use Rattle.vote_laws.proofs.EntryRows.{bandwidths_row, ed_if, entry_kind}
 use Rattle.vote_laws.proofs.Heard.{is_quiet}
 use Rattle.vote_laws.proofs.VoteItems.{VoteEntry}
-use Rattle.vote_laws.proofs.WrittenValues.{as_set-text}
 
 -- what was taken of an entry
 abbrev EntryTaken : Type 0

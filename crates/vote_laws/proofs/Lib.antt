@@ -1,4 +1,3 @@
-pub mod WrittenFlags
 pub mod WrittenSources
 pub mod WrittenValues
 pub mod VoteItems

@@ -30,6 +30,7 @@ use Rattle.frame_laws.proofs.RowValues.{moment_entry, own_entry, row_if, said_an
 use Rattle.frame_laws.proofs.SaidRows.{IsSaid, RowSays, row_once}
 use Rattle.frame_laws.proofs.Sections.{Section}
 use Rattle.frame_laws.proofs.WrittenItems.{literal-written, start_of, time-written}
+use Rattle.line_laws.proofs.WrittenDelays.{delays_again, flags-written, length-flags}
 use Rattle.vote_terms.specs.declared.facts.SignatureFacts.{SignatureFacts}
 use Rattle.vote_terms.specs.declared.facts.VoteFacts.{VoteFacts}
 use Rattle.vote_text.specs.Texts.{delays_text, signer_text, source_text}
@@ -42,8 +43,8 @@ use Rattle.vote_frame.specs.declared.frame.VoteSection.{VoteSection}
 use Rattle.vote_frame.specs.declared.frame.VoteValue.{VoteValue}
 use Rattle.vote_frame.specs.declared.frame.VoteValue.TheVariants as own
 use Rattle.vote_laws.specs.Again.{AreFlags, AreMethods, IsInRange}
-use Rattle.vote_laws.proofs.WrittenValues.{delays-written, flags-written, length-flags, length-numbers, numbers-written}
-use Rattle.vote_laws.proofs.WrittenValues.{signature-written, signature_at, source-written, source_at}
+use Rattle.vote_laws.proofs.WrittenSources.{source-written, source_at}
+use Rattle.vote_laws.proofs.WrittenValues.{length-numbers, numbers-written, signature-written, signature_at}
 
 -- what an item of a vote is, with what it says, and a row of its tables
 abbrev pub VoteEntry : Type 0
@@ -170,7 +171,7 @@ pub suits_delays : (facts : VoteFacts) → IsInRange facts
 suits_delays facts are =
     suits the.VotingDelay One kind.Delays (delays_entry facts) refl (λ p. refl) (λ listed p. refl)
     (λ p. ap (says (λ (delays : ℕ × ℕ). value.Own (own.Delays delays.0 delays.1)))
-    (delays-written p the.VotingDelay facts are.vote_seconds are.dist_seconds))
+    (delays_again p the.VotingDelay facts.vote_seconds facts.dist_seconds are.vote_seconds are.dist_seconds))
 
 -- the authority
 abbrev pub source_entry : VoteFacts → VoteEntry
@@ -183,8 +184,7 @@ pub suits_source : (facts : VoteFacts) → IsInRange facts
 suits_source facts are =
     suits the.DirSource One kind.Source (source_entry facts) refl (λ p. refl) (λ listed p. refl)
     (λ p. ap (says (λ (source : DirSource). value.Own (own.Source source)))
-    (source-written p the.DirSource facts are.nickname are.identity.count are.identity.each are.address are.ip
-    are.dir_port are.or_port))
+    (source-written p the.DirSource facts are))
 
 -- the signature
 abbrev pub signature_entry : SignatureFacts → VoteEntry

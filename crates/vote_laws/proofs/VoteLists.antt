@@ -1,5 +1,5 @@
 -- The lists of a vote, row by row: each is read as the list that it was written for.
-use Rattle.std.proofs.Common.{◌≡◌, ℕ, ◌≤◌, false, List, [], ◌∷◌, length, Option, Some, None, ◌++◌, refl, ap, ◌∙◌}
+use Rattle.std.proofs.Common.{◌≡◌, ℕ, false, List, [], ◌∷◌, length, Option, Some, None, ◌++◌, refl, ap, ◌∙◌}
 use Rattle.std.specs.Prelude.{ℤ, IfSome, map, option_map, Result}
 use Rattle.std.proofs.lemmas.List.{length-map}
 use Rattle.item_terms.specs.Items.{Item}

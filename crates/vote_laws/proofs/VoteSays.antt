@@ -15,6 +15,7 @@ use Rattle.frame_laws.proofs.RowValues.{text_entry, text_if_said, text_said}
 use Rattle.frame_laws.proofs.SaidRows.{row_once}
 use Rattle.frame_laws.proofs.StandingParts.{rest_part, spelled}
 use Rattle.dir_values.specs.Numbers.{numbers_in, numbers_text}
+use Rattle.line_laws.proofs.WrittenDelays.{as_set-text}
 use Rattle.vote_terms.specs.declared.facts.SignatureFacts.{SignatureFacts}
 use Rattle.vote_terms.specs.declared.facts.VoteFacts.{VoteFacts}
 use Rattle.vote_doc.specs.Facts.{signature_facts}
@@ -25,7 +26,7 @@ use Rattle.vote_laws.specs.Again.{AreFlags, AreMethods}
 use Rattle.vote_laws.proofs.VoteItems.{delays_entry, signature_entry, source_entry}
 use Rattle.vote_laws.proofs.VoteRows.{methods_if, signature_row}
 use Rattle.vote_laws.proofs.WrittenSources.{address_part, nickname_part}
-use Rattle.vote_laws.proofs.WrittenValues.{algorithm_of-name, as_set-text, numbers_in-text}
+use Rattle.vote_laws.proofs.WrittenValues.{algorithm_of-name, numbers_in-text}
 
 -- what was taken of a section
 abbrev VoteTaken : Type 0
