@@ -1,0 +1,237 @@
+-- Each item of a consensus that is written says what its row asks for.
+use Rattle.std.proofs.Common.{◌≡◌, ℕ, ◌≤◌, false, List, [], ◌∷◌, Option, Some, None, Result, Ok, refl, ap}
+use Rattle.std.proofs.Common.{arith}
+use Rattle.std.specs.Prelude.{codes, decimal}
+use Rattle.std.specs.List.{join_with_byte}
+use Rattle.std.proofs.lemmas.List.Elements.{All-cons, All-nil}
+use Rattle.item_terms.specs.Items.{Item}
+use Rattle.dir_bytes.specs.FieldTexts.{hex_text}
+use Rattle.dir_bytes.proofs.ReadAgain.{number-decimal}
+use Rattle.dir_values.specs.Arguments.{Argument}
+use Rattle.dir_values.specs.Digests.{key_digest}
+use Rattle.dir_values.specs.FlagSets.{set_text}
+use Rattle.dir_values.specs.Numbers.{number_of}
+use Rattle.dir_values.specs.declared.digest.Digest1.{Digest1}
+use Rattle.dirdoc_grammar.specs.Writing.{written}
+use Rattle.frame_terms.specs.Rows.{row}
+use Rattle.frame_terms.specs.declared.keyword.Keyword.{Keyword}
+use Rattle.frame_terms.specs.declared.keyword.Keyword.TheVariants as the
+use Rattle.frame_terms.specs.declared.row.Count.{Count}
+use Rattle.frame_terms.specs.declared.row.Count.TheVariants.{One, Optional}
+use Rattle.frame_terms.specs.declared.row.Row.{Row}
+use Rattle.frame_values.specs.Arguments.{arguments_of, next}
+use Rattle.frame_values.specs.Faults.{at_place}
+use Rattle.frame_values.specs.Items.{bare}
+use Rattle.frame_values.specs.Ranges.{AreTwenty}
+use Rattle.frame_values.specs.declared.found.DirSource.{DirSource}
+use Rattle.frame_values.specs.declared.found.Span.{Span}
+use Rattle.frame_values.specs.declared.values.Value.{Value}
+use Rattle.frame_values.specs.declared.values.Value.TheVariants as value
+use Rattle.frame_laws.proofs.Entries.{AlwaysSuits, Entry, item_of}
+use Rattle.frame_laws.proofs.RowCounts.{said_once}
+use Rattle.frame_laws.proofs.RowValues.{moment_entry, own_entry, row_if, said_any_if, silent_entry, text_entry}
+use Rattle.frame_laws.proofs.SaidRows.{IsSaid, RowSays, row_once}
+use Rattle.frame_laws.proofs.Sections.{Section}
+use Rattle.frame_laws.proofs.Words.{AreWords, IsWord, arguments_of_word, arguments_of_words, placed, two_words}
+use Rattle.frame_laws.proofs.Words.{word_of_identity, word_of_number}
+use Rattle.frame_laws.proofs.WrittenItems.{key_again, literal-written, start_of, time-written}
+use Rattle.line_laws.specs.Again.{delays_text, source_at}
+use Rattle.line_laws.proofs.WrittenDelays.{delays_again, flags_again}
+use Rattle.line_laws.proofs.WrittenSources.{source_again}
+use Rattle.line_laws.specs.Again.{AreFlagsInRange}
+use Rattle.consensus_terms.specs.Texts.{source_words, version_words}
+use Rattle.consensus_terms.specs.declared.consensus.SourceLine.{SourceLine}
+use Rattle.consensus_terms.specs.declared.flavour.Flavour.{Flavour}
+use Rattle.consensus_terms.specs.declared.flavour.Flavour.TheVariants.{Ns, Microdesc}
+use Rattle.consensus_frame.specs.Lines.{method_of, version_of, vote_digest_of}
+use Rattle.consensus_frame.specs.Tables.{consensus_tables, ignores, value_at}
+use Rattle.consensus_frame.specs.declared.across.Across.{Across}
+use Rattle.consensus_frame.specs.declared.rows.ConsensusKind.{ConsensusKind}
+use Rattle.consensus_frame.specs.declared.rows.ConsensusKind.TheVariants as kind
+use Rattle.consensus_frame.specs.declared.rows.ConsensusSection.{ConsensusSection}
+use Rattle.consensus_frame.specs.declared.value.ConsensusValue.{ConsensusValue}
+use Rattle.consensus_frame.specs.declared.value.ConsensusValue.TheVariants as own
+use Rattle.consensus_laws.specs.Again.{IsAuthorityInRange}
+
+-- an item of a consensus with what it says, and a row of its tables
+abbrev pub ConsensusEntry : Type 0
+ConsensusEntry = Entry (Value ConsensusValue)
+
+abbrev pub ConsensusRow : Type 0
+ConsensusRow = RowSays ConsensusKind (Value ConsensusValue)
+
+-- a section of a consensus
+abbrev pub ConsensusPart : Type 0
+ConsensusPart = Section ConsensusSection ConsensusKind (Value ConsensusValue)
+
+-- what is said of what was read
+abbrev pub says : {A : Type 0} → (A → Value ConsensusValue) → Result A ℕ → Result (Value ConsensusValue) ℕ
+says of read = next read (λ found. Ok (of found))
+
+-- ---- what items say
+
+-- the method
+abbrev pub method_entry : ℕ → ConsensusEntry
+method_entry method = record {
+  keyword = the.ConsensusMethod;
+  rest = decimal method;
+  object = None;
+  value = λ p. value.Number method;
+}
+
+-- the two delays
+abbrev pub delays_entry : ℕ → ℕ → ConsensusEntry
+delays_entry vote dist = own_entry the.VotingDelay (delays_text vote dist) (λ p. own.Delays vote dist)
+
+-- the text of its first line
+abbrev pub source_rest : SourceLine → List ℕ
+source_rest source = join_with_byte 32 (source_words source)
+
+abbrev pub source_said : ℕ → SourceLine → DirSource
+source_said start s = source_at start s.nickname s.identity s.address s.ip s.dir_port s.or_port
+
+abbrev pub source_entry : SourceLine → ConsensusEntry
+source_entry source =
+    own_entry the.DirSource (source_rest source)
+    (λ p. own.Source (source_said (start_of p the.DirSource (source_rest source)) source))
+
+-- the digest of its vote
+abbrev pub vote_digest_entry : Digest1 → ConsensusEntry
+vote_digest_entry digest = own_entry the.VoteDigest (hex_text digest.0) (λ p. own.VoteDigest digest)
+
+-- ---- that they suit their rows
+
+module _ (flavour : Flavour) where
+  -- an item suits its row
+  abbrev pub SuitsConsensus : Row ConsensusKind → ConsensusEntry → Type 0
+  SuitsConsensus row entry = AlwaysSuits (consensus_tables flavour) row entry
+
+  -- what is said of a row
+  abbrev pub IsSaidHere : ConsensusRow → Type 0
+  IsSaidHere row = IsSaid (consensus_tables flavour) row
+
+  -- an item that is not passed over and has this value suits its row
+  pub suits : (keyword : Keyword) (count : Count) (of : ConsensusKind) (entry : ConsensusEntry)
+      → keyword ≡ entry.keyword → ((p : ℕ) → ignores of (written p (item_of entry)) ≡ false)
+      → ((across : Across) (p : ℕ) → value_at flavour across of (written p (item_of entry)) ≡ Ok (entry.value p))
+      → SuitsConsensus (row keyword count of) entry
+  suits keyword count of entry named known says_ =
+      λ across p. record { keyword = named; known = known p; value = ap at_place (says_ across p) }
+
+  -- ---- words, moments and texts
+
+  version_is : (item : Item) (place : ℕ) → arguments_of item ≡ placed place (version_words flavour)
+      → version_of flavour item ≡ Ok tt
+  version_is item place args = by flavour item place args
+    where
+      by : (f : Flavour) (item : Item) (place : ℕ) → arguments_of item ≡ placed place (version_words f)
+          → version_of f item ≡ Ok tt
+      by Ns item place args = rw args refl
+      by Microdesc item place args = rw args refl
+
+  -- its words are words
+  pub version_are : AreWords (version_words flavour)
+  version_are = by flavour
+    where
+      by : (f : Flavour) → AreWords (version_words f)
+      by Ns = All-cons IsWord (codes "3") [] refl (All-nil IsWord)
+      by Microdesc = two_words (codes "3") (codes "microdesc") refl refl
+
+  -- the version, which names the flavour
+  abbrev pub version_entry : ConsensusEntry
+  version_entry = silent_entry the.NetworkStatusVersion (join_with_byte 32 (version_words flavour))
+
+  pub suits_version : SuitsConsensus (row the.NetworkStatusVersion One kind.Version) version_entry
+  suits_version =
+      let text = join_with_byte 32 (version_words flavour) in
+      suits the.NetworkStatusVersion One kind.Version version_entry refl (λ p. refl)
+      (λ across p. ap (says (λ _. value.Nothing))
+      (version_is (written p (bare the.NetworkStatusVersion text)) (start_of p the.NetworkStatusVersion text)
+      (arguments_of_words (start_of p the.NetworkStatusVersion text) (version_words flavour) version_are)))
+
+  pub suits_status : SuitsConsensus (row the.VoteStatus One kind.Status)
+      (silent_entry the.VoteStatus (codes "consensus"))
+  suits_status =
+      suits the.VoteStatus One kind.Status (silent_entry the.VoteStatus (codes "consensus")) refl (λ p. refl)
+      (λ across p. ap (says (λ _. value.Nothing)) (literal-written p the.VoteStatus (codes "consensus") refl refl))
+
+  pub suits_nothing : (keyword : Keyword) → SuitsConsensus (row keyword One kind.Nothing) (silent_entry keyword [])
+  suits_nothing keyword =
+      suits keyword One kind.Nothing (silent_entry keyword []) refl (λ p. refl) (λ across p. refl)
+
+  -- a moment
+  pub said_moment : (keyword : Keyword) (moment : ℕ)
+      → IsSaidHere (row_once (row keyword One kind.Time) (moment_entry keyword moment))
+  said_moment keyword moment =
+      said_once (consensus_tables flavour) (row keyword One kind.Time) (moment_entry keyword moment)
+      (suits keyword One kind.Time (moment_entry keyword moment) refl (λ p. refl)
+      (λ across p. ap (says (λ (number : ℕ). value.Number number)) (time-written p keyword moment)))
+
+  -- the rest of a line, whatever it is
+  suits_rest : (keyword : Keyword) (text : List ℕ)
+      → SuitsConsensus (row keyword Optional kind.Rest) (text_entry keyword text)
+  suits_rest keyword text =
+      suits keyword Optional kind.Rest (text_entry keyword text) refl (λ p. refl) (λ across p. refl)
+
+  -- the same or none
+  pub said_rest_if : (keyword : Keyword) (text : Option (List ℕ))
+      → IsSaidHere (row_if (row keyword Optional kind.Rest) text)
+  said_rest_if keyword text =
+      said_any_if (consensus_tables flavour) (row keyword Optional kind.Rest) text refl (λ t. suits_rest keyword t)
+
+  -- ---- numbers
+
+  method_is : (item : Item) (a : Argument) (method : ℕ) → arguments_of item ≡ a ∷ [] → number_of a.text ≡ Some method
+      → method_of item ≡ Ok method
+  method_is item a method args number = rw (args, number) refl
+
+  pub suits_method : (method : ℕ) → method ≤ 4294967295
+      → SuitsConsensus (row the.ConsensusMethod One kind.Method) (method_entry method)
+  suits_method method small =
+      let text = decimal method in
+      suits the.ConsensusMethod One kind.Method (method_entry method) refl (λ p. refl)
+      (λ across p. ap (says (λ (number : ℕ). value.Number number))
+      (method_is (written p (bare the.ConsensusMethod text))
+      (record { place = start_of p the.ConsensusMethod text; text = text }) method
+      (arguments_of_word (start_of p the.ConsensusMethod text) text (word_of_number method))
+      (number-decimal 4294967295 method small (omega (arith, small)))))
+
+  pub suits_delays : (vote dist : ℕ) → vote ≤ 4294967295 → dist ≤ 4294967295
+      → SuitsConsensus (row the.VotingDelay One kind.Delays) (delays_entry vote dist)
+  suits_delays vote dist first second =
+      suits the.VotingDelay One kind.Delays (delays_entry vote dist) refl (λ p. refl)
+      (λ across p. ap (says (λ (delays : ℕ × ℕ). value.Own (own.Delays delays.0 delays.1)))
+      (delays_again p the.VotingDelay vote dist first second))
+
+  -- ---- flags
+
+  pub suits_flags : (flags : List (List ℕ)) → AreFlagsInRange flags
+      → SuitsConsensus (row the.KnownFlags One kind.KnownFlags) (text_entry the.KnownFlags (set_text flags))
+  suits_flags flags are =
+      suits the.KnownFlags One kind.KnownFlags (text_entry the.KnownFlags (set_text flags)) refl (λ p. refl)
+      (λ across p. ap (says (λ (text : Span). value.Text text)) (flags_again p the.KnownFlags flags are).0)
+
+  -- ---- an authority
+
+  pub suits_source : (source : SourceLine) → IsAuthorityInRange source
+      → SuitsConsensus (row the.DirSource One kind.Source) (source_entry source)
+  suits_source source are =
+      suits the.DirSource One kind.Source (source_entry source) refl (λ p. refl)
+      (λ across p. ap (says (λ (found : DirSource). value.Own (own.Source found)))
+      (source_again p the.DirSource source.nickname source.identity source.address source.ip source.dir_port
+      source.or_port are.line))
+
+  vote_digest_is : (item : Item) (a : Argument) (digest : Digest1) → arguments_of item ≡ a ∷ []
+      → key_digest a.text ≡ Some digest → vote_digest_of item ≡ Ok digest
+  vote_digest_is item a digest args is = rw (args, is) refl
+
+  pub suits_vote_digest : (digest : Digest1) → AreTwenty digest.0
+      → SuitsConsensus (row the.VoteDigest One kind.VoteDigest) (vote_digest_entry digest)
+  suits_vote_digest digest are =
+      let text = hex_text digest.0 in
+      suits the.VoteDigest One kind.VoteDigest (vote_digest_entry digest) refl (λ p. refl)
+      (λ across p. ap (says (λ (found : Digest1). value.Own (own.VoteDigest found)))
+      (vote_digest_is (written p (bare the.VoteDigest text))
+      (record { place = start_of p the.VoteDigest text; text = text }) digest
+      (arguments_of_word (start_of p the.VoteDigest text) text (word_of_identity digest.0 are.count are.each))
+      (key_again digest are.count are.each)))

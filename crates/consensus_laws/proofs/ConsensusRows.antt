@@ -1,0 +1,246 @@
+-- A consensus, row by row of its sections' tables: the preamble, the authorities and the footer.
+use Rattle.std.proofs.Common.{ℕ, List, [], ◌∷◌, ◌++◌, Option, Some, refl, ap}
+use Rattle.std.specs.Prelude.{All, codes}
+use Rattle.dir_values.specs.FlagSets.{set_text}
+use Rattle.frame_terms.specs.Keywords.{same}
+use Rattle.frame_terms.specs.Rows.{row}
+use Rattle.frame_terms.specs.declared.keyword.Keyword.TheVariants as the
+use Rattle.frame_terms.specs.declared.row.Count.TheVariants.{Many, One, Optional}
+use Rattle.frame_terms.specs.declared.row.Row.{Row}
+use Rattle.frame_values.specs.declared.found.VoteSignature.{VoteSignature}
+use Rattle.frame_values.specs.declared.values.Value.TheVariants as value
+use Rattle.frame_laws.proofs.Both.{both}
+use Rattle.frame_laws.proofs.Following.{IsFirst, MayFollow, opener_follows, repeated_follows}
+use Rattle.frame_laws.proofs.ManyRows.{row_of_each, said_of_each}
+use Rattle.frame_laws.proofs.Passing.{EachPasses}
+use Rattle.frame_laws.proofs.RowCounts.{said_once}
+use Rattle.frame_laws.proofs.RowValues.{moment_entry, row_if, silent_entry, text_entry}
+use Rattle.frame_laws.proofs.SaidRows.{AreSaid, row_once}
+use Rattle.frame_laws.proofs.Sections.{IsWritten, entries_in}
+use Rattle.consensus_terms.specs.Signed.{signer_text}
+use Rattle.consensus_terms.specs.declared.consensus.ConsensusFacts.{ConsensusFacts}
+use Rattle.consensus_terms.specs.declared.consensus.SourceLine.{SourceLine}
+use Rattle.consensus_terms.specs.declared.flavour.Flavour.{Flavour}
+use Rattle.consensus_terms.specs.declared.signature.SignatureLine.{SignatureLine}
+use Rattle.consensus_frame.specs.Tables.{consensus_tables}
+use Rattle.consensus_frame.specs.declared.rows.ConsensusKind.{ConsensusKind}
+use Rattle.consensus_frame.specs.declared.rows.ConsensusKind.TheVariants as kind
+use Rattle.consensus_frame.specs.declared.rows.ConsensusSection.{ConsensusSection}
+use Rattle.consensus_frame.specs.declared.rows.ConsensusSection.TheVariants as section
+use Rattle.consensus_frame.specs.declared.value.ConsensusValue.TheVariants as own
+use Rattle.consensus_laws.specs.Again.{AreFactsInRange, IsAuthorityInRange, IsSignatureInRange}
+use Rattle.consensus_laws.proofs.ConsensusItems.{ConsensusEntry, ConsensusPart, ConsensusRow, SuitsConsensus}
+use Rattle.consensus_laws.proofs.ConsensusItems.{delays_entry, method_entry, says, source_entry, vote_digest_entry}
+use Rattle.consensus_laws.proofs.ConsensusItems.{said_moment, said_rest_if, suits, suits_delays, suits_flags}
+use Rattle.consensus_laws.proofs.ConsensusItems.{suits_method, suits_status, suits_vote_digest, version_entry}
+use Rattle.consensus_laws.proofs.ConsensusLists.{param_rows, params_said, protocol_rows, protocols_said, version_rows}
+use Rattle.consensus_laws.proofs.ConsensusLists.{versions_said}
+use Rattle.consensus_laws.proofs.Quiet.{both_said, is_quiet, rows_quiet, text_quiet}
+use Rattle.consensus_laws.proofs.SignatureLines.{signature_again, signature_said}
+
+-- ---- the preamble
+
+-- what the document is, and the method
+abbrev pub kind_rows : ConsensusFacts → List ConsensusRow
+kind_rows c =
+    row_once (row the.VoteStatus One kind.Status) (silent_entry the.VoteStatus (codes "consensus"))
+    ∷ row_once (row the.ConsensusMethod One kind.Method) (method_entry c.method)
+    ∷ []
+
+-- its times
+abbrev pub time_rows : ConsensusFacts → List ConsensusRow
+time_rows c =
+    row_once (row the.ValidAfter One kind.Time) (moment_entry the.ValidAfter c.valid_after)
+    ∷ row_once (row the.FreshUntil One kind.Time) (moment_entry the.FreshUntil c.fresh_until)
+    ∷ row_once (row the.ValidUntil One kind.Time) (moment_entry the.ValidUntil c.valid_until)
+    ∷ row_once (row the.VotingDelay One kind.Delays) (delays_entry c.vote_seconds c.dist_seconds)
+    ∷ []
+
+-- its flags
+abbrev pub flag_rows : ConsensusFacts → List ConsensusRow
+flag_rows c =
+    row_once (row the.KnownFlags One kind.KnownFlags) (text_entry the.KnownFlags (set_text c.known_flags)) ∷ []
+
+-- its rows behind the first one
+abbrev pub preamble_rows : ConsensusFacts → List ConsensusRow
+preamble_rows c =
+    kind_rows c ++ (time_rows c ++ (version_rows c.lists ++ (flag_rows c
+    ++ (protocol_rows c.lists ++ param_rows c.lists))))
+
+abbrev pub version_row : Row ConsensusKind
+version_row = row the.NetworkStatusVersion One kind.Version
+
+abbrev pub preamble : Flavour → ConsensusFacts → ConsensusPart
+preamble flavour c = record {
+  name = section.Preamble;
+  first = version_row;
+  opener = version_entry flavour;
+  middle = preamble_rows c;
+}
+
+module _ (flavour : Flavour) where
+  preamble_said : (c : ConsensusFacts) → AreFactsInRange flavour c
+      → AreSaid (consensus_tables flavour) (preamble_rows c)
+  preamble_said c are =
+      let tables = consensus_tables flavour in
+      both (said_once tables _ _ (suits_status flavour))
+      (both (said_once tables _ _ (suits_method flavour c.method are.method))
+      (both (said_moment flavour the.ValidAfter c.valid_after)
+      (both (said_moment flavour the.FreshUntil c.fresh_until)
+      (both (said_moment flavour the.ValidUntil c.valid_until)
+      (both (said_once tables _ _
+      (suits_delays flavour c.vote_seconds c.dist_seconds are.vote_seconds are.dist_seconds))
+      (both_said tables (version_rows c.lists) (flag_rows c ++ (protocol_rows c.lists ++ param_rows c.lists))
+      (versions_said flavour c.lists are.lists)
+      (both (said_once tables _ _ (suits_flags flavour c.known_flags are.known_flags))
+      (both_said tables (protocol_rows c.lists) (param_rows c.lists) (protocols_said flavour c.lists are.lists)
+      (params_said flavour c.lists are.lists)))))))))
+
+  pub preamble_written : (c : ConsensusFacts) → AreFactsInRange flavour c
+      → IsWritten (consensus_tables flavour) (preamble flavour c) []
+  unfolding same
+  preamble_written c are =
+      record { table = refl; apart = refl; plain = refl; opens = refl; said = preamble_said c are }
+
+  pub preamble_first : IsFirst (consensus_tables flavour) version_row
+  unfolding same
+  preamble_first = record { begins = refl; row_there = refl }
+
+-- nothing is remembered of it
+pub preamble_quiet : (flavour : Flavour) (c : ConsensusFacts) → EachPasses is_quiet (entries_in (preamble flavour c))
+preamble_quiet flavour c =
+    both (λ place. refl) (rows_quiet (preamble_rows c)
+    (both (both (λ place. refl) tt)
+    (both (both (λ place. refl) tt)
+    (both (both (λ place. refl) tt)
+    (both (both (λ place. refl) tt)
+    (both (both (λ place. refl) tt)
+    (both (both (λ place. refl) tt)
+    (both (text_quiet the.ClientVersions _)
+    (both (text_quiet the.ServerVersions _)
+    (both (both (λ place. refl) tt)
+    (both (text_quiet the.RecommendedClientProtocols _)
+    (both (text_quiet the.RecommendedRelayProtocols _)
+    (both (text_quiet the.RequiredClientProtocols _)
+    (both (text_quiet the.RequiredRelayProtocols _)
+    (both (text_quiet the.Params _) tt)))))))))))))))
+
+-- ---- an authority
+
+abbrev pub source_row : Row ConsensusKind
+source_row = row the.DirSource One kind.Source
+
+abbrev pub source_rows : SourceLine → List ConsensusRow
+source_rows source =
+    row_if (row the.Contact Optional kind.Rest) source.contact
+    ∷ row_once (row the.VoteDigest One kind.VoteDigest) (vote_digest_entry source.vote_digest)
+    ∷ []
+
+abbrev pub source_section : SourceLine → ConsensusPart
+source_section source = record {
+  name = section.Source;
+  first = source_row;
+  opener = source_entry source;
+  middle = source_rows source;
+}
+
+module _ (flavour : Flavour) where
+  pub source_written : (source : SourceLine) → IsAuthorityInRange source
+      → IsWritten (consensus_tables flavour) (source_section source) []
+  unfolding same
+  source_written source are = record {
+    table = refl;
+    apart = refl;
+    plain = refl;
+    opens = refl;
+    said =
+        both (said_rest_if flavour the.Contact source.contact)
+        (both (said_once (consensus_tables flavour) _ _
+        (suits_vote_digest flavour source.vote_digest are.vote_digest)) tt);
+  }
+
+pub source_quiet : (source : SourceLine) → EachPasses is_quiet (entries_in (source_section source))
+source_quiet source =
+    both (λ place. refl) (rows_quiet (source_rows source)
+    (both (text_quiet the.Contact source.contact) (both (both (λ place. refl) tt) tt)))
+
+-- ---- the footer
+
+abbrev pub footer_row : Row ConsensusKind
+footer_row = row the.DirectoryFooter One kind.Nothing
+
+abbrev pub signature_row : Row ConsensusKind
+signature_row = row the.DirectorySignature Many kind.Signature
+
+-- a signature
+abbrev pub signature_entry : SignatureLine → ConsensusEntry
+signature_entry s = record {
+  keyword = the.DirectorySignature;
+  rest = signer_text s;
+  object = Some (record { words = codes "SIGNATURE"; bytes = s.signature });
+  value = λ p. value.Own (own.Signature (signature_said p the.DirectorySignature s));
+}
+
+abbrev pub weights_row : Option (List ℕ) → ConsensusRow
+weights_row weights = row_if (row the.BandwidthWeights Optional kind.Rest) weights
+
+abbrev pub footer : Option (List ℕ) → List SignatureLine → ConsensusPart
+footer weights lines = record {
+  name = section.Footer;
+  first = footer_row;
+  opener = silent_entry the.DirectoryFooter [];
+  middle = weights_row weights ∷ row_of_each signature_row signature_entry lines ∷ [];
+}
+
+module _ (flavour : Flavour) where
+  suits_signature : (s : SignatureLine) → IsSignatureInRange s
+      → SuitsConsensus flavour signature_row (signature_entry s)
+  suits_signature s are =
+      suits flavour the.DirectorySignature Many kind.Signature (signature_entry s) refl (λ p. refl)
+      (λ across p. ap (says (λ (found : Option VoteSignature). value.Own (own.Signature found)))
+      (signature_again across.is_signed p the.DirectorySignature s are))
+
+  pub footer_written : (weights : Option (List ℕ)) (lines : List SignatureLine) → All IsSignatureInRange lines
+      → IsWritten (consensus_tables flavour) (footer weights lines) []
+  unfolding same
+  footer_written weights lines are = record {
+    table = refl;
+    apart = refl;
+    plain = refl;
+    opens = refl;
+    said =
+        both (said_rest_if flavour the.BandwidthWeights weights)
+        (both (said_of_each (consensus_tables flavour) signature_row signature_entry IsSignatureInRange lines refl refl
+        are suits_signature) tt);
+  }
+
+-- ---- what may follow what
+
+module _ (flavour : Flavour) where
+  -- a section may follow another
+  abbrev pub Follows : ConsensusSection → ConsensusSection → Row ConsensusKind → Type 0
+  Follows before next row = MayFollow (consensus_tables flavour) before next row
+
+  pub source_first : Follows section.Preamble section.Source source_row
+  unfolding same
+  source_first =
+      opener_follows (consensus_tables flavour) section.Preamble section.Source source_row refl
+      (record { not_here = refl; opens = refl; passes_none = refl; row_there = refl })
+
+  pub source_next : Follows section.Source section.Source source_row
+  unfolding same
+  source_next =
+      repeated_follows (consensus_tables flavour) section.Source source_row refl
+      (record { row_there = refl; not_last = refl; begins_it = refl })
+
+  pub footer_after_preamble : Follows section.Preamble section.Footer footer_row
+  unfolding same
+  footer_after_preamble =
+      opener_follows (consensus_tables flavour) section.Preamble section.Footer footer_row refl
+      (record { not_here = refl; opens = refl; passes_none = refl; row_there = refl })
+
+  pub footer_after_source : Follows section.Source section.Footer footer_row
+  unfolding same
+  footer_after_source =
+      opener_follows (consensus_tables flavour) section.Source section.Footer footer_row refl
+      (record { not_here = refl; opens = refl; passes_none = refl; row_there = refl })
