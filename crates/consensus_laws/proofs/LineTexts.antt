@@ -14,6 +14,7 @@ use Rattle.list_values.specs.Protocols.{protocol_text, protocols_text}
 use Rattle.list_values.specs.VersionLists.{is_version, versions_text}
 use Rattle.list_values.specs.declared.named.Named.{Named}
 use Rattle.list_laws.proofs.VersionBytes.{word_of_version}
+use Rattle.line_laws.proofs.WrittenSignatures.{tail_some}
 use Rattle.consensus_terms.specs.Lines.{behind_space, line, list_line, rest_line}
 use Rattle.consensus_laws.specs.Items.{list_if, words_item}
 
@@ -27,11 +28,6 @@ behind : (word : List ℕ) (rest : List (List ℕ))
     → word ++ flat_map behind_space rest ≡ join_with_byte 32 (word ∷ rest)
 behind word [] = append-nil word
 behind word (next ∷ rest) = ap (λ (l : List ℕ). word ++ 32 ∷ l) (behind next rest)
-
--- a text that goes on after a keyword goes on with a space
-pub tail_some : (text : List ℕ) → 0 < length text → tail text ≡ 32 ∷ text
-tail_some [] some = absurd (omega (arith, some))
-tail_some (b ∷ text) some = refl
 
 pub join_some : (word : List ℕ) (rest : List (List ℕ)) → 0 < length word
     → 0 < length (join_with_byte 32 (word ∷ rest))

@@ -1,13 +1,12 @@
 -- A signature of a consensus that was written is read again; one of an unknown algorithm says nothing.
 use Rattle.std.proofs.Common.{◌≡◌, ℕ, ◌+◌, ◌<◌, Bool, true, false, List, [], ◌∷◌, ◌++◌, length, Option, Some, None, Ok}
 use Rattle.std.proofs.Common.{refl}
-use Rattle.std.proofs.Common.{ap, ◌∙◌, arith, length-append, append_assoc}
+use Rattle.std.proofs.Common.{ap, ◌∙◌, append_assoc}
 use Rattle.std.specs.Prelude.{codes, if◌then◌else◌}
 use Rattle.std.specs.Str.{bytes_eq}
 use Rattle.std.proofs.lemmas.List.Elements.{All-cons}
 use Rattle.item_terms.specs.Items.{Item}
 use Rattle.dir_bytes.specs.FieldTexts.{hex_text}
-use Rattle.dir_bytes.specs.Fields.{hex}
 use Rattle.dir_values.proofs.Orders.{same_text}
 use Rattle.dir_values.specs.Arguments.{Argument, arguments_at}
 use Rattle.dir_values.specs.Digests.{fingerprint, key_digest}
@@ -27,6 +26,7 @@ use Rattle.frame_values.specs.declared.found.VoteSignature.{VoteSignature}
 use Rattle.frame_laws.proofs.Words.{AreWords, IsWord, arguments_of_more, arguments_of_words, two_words}
 use Rattle.frame_laws.proofs.Words.{word_of_identity}
 use Rattle.frame_laws.proofs.WrittenItems.{identity_again, key_again, lines_at, space_first, start_of, word_is_there}
+use Rattle.line_laws.proofs.WrittenSignatures.{signer_some}
 use Rattle.consensus_terms.specs.Signed.{algorithm_text, signer_text}
 use Rattle.consensus_terms.specs.declared.signature.SignatureLine.{SignatureLine}
 use Rattle.consensus_frame.specs.Tables.{signature_of}
@@ -81,11 +81,6 @@ other_is : (item : Item) (n : Argument) (rest : List Argument) → arguments_of 
     → fingerprint n.text ≡ None → algorithm n.text ≡ None → known_signature_of item ≡ Ok None
 other_is item n rest args there no_first is = rw (args, there, no_first, is) refl
 
--- the name of SHA-256 is no fingerprint
-no_identity : fingerprint (codes "sha256") ≡ None
-unfolding hex
-no_identity = refl
-
 -- ---- the line
 
 -- the identity and the key
@@ -118,11 +113,8 @@ text_without_name s is =
     is
 
 -- its text is not empty
-pub signer_some : (s : SignatureLine) → 0 < length (signer_text s)
-signer_some s = some (algorithm_text s.algorithm) (hex_text s.identity.0) (hex_text s.key_digest.0)
-  where
-    some : (a b c : List ℕ) → 0 < length (a ++ b ++ 32 ∷ c)
-    some a b c = omega (arith, length-append (a ++ b) (32 ∷ c))
+pub signer_filled : (s : SignatureLine) → 0 < length (signer_text s)
+signer_filled s = signer_some (algorithm_text s.algorithm) (hex_text s.identity.0) (hex_text s.key_digest.0)
 
 abbrev signature_item_at : ℕ → Keyword → SignatureLine → Item
 signature_item_at p k s = written p (with_object k (signer_text s) (codes "SIGNATURE") s.signature)
@@ -192,7 +184,7 @@ pub signature_again : (is_signed : Bool) (p : ℕ) (k : Keyword) (s : SignatureL
     → signature_of is_signed (signature_item_at p k s) ≡ Ok (signature_said p k s)
 signature_again true p k s are = known_again p k s are
 signature_again false p k s are =
-    spaced (signature_item_at p k s) (space_first (signer_text s) (signer_some s)) ∙ known_again p k s are
+    spaced (signature_item_at p k s) (space_first (signer_text s) (signer_filled s)) ∙ known_again p k s are
   where
     spaced : (item : Item) → is_space item.separator ≡ true → signature_of false item ≡ known_signature_of item
     spaced item is = rw is refl

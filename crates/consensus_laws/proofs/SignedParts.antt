@@ -16,9 +16,10 @@ use Rattle.consensus_terms.specs.declared.flavour.Flavour.{Flavour}
 use Rattle.consensus_terms.specs.declared.signature.SignatureLine.{SignatureLine}
 use Rattle.consensus_doc.specs.Reading.{consensus_of}
 use Rattle.consensus_laws.specs.Again.{ComputedConsensusesAreReadAgain, SignedPartsStand, as_read, with_signatures}
+use Rattle.line_laws.proofs.WrittenSignatures.{signed_end_first}
 use Rattle.consensus_laws.proofs.ConsensusAgain.{consensuses_again}
-use Rattle.consensus_laws.proofs.LineTexts.{lines_are, rest_is, tail_some}
-use Rattle.consensus_laws.proofs.SignatureLines.{signer_some}
+use Rattle.consensus_laws.proofs.LineTexts.{lines_are, rest_is}
+use Rattle.consensus_laws.proofs.SignatureLines.{signer_filled}
 
 -- ---- the signed part
 
@@ -30,14 +31,7 @@ after_signed s = signer_text s ++ 10 ∷ object_text (codes "SIGNATURE") s.signa
 begins_signature : (s : SignatureLine) → signature_text s ≡ codes "directory-signature " ++ after_signed s
 unfolding signature_text
 begins_signature s =
-    ap (λ (l : List ℕ). (codes "directory-signature" ++ l) ++ 10 ∷ object_text (codes "SIGNATURE") s.signature)
-    (tail_some (signer_text s) (signer_some s))
-    ∙ split (signer_text s) (object_text (codes "SIGNATURE") s.signature)
-  where
-    split : (signer object : List ℕ)
-        → (codes "directory-signature" ++ 32 ∷ signer) ++ 10 ∷ object
-        ≡ codes "directory-signature " ++ (signer ++ 10 ∷ object)
-    split signer object = refl
+    signed_end_first (signer_text s) s.signature (signer_filled s)
 
 pub parts_stand : SignedPartsStand
 parts_stand text lines first rest is =

@@ -1,3 +1,4 @@
 pub mod WrittenFlags
 pub mod WrittenDelays
 pub mod WrittenSources
+pub mod WrittenSignatures

@@ -5,9 +5,7 @@ use Rattle.std.specs.Prelude.{codes, map, min}
 use Rattle.std.proofs.lemmas.List.{length-append, map-append}
 use Rattle.dir_bytes.specs.FieldTexts.{hex_text}
 use Rattle.dirdoc_grammar.specs.Bodies.{object_text}
-use Rattle.dirdoc_grammar.specs.Writing.{NewItem, item_text, items_text, tail}
-use Rattle.frame_terms.specs.Keywords.{text_of}
-use Rattle.frame_terms.specs.declared.keyword.Keyword.TheVariants as the
+use Rattle.dirdoc_grammar.specs.Writing.{NewItem, item_text, items_text}
 use Rattle.frame_values.proofs.ItemsTexts.{sections}
 use Rattle.frame_laws.proofs.Entries.{item_of}
 use Rattle.frame_laws.proofs.LastRows.{last_item}
@@ -15,6 +13,7 @@ use Rattle.frame_laws.proofs.Places.{after_all-append}
 use Rattle.frame_laws.proofs.Sections.{end_of, entries_in}
 use Rattle.frame_laws.proofs.StandingParts.{between_stands}
 use Rattle.frame_laws.proofs.WrittenRows.{ends_behind, from_place}
+use Rattle.line_laws.proofs.WrittenSignatures.{signed_end_first, signer_some}
 use Rattle.vote_terms.specs.declared.facts.SignatureFacts.{SignatureFacts}
 use Rattle.vote_terms.specs.declared.facts.VoteFacts.{VoteFacts}
 use Rattle.vote_text.specs.Texts.{algorithm_text, signer_text, vote_text}
@@ -36,17 +35,6 @@ unsigned_entries facts =
     entries_in (preamble facts)
     ++ (entries_in (authority facts) ++ (in_cert facts ++ (in_list facts ++ entries_in footer)))
 
--- a text that goes on after a keyword goes on with a space
-tail_some : (text : List ℕ) → 0 < length text → tail text ≡ 32 ∷ text
-tail_some [] some = absurd (omega (arith, some))
-tail_some (b ∷ text) some = refl
-
-signer_some : (s : SignatureFacts) → 0 < length (signer_text s)
-signer_some s = some (algorithm_text s.algorithm) (hex_text s.identity.0) (hex_text s.key_digest.0)
-  where
-    some : (a b c : List ℕ) → 0 < length (a ++ b ++ 32 ∷ c)
-    some a b c = omega (arith, length-append (a ++ b) (32 ∷ c))
-
 -- what follows the signed part
 abbrev after_signed : SignatureFacts → List ℕ
 after_signed s = signer_text s ++ 10 ∷ object_text (codes "SIGNATURE") s.signature
@@ -55,14 +43,8 @@ after_signed s = signer_text s ++ 10 ∷ object_text (codes "SIGNATURE") s.signa
 signature_text : (s : SignatureFacts)
     → item_text (item_of (signature_entry s)) ≡ codes "directory-signature " ++ after_signed s
 signature_text s =
-    ap (λ (l : List ℕ). (text_of the.DirectorySignature ++ l) ++ 10 ∷ object_text (codes "SIGNATURE") s.signature)
-    (tail_some (signer_text s) (signer_some s))
-    ∙ split (signer_text s) (object_text (codes "SIGNATURE") s.signature)
-  where
-    split : (signer object : List ℕ)
-        → (text_of the.DirectorySignature ++ 32 ∷ signer) ++ 10 ∷ object
-        ≡ codes "directory-signature " ++ (signer ++ 10 ∷ object)
-    split signer object = refl
+    signed_end_first (signer_text s) s.signature
+    (signer_some (algorithm_text s.algorithm) (hex_text s.identity.0) (hex_text s.key_digest.0))
 
 -- the vote's text begins with the signed part
 text_parts : (facts : VoteFacts) → vote_text facts ≡ signed_text facts ++ (after_signed facts.signature ++ [])

@@ -1,5 +1,5 @@
 -- Who the authority of a vote is that was written: its line is read again, and where its words stand.
-use Rattle.std.proofs.Common.{◌≡◌, ℕ, List, [], ◌∷◌, ◌++◌, Ok, sym, ap, subst, ◌∙◌, append_assoc}
+use Rattle.std.proofs.Common.{◌≡◌, ℕ, List, ◌∷◌, ◌++◌, Ok, sym, ap, subst, ◌∙◌, append_assoc}
 use Rattle.std.specs.Fmt.{decimal}
 use Rattle.dir_bytes.specs.FieldTexts.{address_text, hex_text}
 use Rattle.dirdoc_grammar.specs.Writing.{written}

@@ -1,5 +1,5 @@
 -- What an item of a vote says that was written and is read again: the value that it was written for.
-use Rattle.std.proofs.Common.{◌≡◌, ℕ, ◌+◌, ◌^◌, ◌<◌, ◌≤◌, true, List, [], ◌∷◌, ◌++◌, cond, length, Option, Some, None}
+use Rattle.std.proofs.Common.{◌≡◌, ℕ, ◌+◌, ◌≤◌, true, List, [], ◌∷◌, ◌++◌, cond, length, Option, Some, None}
 use Rattle.std.proofs.Common.{Ok, refl, ap, ◌∙◌, arith, length-append}
 use Rattle.std.specs.Prelude.{All, map, codes, is_none, unwrap_or, option_map}
 use Rattle.std.specs.List.{find}
@@ -8,36 +8,30 @@ use Rattle.std.proofs.lemmas.List.{length-map}
 use Rattle.std.proofs.lemmas.List.Elements.{All-cons, All-head, All-tail}
 use Rattle.base64.specs.GeneralPurpose.{IsBytes}
 use Rattle.item_terms.specs.Items.{Item}
-use Rattle.dir_bytes.specs.FieldTexts.{address_text, hex_text}
-use Rattle.dir_bytes.specs.Fields.{address, hex}
-use Rattle.dir_bytes.proofs.ReadAgain.{address-address_text, number-decimal}
-use Rattle.dir_values.specs.Arguments.{Argument, arguments_at}
-use Rattle.item_terms.specs.Words.{words_of}
-use Rattle.dir_values.specs.FlagSets.{Ascend, as_set, set_text, is_name, wrong_flag}
+use Rattle.dir_bytes.specs.FieldTexts.{hex_text}
+use Rattle.dir_bytes.specs.Fields.{hex}
+use Rattle.dir_bytes.proofs.ReadAgain.{number-decimal}
+use Rattle.dir_values.specs.Arguments.{Argument}
 use Rattle.dir_values.specs.declared.algorithm.Algorithm.{Algorithm}
 use Rattle.dir_values.specs.declared.algorithm.Algorithm.TheVariants.{Sha1, Sha256}
 use Rattle.dir_values.specs.declared.digest.Digest1.{Digest1}
 use Rattle.dir_values.specs.declared.digest.Fingerprint.{Fingerprint as Identity}
-use Rattle.dirdoc_grammar.specs.Writers.{is_argument}
 use Rattle.dirdoc_grammar.specs.Writing.{written}
 use Rattle.frame_terms.specs.declared.keyword.Keyword.{Keyword}
 use Rattle.frame_values.specs.Arguments.{arguments_of}
-use Rattle.dir_values.specs.Names.{algorithm, is_nickname}
+use Rattle.dir_values.specs.Names.{algorithm}
 use Rattle.dir_values.specs.Digests.{fingerprint, key_digest}
-use Rattle.frame_values.specs.Fields.{is_there, span_of}
-use Rattle.dir_values.specs.Numbers.{wrong_number, port_of, number_of, number_in, numbers_in, numbers_text}
-use Rattle.frame_values.specs.Lines.{delays_of, flags_of, numbers_of, rest_unless, source_of}
+use Rattle.dir_values.specs.Numbers.{wrong_number, number_of, number_in, numbers_in, numbers_text}
+use Rattle.frame_values.specs.Lines.{numbers_of, rest_unless}
 use Rattle.frame_values.specs.Signatures.{has_words, is_space, object_of, signature_of}
 use Rattle.frame_values.specs.declared.found.Span.{Span}
 use Rattle.frame_values.specs.declared.found.VoteSignature.{VoteSignature}
 use Rattle.frame_values.specs.Items.{bare, with_object}
 use Rattle.frame_laws.proofs.Words.{IsWord, arguments_of_words, length-arguments_at, placed, two_words}
-use Rattle.frame_laws.proofs.Words.{word_of_identity, word_of_number, words_of-join, words_of_flags, words_of_numbers}
+use Rattle.frame_laws.proofs.Words.{word_of_identity, words_of-join, words_of_numbers}
 use Rattle.frame_laws.proofs.WrittenItems.{identity_again, key_again, lines_at, rest_at, space_first, start_of}
-use Rattle.frame_laws.proofs.WrittenItems.{word_is_there}
 use Rattle.vote_terms.specs.declared.facts.SignatureFacts.{SignatureFacts}
-use Rattle.vote_terms.specs.declared.facts.VoteFacts.{VoteFacts}
-use Rattle.vote_text.specs.Texts.{algorithm_text, delays_text, signer_text, source_text}
+use Rattle.vote_text.specs.Texts.{algorithm_text, signer_text}
 use Rattle.vote_doc.specs.Facts.{algorithm_of}
 
 -- ---- items whose arguments are known
