@@ -1,0 +1,118 @@
+-- When a descriptor holds (dir-spec, "Server descriptor format"; cert-spec).
+use Rattle.std.specs.Prelude.{◌≡◌, ℕ, ◌*◌, nat_le, Bool, true, false, ◌&&◌, ◌||◌, List}
+use Rattle.std.specs.declared.option.Option.{Option}
+use Rattle.std.specs.declared.option.Option.TheVariants.{Some, None}
+use Rattle.std.specs.Str.{bytes_eq}
+use Rattle.dir_values.specs.Digests.{same_identity}
+use Rattle.dir_values.specs.declared.digest.Fingerprint.{Fingerprint}
+use Rattle.ed_certs.specs.declared.certificate.EdCert.{EdCert}
+use Rattle.key_port.specs.Answers.{Relation, Rules}
+use Rattle.key_port.specs.declared.verifier.KeyKind.TheVariants as kind
+use Rattle.key_port.specs.declared.verifier.VerifyAnswer.{VerifyAnswer}
+use Rattle.key_port.specs.declared.verifier.VerifyAnswer.TheVariants as answer
+use Rattle.descriptor_doc.specs.declared.checking.DescriptorRefusal.{DescriptorRefusal}
+use Rattle.descriptor_doc.specs.declared.checking.DescriptorRefusal.TheVariants as refusal
+use Rattle.descriptor_doc.specs.declared.descriptor.Descriptor.{Descriptor}
+use Rattle.descriptor_doc.specs.declared.descriptor.EdSignature.{EdSignature}
+
+-- ---- who signed it
+
+-- whether a fingerprint, where there is one, is this identity
+abbrev pub is_identity : Fingerprint → Option Fingerprint → Bool
+is_identity identity None = true
+is_identity identity (Some fingerprint) = same_identity fingerprint identity
+
+-- whether the certificate and the Ed25519 signature stand together or not at all
+abbrev pub both_or_neither : Option EdCert → Option EdSignature → Bool
+both_or_neither None None = true
+both_or_neither (Some certificate) (Some signature) = true
+both_or_neither _ _ = false
+
+-- whether a certificate's signer is this key
+abbrev pub is_signer : List ℕ → Option EdCert → Bool
+is_signer key None = false
+is_signer key (Some certificate) = bytes_eq certificate.signer key
+
+-- whether the master key, where there is one, is the certificate's signer
+abbrev pub is_master : Option (List ℕ) → Option EdCert → Bool
+is_master None certificate = true
+is_master (Some key) certificate = is_signer key certificate
+
+-- whether the descriptor names the identities that it has
+abbrev pub names_itself : Descriptor → Bool
+names_itself d =
+    is_identity d.identity d.fingerprint
+    && (both_or_neither d.identity_ed25519 d.router_sig_ed25519 && is_master d.master_key_ed25519 d.identity_ed25519)
+
+-- ---- its signatures
+
+-- whether a relation has the RSA signature of the descriptor's digest by its signing key
+abbrev pub signs : Relation → Descriptor → Bool
+signs has d = has kind.Signing d.signing_key d.digest.0 d.router_signature
+
+-- whether a certificate's hours have passed when a descriptor was published
+abbrev pub has_expired : ℕ → EdCert → Bool
+has_expired published certificate = nat_le (certificate.expires_hours * 3600) published
+
+-- whether a relation has the signer's signature of a certificate
+abbrev pub certifies : Relation → EdCert → Bool
+certifies has certificate = has kind.Ed25519 certificate.signer certificate.covered certificate.signature
+
+-- whether a relation has the certified key's signature of a descriptor
+abbrev pub ed_signs : Relation → EdCert → EdSignature → Bool
+ed_signs has certificate signature = has kind.Ed25519 certificate.key signature.covered.0 signature.signature
+
+-- the Ed25519 signatures hold: the certificate has not expired when the descriptor was published, and both of them may be
+-- accepted
+pub record AreEdSigned (rules : Rules) (published : ℕ) (certificate : EdCert) (signature : EdSignature) : Type 0 where
+  pub expires : has_expired published certificate ≡ false
+  pub certified : certifies rules.may_accept certificate ≡ true
+  pub signed : ed_signs rules.may_accept certificate signature ≡ true
+
+-- the same of those that there are
+abbrev pub IsEdSigned : Rules → ℕ → Option EdCert → Option EdSignature → Type 0
+IsEdSigned rules published (Some certificate) (Some signature) = AreEdSigned rules published certificate signature
+IsEdSigned rules published _ _ = Unit {0}
+
+-- The descriptor holds: it names the identities that it has, and all its signatures may be accepted.
+pub record IsVerified (rules : Rules) (d : Descriptor) : Type 0 where
+  pub names_itself : names_itself d ≡ true
+  pub signed : signs rules.may_accept d ≡ true
+  pub ed_signed : IsEdSigned rules d.published d.identity_ed25519 d.router_sig_ed25519
+
+-- ---- why it is refused
+
+-- whether Ed25519 signatures may be refused: the certificate has expired, or its signature may be refused; or it may be
+-- accepted, and the descriptor's may be refused
+abbrev pub are_refused : Rules → ℕ → EdCert → EdSignature → Bool
+are_refused rules published certificate signature =
+    has_expired published certificate
+    || (certifies rules.may_refuse certificate
+    || (certifies rules.may_accept certificate && ed_signs rules.may_refuse certificate signature))
+
+-- the same of those that there are
+abbrev pub is_ed_refused : Rules → ℕ → Option EdCert → Option EdSignature → Bool
+is_ed_refused rules published (Some certificate) (Some signature) = are_refused rules published certificate signature
+is_ed_refused rules published _ _ = false
+
+-- what a verifier answers of Ed25519 signatures, where one that has expired is refused
+abbrev pub AnswersEd : Rules → ℕ → EdCert → EdSignature → VerifyAnswer → Type 0
+AnswersEd rules published certificate signature answer.Yes = AreEdSigned rules published certificate signature
+AnswersEd rules published certificate signature answer.No = are_refused rules published certificate signature ≡ true
+AnswersEd rules published certificate signature answer.Fault = Unit {0}
+
+-- the same of those that there are
+abbrev pub AnswersEdIf : Rules → ℕ → Option EdCert → Option EdSignature → VerifyAnswer → Type 0
+AnswersEdIf rules published certificate signature answer.Yes = IsEdSigned rules published certificate signature
+AnswersEdIf rules published certificate signature answer.No =
+    is_ed_refused rules published certificate signature ≡ true
+AnswersEdIf rules published certificate signature answer.Fault = Unit {0}
+
+-- the first clause fails that a refusal names. Where the verifier failed it was asked.
+abbrev pub RefusedBy : Rules → Descriptor → DescriptorRefusal → Type 0
+RefusedBy rules d refusal.IdentityMismatch = names_itself d ≡ false
+RefusedBy rules d refusal.BadSignature = (names_itself d ≡ true) × (signs rules.may_refuse d ≡ true)
+RefusedBy rules d refusal.BadEdSignature =
+    (names_itself d ≡ true) × (signs rules.may_accept d ≡ true)
+    × (is_ed_refused rules d.published d.identity_ed25519 d.router_sig_ed25519 ≡ true)
+RefusedBy rules d refusal.VerifierFault = names_itself d ≡ true

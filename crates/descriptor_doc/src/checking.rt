@@ -1,0 +1,180 @@
+// When a descriptor holds.
+ghost use Rattle.std.specs.Prelude.{◌≡◌, ◌≤◌, IfOk, IfErr};
+ghost use Rattle.dir_bytes.specs.Causes.{Rose};
+ghost use Rattle.key_port.specs.Answers.{rules};
+ghost use Rattle.descriptor_doc.specs.Checks as checks;
+ghost use Rattle.descriptor_doc.specs.Checks.{IsVerified, RefusedBy};
+
+use crate::checked::CheckedDescriptor;
+use crate::descriptor::{Descriptor, EdSignature};
+use dir_values::Fingerprint;
+use ed_certs::EdCert;
+use key_port::{KeyKind, Verifier, VerifyAnswer};
+
+/// Why a descriptor does not hold; of several the first.
+#[derive(Clone, Copy, Debug, PartialEq, Eq)]
+pub enum DescriptorRefusal {
+    /// It names another identity than it has: its fingerprint is not that of its signing key; it has an Ed25519 certificate
+    /// without an Ed25519 signature or the other way round; or its Ed25519 identity key is not the certificate's signer.
+    IdentityMismatch,
+    /// The signing key's signature was refused.
+    BadSignature,
+    /// The Ed25519 certificate had expired when the descriptor was published, or its signature or the Ed25519 signature of
+    /// the descriptor was refused.
+    BadEdSignature,
+    /// The verifier failed, and nothing is known.
+    VerifierFault,
+}
+
+/// Whether a fingerprint, where there is one, is this identity.
+fn is_identity(identity: &Fingerprint, fingerprint: &Option<Fingerprint>) -> bool
+    ensures { result ≡ checks.is_identity identity.now fingerprint.now }
+{
+    match fingerprint {
+        None => true,
+        Some(fingerprint) => fingerprint.is_same(identity),
+    }
+}
+
+/// Whether the certificate and the Ed25519 signature stand together or not at all.
+fn both_or_neither(certificate: &Option<EdCert>, signature: &Option<EdSignature>) -> bool
+    ensures { result ≡ checks.both_or_neither certificate.now signature.now }
+{
+    match (certificate, signature) {
+        (None, None) | (Some(_), Some(_)) => true,
+        _ => false,
+    }
+}
+
+/// Whether a certificate's signer is this key.
+fn is_signer(key: &[u8; 32], certificate: &Option<EdCert>) -> bool
+    ensures { result ≡ checks.is_signer key.now certificate.now }
+{
+    match certificate {
+        None => false,
+        Some(certificate) => certificate.signer == *key,
+    }
+}
+
+/// Whether the master key, where there is one, is the certificate's signer.
+fn is_master(key: &Option<[u8; 32]>, certificate: &Option<EdCert>) -> bool
+    ensures { result ≡ checks.is_master key.now certificate.now }
+{
+    match key {
+        None => true,
+        Some(key) => is_signer(key, certificate),
+    }
+}
+
+/// Whether the descriptor names the identities that it has.
+fn names_itself(descriptor: &Descriptor) -> bool
+    ensures { result ≡ checks.names_itself descriptor.now }
+{
+    is_identity(&descriptor.identity, &descriptor.fingerprint)
+        && both_or_neither(&descriptor.identity_ed25519, &descriptor.router_sig_ed25519)
+        && is_master(&descriptor.master_key_ed25519, &descriptor.identity_ed25519)
+}
+
+/// Whether a certificate's hours have passed at a moment.
+fn has_expired(published: u64, certificate: &EdCert) -> bool
+    ensures { result ≡ checks.has_expired published certificate.now }
+{
+    certificate.expires_hours as u64 * 3600 <= published
+}
+
+/// What the verifier says of both Ed25519 signatures, if the certificate has not expired.
+fn verify_ed<V: Verifier>(
+    published: u64,
+    certificate: &EdCert,
+    signature: &EdSignature,
+    verifier: &mut V,
+) -> VerifyAnswer
+    ensures answer { checks.AnswersEd (rules V.may_accept V.may_refuse) published certificate.now signature.now result }
+    ensures fault { result ≡ VerifyAnswer.Fault → Rose (V.faults verifier.old) (V.faults verifier.new) }
+    ensures faults { V.faults verifier.old ≤ V.faults verifier.new }
+{
+    if has_expired(published, certificate) {
+        return VerifyAnswer::No;
+    }
+    match verifier.verify(
+        KeyKind::Ed25519,
+        &certificate.signer,
+        certificate.covered.as_bytes(),
+        &certificate.signature,
+    ) {
+        VerifyAnswer::Yes => verifier.verify(
+            KeyKind::Ed25519,
+            &certificate.key,
+            &signature.covered.0,
+            &signature.signature,
+        ),
+        answer => answer,
+    }
+}
+
+/// What the verifier says of the Ed25519 signatures that there are.
+fn verify_ed_if<V: Verifier>(descriptor: &Descriptor, verifier: &mut V) -> VerifyAnswer
+    ensures answer { checks.AnswersEdIf (rules V.may_accept V.may_refuse) descriptor.now.published descriptor.now.identity_ed25519 descriptor.now.router_sig_ed25519 result }
+    ensures fault { result ≡ VerifyAnswer.Fault → Rose (V.faults verifier.old) (V.faults verifier.new) }
+    ensures faults { V.faults verifier.old ≤ V.faults verifier.new }
+{
+    match (&descriptor.identity_ed25519, &descriptor.router_sig_ed25519) {
+        (Some(certificate), Some(signature)) => {
+            verify_ed(descriptor.published, certificate, signature, verifier)
+        }
+        _ => VerifyAnswer::Yes,
+    }
+}
+
+/// The first reason why the descriptor does not hold, if there is one.
+fn refusal_of<V: Verifier>(
+    descriptor: &Descriptor,
+    verifier: &mut V,
+) -> Result<(), DescriptorRefusal>
+    ensures accepted { IfOk result (λ _. IsVerified (rules V.may_accept V.may_refuse) descriptor.now) }
+    ensures refused { IfErr result (λ refusal. RefusedBy (rules V.may_accept V.may_refuse) descriptor.now refusal) }
+    ensures fault { IfErr result (λ refusal. refusal ≡ DescriptorRefusal.VerifierFault → Rose (V.faults verifier.old) (V.faults verifier.new)) }
+    ensures faults { V.faults verifier.old ≤ V.faults verifier.new }
+{
+    if !names_itself(descriptor) {
+        return Err(DescriptorRefusal::IdentityMismatch);
+    }
+    match verifier.verify(
+        KeyKind::Signing,
+        descriptor.signing_key.as_bytes(),
+        &descriptor.digest.0,
+        descriptor.router_signature.as_bytes(),
+    ) {
+        VerifyAnswer::Yes => (),
+        VerifyAnswer::No => return Err(DescriptorRefusal::BadSignature),
+        VerifyAnswer::Fault => return Err(DescriptorRefusal::VerifierFault),
+    }
+    match verify_ed_if(descriptor, verifier) {
+        VerifyAnswer::Yes => Ok(()),
+        VerifyAnswer::No => Err(DescriptorRefusal::BadEdSignature),
+        VerifyAnswer::Fault => Err(DescriptorRefusal::VerifierFault),
+    }
+}
+
+/// The descriptor as one that was checked, if it holds (dir-spec, "Server descriptor format"). The verifier is asked for the
+/// signing key's signature of the descriptor's digest, as `Signing`; and then, of Ed25519, for the signer's signature of the
+/// certificate and the certified key's of the descriptor; each only where all before it holds. Takes no memory.
+///
+/// # Errors
+/// The first that applies: `IdentityMismatch` where it names another identity than it has, `BadSignature` where its signature
+/// was refused, `BadEdSignature` where its Ed25519 certificate had expired when it was published, or one of both Ed25519
+/// signatures was refused; `VerifierFault` where the verifier failed, whose count of faults rose then.
+pub fn check<V: Verifier>(
+    descriptor: Descriptor,
+    verifier: &mut V,
+) -> Result<CheckedDescriptor<V>, DescriptorRefusal>
+    ensures accepted { IfOk result (λ checked. (checked ≡ descriptor) × IsVerified (rules V.may_accept V.may_refuse) descriptor) }
+    ensures refused { IfErr result (λ refusal. RefusedBy (rules V.may_accept V.may_refuse) descriptor refusal) }
+    ensures fault { IfErr result (λ refusal. refusal ≡ DescriptorRefusal.VerifierFault → Rose (V.faults verifier.old) (V.faults verifier.new)) }
+    ensures faults { V.faults verifier.old ≤ V.faults verifier.new }
+{
+    match refusal_of(&descriptor, verifier) {
+        Ok(()) => Ok(CheckedDescriptor::new(descriptor)),
+        Err(refusal) => Err(refusal),
+    }
+}

@@ -1,0 +1,20 @@
+//! Server descriptors: reading and writing them, and when one holds.
+#![tactic(auto)]
+
+mod checked;
+mod checking;
+mod descriptor;
+mod head;
+mod kept;
+mod reading;
+mod says;
+mod values;
+
+pub use checked::CheckedDescriptor;
+pub use checking::{DescriptorRefusal, check};
+pub use descriptor::{Descriptor, EdSignature, Router};
+pub use descriptor_frame::BandwidthLine;
+pub use ed_certs::EdCert;
+pub use head::{Head, head_of};
+pub use kept::Kept;
+pub use reading::read;
