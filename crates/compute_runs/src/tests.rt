@@ -1,49 +1,32 @@
 // Runs of `compute` on the votes of three to five authorities.
-mod bandwidths;
-mod flavours;
-mod lists;
-mod relay_votes;
-mod relays;
 mod texts;
-mod verifying;
 
 use run_stage::{
-    FIVE, FOUR, FOUR_LATER, Given, LATER_TIME, ONE, ONE_AGAIN, THE_FIVE, THE_FOUR, THE_THREE,
-    THREE, THREE_LATER, TIME, TWO, TWO_LATER, Vote, WITHOUT_THREE, compute_words, input, place_of,
-    run_of, whole,
+    FIVE, FOUR, FOUR_LATER, Given, LATER_TIME, ONE, ONE_AGAIN, PLAIN_CONSENSUS, THE_FIVE, THE_FOUR,
+    THE_THREE, THREE, THREE_LATER, TIME, TWO, TWO_LATER, Vote, WITHOUT_THREE, assert_fault,
+    assert_gives, compute_words, input, place_of, whole,
 };
 use std::alloc::Global;
-use std::process::Abort;
 use std::test::Fail;
 
-// Asserts the number of the status, the text and the line of a run.
-fn assert_gives(
-    rt: &impl Abort,
-    alloc: Global,
-    given: Given<'_>,
-    number: u8,
-    text: &str,
-    line: &str,
-) -> Result<(), Fail> {
-    let gave = run_of(alloc, &given)?;
-    assert_eq!(rt; gave.number, number, "{line}");
-    assert_eq!(rt; gave.text.as_slice(), text.as_bytes(), "{line}");
-    assert_eq!(rt; gave.line.as_slice(), line.as_bytes());
-    Ok(())
+// Asserts that the votes of a roster give this text.
+fn assert_computes(alloc: Global, roster: &str, votes: &[Vote], text: &str) -> Result<(), Fail> {
+    let input = input(alloc, votes)?;
+    let words = compute_words(roster);
+    assert_gives(alloc, whole(&words, input.as_bytes()), 0, text, "")
 }
 
 #[test]
 fn votes_give_a_consensus(rt: HostRuntime) -> Result<(), Fail> {
-    let alloc = rt.alloc();
     let cases: [(&str, &[Vote], &str); 12] = [
-        (THE_THREE, &[ONE, TWO, THREE], texts::PLAIN),
-        (THE_THREE, &[ONE, THREE, TWO], texts::PLAIN),
-        (THE_THREE, &[TWO, ONE, THREE], texts::PLAIN),
-        (THE_THREE, &[TWO, THREE, ONE], texts::PLAIN),
-        (THE_THREE, &[THREE, ONE, TWO], texts::PLAIN),
-        (THE_THREE, &[THREE, TWO, ONE], texts::PLAIN),
-        (THE_THREE, &[ONE, TWO, TWO, THREE], texts::PLAIN),
-        (THE_FOUR, &[ONE, TWO, THREE], texts::PLAIN),
+        (THE_THREE, &[ONE, TWO, THREE], PLAIN_CONSENSUS),
+        (THE_THREE, &[ONE, THREE, TWO], PLAIN_CONSENSUS),
+        (THE_THREE, &[TWO, ONE, THREE], PLAIN_CONSENSUS),
+        (THE_THREE, &[TWO, THREE, ONE], PLAIN_CONSENSUS),
+        (THE_THREE, &[THREE, ONE, TWO], PLAIN_CONSENSUS),
+        (THE_THREE, &[THREE, TWO, ONE], PLAIN_CONSENSUS),
+        (THE_THREE, &[ONE, TWO, TWO, THREE], PLAIN_CONSENSUS),
+        (THE_FOUR, &[ONE, TWO, THREE], PLAIN_CONSENSUS),
         (
             THE_FOUR,
             &[ONE, TWO_LATER, THREE_LATER, FOUR_LATER],
@@ -54,9 +37,7 @@ fn votes_give_a_consensus(rt: HostRuntime) -> Result<(), Fail> {
         (THE_FIVE, &[FIVE, THREE, FOUR, ONE, TWO], texts::FIVE),
     ];
     for (roster, votes, text) in cases {
-        let input = input(alloc, votes)?;
-        let words = compute_words(roster);
-        assert_gives(&rt, alloc, whole(&words, input.as_bytes()), 0, text, "")?;
+        assert_computes(rt.alloc(), roster, votes, text)?;
     }
     Ok(())
 }
@@ -64,11 +45,18 @@ fn votes_give_a_consensus(rt: HostRuntime) -> Result<(), Fail> {
 /// A piece of a vote, another in its place, what then begins at the place of the fault, and the fault.
 type Faulty = (&'static str, &'static str, &'static str, &'static str);
 
-#[test]
-fn faulty_votes_are_refused(rt: HostRuntime) -> Result<(), Fail> {
-    let alloc = rt.alloc();
+// Asserts that the votes of the three authorities have the fault, where one piece is another.
+fn assert_votes_faulty(alloc: Global, faulty: Faulty) -> Result<(), Fail> {
+    let (from, to, piece, reason) = faulty;
     let words = compute_words(THE_THREE);
     let votes = input(alloc, &[ONE, TWO, THREE])?;
+    let text = votes.replacen(alloc, from, to, 1)?;
+    let given = whole(&words, text.as_bytes());
+    assert_fault(alloc, given, place_of(&text, piece), reason)
+}
+
+#[test]
+fn faulty_votes_are_refused(rt: HostRuntime) -> Result<(), Fail> {
     let twice = "contact operator 1\ncontact  operator 1\n";
     let cases: [Faulty; 8] = [
         (
@@ -105,18 +93,28 @@ fn faulty_votes_are_refused(rt: HostRuntime) -> Result<(), Fail> {
             "object words",
         ),
     ];
-    for (from, to, faulty, reason) in cases {
-        let input = votes.replacen(alloc, from, to, 1)?;
-        let place = place_of(&input, faulty);
-        let line = format!(in alloc; "document fault at {place}: {reason}\n")?;
-        assert_gives(&rt, alloc, whole(&words, input.as_bytes()), 5, "", &line)?;
+    for faulty in cases {
+        assert_votes_faulty(rt.alloc(), faulty)?;
     }
     Ok(())
 }
 
+// Asserts that the votes of a roster at a time give no text, but a status of this number and this line.
+fn assert_none(
+    alloc: Global,
+    roster: &str,
+    time: &str,
+    votes: &[Vote],
+    number: u8,
+    line: &str,
+) -> Result<(), Fail> {
+    let words = ["compute", "--authorities", roster, "--valid-after", time];
+    let input = input(alloc, votes)?;
+    assert_gives(alloc, whole(&words, input.as_bytes()), number, "", line)
+}
+
 #[test]
 fn votes_are_refused(rt: HostRuntime) -> Result<(), Fail> {
-    let alloc = rt.alloc();
     let cases: [(&str, &str, &[Vote], u8, &str); 7] = [
         (THE_FIVE, TIME, &[ONE, TWO], 7, "too few votes: 2 of 5\n"),
         (THE_FIVE, TIME, &[], 7, "too few votes: 0 of 5\n"),
@@ -139,37 +137,30 @@ fn votes_are_refused(rt: HostRuntime) -> Result<(), Fail> {
         (THE_THREE, TIME, &[ONE; 65], 9, "limit votes 64\n"),
     ];
     for (roster, time, votes, number, line) in cases {
-        let words = ["compute", "--authorities", roster, "--valid-after", time];
-        let input = input(alloc, votes)?;
-        assert_gives(
-            &rt,
-            alloc,
-            whole(&words, input.as_bytes()),
-            number,
-            "",
-            line,
-        )?;
+        assert_none(rt.alloc(), roster, time, votes, number, line)?;
     }
     Ok(())
+}
+
+// The votes of the three authorities, with a text between the first and the second.
+fn votes_around(alloc: Global, between: &str) -> Result<String, Fail> {
+    let mut votes = input(alloc, &[ONE])?;
+    votes.push_str(between)?;
+    votes.push_str(&input(alloc, &[TWO, THREE])?)?;
+    Ok(votes)
 }
 
 #[test]
 fn blank_lines_stand_between_votes(rt: HostRuntime) -> Result<(), Fail> {
     let alloc = rt.alloc();
     let words = compute_words(THE_THREE);
+    let votes = votes_around(alloc, " \t\n\n")?;
+    let given = whole(&words, votes.as_bytes());
+    assert_gives(alloc, given, 0, PLAIN_CONSENSUS, "")?;
     let place = input(alloc, &[ONE])?.len();
-    let fault = format!(in alloc; "document fault at {place}: missing network-status-version\n")?;
-    for (between, number, text, line) in [
-        (" \t\n\n", 0, texts::PLAIN, ""),
-        ("x\n", 5, "", &fault),
-    ] {
-        let mut votes = input(alloc, &[ONE])?;
-        votes.push_str(between)?;
-        votes.push_str(&input(alloc, &[TWO, THREE])?)?;
-        let given = whole(&words, votes.as_bytes());
-        assert_gives(&rt, alloc, given, number, text, line)?;
-    }
-    Ok(())
+    let votes = votes_around(alloc, "x\n")?;
+    let given = whole(&words, votes.as_bytes());
+    assert_fault(alloc, given, place, "missing network-status-version")
 }
 
 #[test]
@@ -181,15 +172,15 @@ fn reads_end_anywhere(rt: HostRuntime) -> Result<(), Fail> {
     let end = input(alloc, &[ONE])?.len();
     for place in end.saturating_sub("-----END SIGNATURE-----".len())..end {
         assert!(rt; place <= text.len());
-        let line = format!(in alloc; "document fault at {place}: unterminated\n")?;
-        assert_gives(&rt, alloc, whole(&words, &text[..place]), 5, "", &line)?;
+        let front = whole(&words, &text[..place]);
+        assert_fault(alloc, front, place, "unterminated")?;
         let cuts = [place as u64];
         let whole = whole(&words, text);
         let given = Given {
             cuts: &cuts,
             ..whole
         };
-        assert_gives(&rt, alloc, given, 0, texts::PLAIN, "")?;
+        assert_gives(alloc, given, 0, PLAIN_CONSENSUS, "")?;
     }
     Ok(())
 }
@@ -202,15 +193,15 @@ fn streams_fail(rt: HostRuntime) -> Result<(), Fail> {
     let plain = whole(&words, votes.as_bytes());
     let reads: &[u64] = &[1];
     let given = Given { reads, ..plain };
-    assert_gives(&rt, alloc, given, 3, "", "read fault\n")?;
+    assert_gives(alloc, given, 3, "", "read fault\n")?;
     let errors: &[u64] = &[2];
     let given = Given { errors, ..given };
-    assert_gives(&rt, alloc, given, 3, "", "read fa")?;
+    assert_gives(alloc, given, 3, "", "read fa")?;
     let given = Given { errors, ..plain };
-    assert_gives(&rt, alloc, given, 0, texts::PLAIN, "")?;
+    assert_gives(alloc, given, 0, PLAIN_CONSENSUS, "")?;
     let writes: &[u64] = &[3];
     let given = Given { writes, ..plain };
-    assert_gives(&rt, alloc, given, 4, "network-status", "write fault\n")
+    assert_gives(alloc, given, 4, "network-status", "write fault\n")
 }
 
 #[test]
@@ -232,14 +223,8 @@ fn words_are_bad(rt: HostRuntime) -> Result<(), Fail> {
         &["compute", "--authorities", "", "--valid-after", TIME],
     ];
     for words in cases {
-        assert_gives(
-            &rt,
-            alloc,
-            whole(words, text.as_bytes()),
-            2,
-            "",
-            "bad words\n",
-        )?;
+        let given = whole(words, text.as_bytes());
+        assert_gives(alloc, given, 2, "", "bad words\n")?;
     }
     Ok(())
 }

@@ -1,4 +1,4 @@
-//! Whole runs of `check` and `show` over forms in memory: tests alone, of `authority_daemon::run`.
+//! Whole runs of `check vote` over forms in memory: tests alone, of `authority_daemon::run`.
 #![tactic(auto)]
 
 #[cfg(test)]

@@ -30,6 +30,19 @@ pub fn compute_words<'a>(roster: &'a str) -> [&'a str; 5] {
     ["compute", "--authorities", roster, "--valid-after", TIME]
 }
 
+/// The words that ask for a consensus of the first three authorities in this flavour, or in both.
+pub fn flavour_words<'a>(flavour: &'a str) -> [&'a str; 7] {
+    [
+        "compute",
+        "--flavour",
+        flavour,
+        "--authorities",
+        THE_THREE,
+        "--valid-after",
+        TIME,
+    ]
+}
+
 /// What differs from one vote to another.
 #[derive(Clone, Copy, Debug)]
 pub struct Vote {

@@ -1,25 +1,16 @@
-// Runs of `check`.
-use super::assert_gives;
+// Votes that are votes, and texts that are none.
+use super::{CHECK, changed};
 use run_stage::{
-    Given, ONE, THE_THREE, TWO, Vote, compute_words, input, place_of, text_of, whole, with_pieces,
+    Given, ONE, TWO, Vote, assert_fault, assert_gives, input, place_of, text_of, whole, with_pieces,
 };
 use std::alloc::Global;
-use std::process::Abort;
 use std::test::Fail;
-
-const CHECK: [&str; 2] = ["check", "vote"];
 
 const FIRST: &str = "network-status-version 3\n";
 
 const DELAY: &str = "voting-delay 300 300\n";
 
 const CONTACT: &str = "contact operator 1\n";
-
-// A vote in whose text one piece is another.
-fn changed(alloc: Global, from: &str, to: &str) -> Result<String, Fail> {
-    let vote = input(alloc, &[ONE])?;
-    Ok(vote.replacen(alloc, from, to, 1)?)
-}
 
 #[test]
 fn votes_are_votes(rt: HostRuntime) -> Result<(), Fail> {
@@ -38,7 +29,7 @@ fn votes_are_votes(rt: HostRuntime) -> Result<(), Fail> {
         for behind in ["", " \t\n\n"] {
             let mut text = changed(alloc, from, to)?;
             text.push_str(behind)?;
-            assert_gives(&rt, alloc, whole(&CHECK, text.as_bytes()), 0, "ok\n", "")?;
+            assert_gives(alloc, whole(&CHECK, text.as_bytes()), 0, "ok\n", "")?;
         }
     }
     Ok(())
@@ -48,12 +39,11 @@ fn votes_are_votes(rt: HostRuntime) -> Result<(), Fail> {
 type Faulty = (&'static str, &'static str, &'static str, &'static str);
 
 // Asserts that the vote is none where one piece is another.
-fn assert_faulty(rt: &impl Abort, alloc: Global, faulty: Faulty) -> Result<(), Fail> {
+fn assert_faulty(alloc: Global, faulty: Faulty) -> Result<(), Fail> {
     let (from, to, piece, reason) = faulty;
     let text = changed(alloc, from, to)?;
-    let place = place_of(&text, piece);
-    let line = format!(in alloc; "document fault at {place}: {reason}\n")?;
-    assert_gives(rt, alloc, whole(&CHECK, text.as_bytes()), 5, "", &line)
+    let given = whole(&CHECK, text.as_bytes());
+    assert_fault(alloc, given, place_of(&text, piece), reason)
 }
 
 #[test]
@@ -79,7 +69,7 @@ fn lines_and_objects_have_their_form(rt: HostRuntime) -> Result<(), Fail> {
         ("BEGIN SIGNATURE", "BEGIN SIGNATUR", signing, "object end"),
     ];
     for faulty in cases {
-        assert_faulty(&rt, rt.alloc(), faulty)?;
+        assert_faulty(rt.alloc(), faulty)?;
     }
     Ok(())
 }
@@ -107,7 +97,7 @@ fn items_stand_in_their_place(rt: HostRuntime) -> Result<(), Fail> {
         (CONTACT, twice, "contact  ", "twice contact"),
     ];
     for faulty in cases {
-        assert_faulty(&rt, rt.alloc(), faulty)?;
+        assert_faulty(rt.alloc(), faulty)?;
     }
     Ok(())
 }
@@ -144,7 +134,7 @@ fn items_say_what_they_are_to(rt: HostRuntime) -> Result<(), Fail> {
         ),
     ];
     for (from, to, piece) in cases {
-        assert_faulty(&rt, rt.alloc(), (from, to, piece, "value"))?;
+        assert_faulty(rt.alloc(), (from, to, piece, "value"))?;
     }
     Ok(())
 }
@@ -189,38 +179,45 @@ fn a_real_vote_is_a_vote(rt: HostRuntime) -> Result<(), Fail> {
         ..ONE
     };
     let text = with_pieces(alloc, &text_of(alloc, &vote)?, &REAL)?.ok_or("no such piece")?;
-    assert_gives(&rt, alloc, whole(&CHECK, text.as_bytes()), 0, "ok\n", "")
+    assert_gives(alloc, whole(&CHECK, text.as_bytes()), 0, "ok\n", "")
 }
 
 #[test]
 fn other_texts_are_no_vote(rt: HostRuntime) -> Result<(), Fail> {
-    let alloc = rt.alloc();
-    let flags = "known-flags Running Valid\nknown-flags  Running Valid\n";
-    let twice = changed(alloc, "known-flags Running Valid\n", flags)?;
-    let vote = input(alloc, &[ONE])?;
-    let (unsigned, _) = vote.split_once("directory-footer").unwrap_or(("", ""));
-    let footer = format!(in alloc; "{}: missing directory-footer", unsigned.len())?;
-    let second = place_of(&twice, "known-flags  ");
-    let twice_known = format!(in alloc; "{second}: twice known-flags")?;
-    let cases: [(&[u8], &str); 6] = [
-        (b"", "0: missing network-status-version"),
+    let cases: [(&[u8], usize, &str); 4] = [
+        (b"", 0, "missing network-status-version"),
         (
             b"network-status-version 3\nvote-status opinion\n",
-            "37: value",
+            37,
+            "value",
         ),
-        (b"network-status-version 3\n-x\n", "25: object words"),
+        (b"network-status-version 3\n-x\n", 25, "object words"),
         (
             b"network-status-version 3\nvote-status vot",
-            "40: unterminated",
+            40,
+            "unterminated",
         ),
-        (twice.as_bytes(), &twice_known),
-        (unsigned.as_bytes(), &footer),
     ];
-    for (text, fault) in cases {
-        let line = format!(in alloc; "document fault at {fault}\n")?;
-        assert_gives(&rt, alloc, whole(&CHECK, text), 5, "", &line)?;
+    for (text, place, reason) in cases {
+        assert_fault(rt.alloc(), whole(&CHECK, text), place, reason)?;
     }
-    Ok(())
+    let flags = "known-flags Running Valid\nknown-flags  Running Valid\n";
+    let twice: Faulty = (
+        "known-flags Running Valid\n",
+        flags,
+        "known-flags  ",
+        "twice known-flags",
+    );
+    assert_faulty(rt.alloc(), twice)?;
+    let vote = input(rt.alloc(), &[ONE])?;
+    let (unsigned, _) = vote.split_once("directory-footer").ok_or("no footer")?;
+    let given = whole(&CHECK, unsigned.as_bytes());
+    assert_fault(
+        rt.alloc(),
+        given,
+        unsigned.len(),
+        "missing directory-footer",
+    )
 }
 
 #[test]
@@ -242,8 +239,7 @@ fn one_vote_stands_alone(rt: HostRuntime) -> Result<(), Fail> {
         text.push_str(blank)?;
         let place = text.len();
         text.push_str(behind)?;
-        let line = format!(in alloc; "document fault at {place}: order\n")?;
-        assert_gives(&rt, alloc, whole(&CHECK, text.as_bytes()), 5, "", &line)?;
+        assert_fault(alloc, whole(&CHECK, text.as_bytes()), place, "order")?;
     }
     Ok(())
 }
@@ -253,170 +249,13 @@ fn input_is_read_behind_a_fault(rt: HostRuntime) -> Result<(), Fail> {
     let alloc = rt.alloc();
     let text = b"network-status-version 4\nx\n";
     let plain = whole(&CHECK, text);
-    let line = "document fault at 23: value\n";
     let cuts: &[u64] = &[25];
-    assert_gives(&rt, alloc, Given { cuts, ..plain }, 5, "", line)?;
+    assert_fault(alloc, Given { cuts, ..plain }, 23, "value")?;
     let reads: &[u64] = &[2];
     let given = Given {
         cuts,
         reads,
         ..plain
     };
-    assert_gives(&rt, alloc, given, 3, "", "read fault\n")
-}
-
-#[test]
-fn objects_and_lines_have_a_limit(rt: HostRuntime) -> Result<(), Fail> {
-    let alloc = rt.alloc();
-    let cases = [
-        (object(alloc, "AAAA")?, 0, "ok\n", ""),
-        (object(alloc, "\nAAAA")?, 9, "", "limit object 65536\n"),
-        (line(alloc, 1_048_573)?, 0, "ok\n", ""),
-        (line(alloc, 1_048_574)?, 9, "", "limit line 1048576\n"),
-    ];
-    for (item, number, text, line) in cases {
-        let vote = changed(alloc, "published", &item)?;
-        assert_gives(
-            &rt,
-            alloc,
-            whole(&CHECK, vote.as_bytes()),
-            number,
-            text,
-            line,
-        )?;
-    }
-    Ok(())
-}
-
-#[test]
-fn a_vote_has_a_limit(rt: HostRuntime) -> Result<(), Fail> {
-    let alloc = rt.alloc();
-    // Fifteen lines of 1,048,576 bytes, one of three bytes and so many, and the vote itself.
-    let most = 1_048_573_usize.saturating_sub(input(alloc, &[ONE])?.len());
-    let cases = [
-        (lines(alloc, most)?, 0, "ok\n", ""),
-        (
-            lines(alloc, most.saturating_add(1))?,
-            9,
-            "",
-            "limit vote 16777216\n",
-        ),
-    ];
-    for (items, number, text, line) in cases {
-        let vote = changed(alloc, "published", &items)?;
-        assert_gives(
-            &rt,
-            alloc,
-            whole(&CHECK, vote.as_bytes()),
-            number,
-            text,
-            line,
-        )?;
-    }
-    Ok(())
-}
-
-#[test]
-fn lists_at_a_limit_are_read(rt: HostRuntime) -> Result<(), Fail> {
-    let alloc = rt.alloc();
-    let cases = [
-        (
-            "known-flags Running Valid\n",
-            "known-flags F",
-            "",
-            "known-flags",
-            64,
-        ),
-        (
-            "consensus-methods 32\n",
-            "consensus-methods ",
-            "",
-            "methods",
-            64,
-        ),
-        (
-            DELAY,
-            "voting-delay 300 300\nparams p",
-            "=1",
-            "params",
-            1024,
-        ),
-    ];
-    for (from, front, behind, limit, most) in cases {
-        let text = changed(alloc, from, &list(alloc, front, behind, most)?)?;
-        assert_gives(&rt, alloc, whole(&CHECK, text.as_bytes()), 0, "ok\n", "")?;
-        let text = changed(
-            alloc,
-            from,
-            &list(alloc, front, behind, most.saturating_add(1))?,
-        )?;
-        let line = format!(in alloc; "limit {limit} {most}\n")?;
-        assert_gives(&rt, alloc, whole(&CHECK, text.as_bytes()), 9, "", &line)?;
-    }
-    Ok(())
-}
-
-// A vote whose certificate has 65,536 bytes, and so many more.
-fn long_certificate(alloc: Global, more: usize) -> Result<String, Fail> {
-    let letters = "a".repeat(alloc, 64917)?;
-    let others = "a".repeat(alloc, more)?;
-    let item = format!(in alloc; "x {letters}{others}\nfingerprint")?;
-    changed(alloc, "fingerprint", &item)
-}
-
-#[test]
-fn a_certificate_has_a_limit(rt: HostRuntime) -> Result<(), Fail> {
-    let alloc = rt.alloc();
-    let vote = long_certificate(alloc, 0)?;
-    assert_gives(&rt, alloc, whole(&CHECK, vote.as_bytes()), 0, "ok\n", "")?;
-    let vote = long_certificate(alloc, 1)?;
-    let line = "limit certificate 65536\n";
-    assert_gives(&rt, alloc, whole(&CHECK, vote.as_bytes()), 9, "", line)
-}
-
-#[test]
-fn an_input_has_a_limit(rt: HostRuntime) -> Result<(), Fail> {
-    let alloc = rt.alloc();
-    let blanks = " ".repeat(alloc, 1_048_575)?;
-    let line = format!(in alloc; "{blanks}\n")?;
-    let mut input = line.repeat(alloc, 256)?;
-    let words = compute_words(THE_THREE);
-    let few = "too few votes: 0 of 3\n";
-    assert_gives(&rt, alloc, whole(&words, input.as_bytes()), 7, "", few)?;
-    input.push_str("\n")?;
-    let limit = "limit input 268435456\n";
-    assert_gives(&rt, alloc, whole(&words, input.as_bytes()), 9, "", limit)
-}
-
-// An item of a line of three bytes and so many, in front of `published`.
-fn line(alloc: Global, count: usize) -> Result<String, Fail> {
-    let letters = "a".repeat(alloc, count)?;
-    Ok(format!(in alloc; "x {letters}\npublished")?)
-}
-
-// Fifteen lines of 1,048,576 bytes and one of three bytes and so many, in front of `published`.
-fn lines(alloc: Global, count: usize) -> Result<String, Fail> {
-    let letters = "a".repeat(alloc, 1_048_573)?;
-    let mut text = format!(in alloc; "x {letters}\n")?.repeat(alloc, 15)?;
-    text.push_str(&line(alloc, count)?)?;
-    Ok(text)
-}
-
-// An item with an object of 65,532 bytes and these, in front of `published`.
-fn object(alloc: Global, last: &str) -> Result<String, Fail> {
-    let letters = "A".repeat(alloc, 64)?;
-    let rows = format!(in alloc; "{letters}\n")?.repeat(alloc, 1007)?;
-    let row = "A".repeat(alloc, 40)?;
-    Ok(format!(in alloc; "x\n-----BEGIN AB-----\n{rows}{row}{last}\n-----END AB-----\npublished")?)
-}
-
-// An item of so many different arguments, which are numbers with this in front and behind. The keyword stands in front of the first.
-fn list(alloc: Global, front: &str, behind: &str, count: u64) -> Result<String, Fail> {
-    let (keyword, letter) = front.rsplit_once(" ").ok_or("no keyword")?;
-    let mut text = String::from_str(alloc, keyword)?;
-    for number in 0..count {
-        text.push_str(&format!(in alloc; " {letter}{number}{behind}")?)?;
-    }
-    text.push_str("\n")?;
-    Ok(text)
+    assert_gives(alloc, given, 3, "", "read fault\n")
 }

@@ -1,26 +1,14 @@
 // Runs of `check` and `show` on votes that list relays.
-use super::assert_gives;
-use run_stage::{ONE, Vote, input, place_of, whole};
+use super::SHOW;
+use run_stage::{KEY_P, ONE, SET, Vote, X, assert_fault, assert_gives, place_of, text_of, whole};
 use std::alloc::Global;
-use std::process::Abort;
 use std::test::Fail;
-
-const CHECK: [&str; 2] = ["check", "vote"];
-
-const SHOW: [&str; 2] = ["show", "vote"];
 
 const ZERO: &str =
     "r relay1 AAAAAAAAAAAAAAAAAAAAAAAAAAA AgICAgICAgICAgICAgICAgICAgI 2025-12-31 22:00:00 198.51.100.7 9001 0\n";
 
-const X: &str =
-    "r relay1 AQEBAQEBAQEBAQEBAQEBAQEBAQE AgICAgICAgICAgICAgICAgICAgI 2025-12-31 22:00:00 198.51.100.7 9001 0\n";
-
 const Y: &str =
     "r relay1 AgICAgICAgICAgICAgICAgICAgI AgICAgICAgICAgICAgICAgICAgI 2025-12-31 22:00:00 198.51.100.7 9001 0\n";
-
-const SET: &str = "s Running Valid\n";
-
-const KEY: &str = "id ed25519 AwMDAwMDAwMDAwMDAwMDAwMDAwMDAwMDAwMDAwMDAwM\n";
 
 /// The lines of some entries, the piece of them at whose last place something is wrong, and what that is.
 #[derive(Clone, Copy)]
@@ -37,8 +25,8 @@ const DESCENDING: Faulty = Faulty {
 };
 
 const A_KEY_TWICE: Faulty = Faulty {
-    entries: &[X, SET, KEY, Y, SET, KEY],
-    piece: KEY,
+    entries: &[X, SET, KEY_P, Y, SET, KEY_P],
+    piece: KEY_P,
     fault: "duplicate ed25519",
 };
 
@@ -56,55 +44,51 @@ const A_BANDWIDTH_TWICE: Faulty = Faulty {
 
 // The vote of the first authority with these entries.
 fn vote_of(alloc: Global, entries: &'static [&'static str]) -> Result<String, Fail> {
-    let vote = Vote { entries, ..ONE };
-    Ok(input(alloc, &[vote])?)
+    Ok(text_of(alloc, &Vote { entries, ..ONE })?)
 }
 
-// Asserts that `check` and `show` give no text of an input, and this line.
-fn assert_none(rt: &impl Abort, alloc: Global, text: &[u8], line: &str) -> Result<(), Fail> {
-    for words in [CHECK, SHOW] {
-        assert_gives(rt, alloc, whole(&words, text), 5, "", line)?;
-    }
-    Ok(())
-}
-
-// Asserts that a vote with such entries is refused where the piece stands last.
-fn assert_refused(rt: &impl Abort, alloc: Global, faulty: Faulty) -> Result<(), Fail> {
+// Asserts that `check` and `show` refuse a vote with such entries where the piece stands last.
+fn assert_refused(alloc: Global, faulty: Faulty) -> Result<(), Fail> {
     let text = vote_of(alloc, faulty.entries)?;
     let (before, _) = text.rsplit_once(faulty.piece).ok_or("no such piece")?;
-    let line = format!(in alloc; "document fault at {}: {}\n", before.len(), faulty.fault)?;
-    assert_none(rt, alloc, text.as_bytes(), &line)
+    for words in [["check", "vote"], SHOW] {
+        let given = whole(&words, text.as_bytes());
+        assert_fault(alloc, given, before.len(), faulty.fault)?;
+    }
+    Ok(())
 }
 
 #[test]
 fn faulty_entries_are_refused(rt: HostRuntime) -> Result<(), Fail> {
     for faulty in [DESCENDING, A_KEY_TWICE, TOO_GREAT, A_BANDWIDTH_TWICE] {
-        assert_refused(&rt, rt.alloc(), faulty)?;
+        assert_refused(rt.alloc(), faulty)?;
     }
     Ok(())
 }
 
+/// Entries with every line that is read.
+const FULL: &[&str] = &[
+    X,
+    "a [2001:db8::1]:9001\n",
+    "a 192.0.2.7:443\n",
+    "s Fast Running Valid\n",
+    "v Tor 0.4.8.12\n",
+    "pr Cons=1-2 Link=1-5\n",
+    "w Bandwidth=500 Measured=700\n",
+    "p reject 1-65535\n",
+    "m 28,29 sha256=BQUFBQUFBQUFBQUFBQUFBQUFBQUFBQUFBQUFBQUFBQU\n",
+    "m 31,32 sha256=BQUFBQUFBQUFBQUFBQUFBQUFBQUFBQUFBQUFBQUFBQU\n",
+    "id ed25519 none\n",
+    Y,
+    SET,
+    KEY_P,
+];
+
 #[test]
 fn entries_are_shown_as_they_are(rt: HostRuntime) -> Result<(), Fail> {
     let alloc = rt.alloc();
-    let full: &[&str] = &[
-        X,
-        "a [2001:db8::1]:9001\n",
-        "a 192.0.2.7:443\n",
-        "s Fast Running Valid\n",
-        "v Tor 0.4.8.12\n",
-        "pr Cons=1-2 Link=1-5\n",
-        "w Bandwidth=500 Measured=700\n",
-        "p reject 1-65535\n",
-        "m 28,29 sha256=BQUFBQUFBQUFBQUFBQUFBQUFBQUFBQUFBQUFBQUFBQU\n",
-        "m 31,32 sha256=BQUFBQUFBQUFBQUFBQUFBQUFBQUFBQUFBQUFBQUFBQU\n",
-        "id ed25519 none\n",
-        Y,
-        SET,
-        KEY,
-    ];
-    let text = vote_of(alloc, full)?;
-    assert_gives(&rt, alloc, whole(&SHOW, text.as_bytes()), 0, &text, "")?;
+    let text = vote_of(alloc, FULL)?;
+    assert_gives(alloc, whole(&SHOW, text.as_bytes()), 0, &text, "")?;
     let cases = [
         ("s Fast Running Valid", "s  Valid\tRunning Fast "),
         ("id ed25519 none", "id rsa1024 x\nid ed25519 none more"),
@@ -118,7 +102,7 @@ fn entries_are_shown_as_they_are(rt: HostRuntime) -> Result<(), Fail> {
     for (from, to) in cases {
         assert!(rt; place_of(&text, from) < text.len());
         let other = text.replacen(alloc, from, to, 1)?;
-        assert_gives(&rt, alloc, whole(&SHOW, other.as_bytes()), 0, &text, "")?;
+        assert_gives(alloc, whole(&SHOW, other.as_bytes()), 0, &text, "")?;
     }
     Ok(())
 }

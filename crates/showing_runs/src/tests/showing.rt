@@ -1,10 +1,8 @@
 // Runs of `show`.
-use super::assert_gives;
-use run_stage::{ONE, input, whole};
+use super::SHOW;
+use run_stage::{ONE, assert_fault, assert_gives, input, whole};
 use std::alloc::Global;
 use std::test::Fail;
-
-const SHOW: [&str; 2] = ["show", "vote"];
 
 const KNOWN: &str = "known-flags";
 
@@ -40,7 +38,7 @@ fn a_vote_has_one_text(rt: HostRuntime) -> Result<(), Fail> {
     for (from, to) in cases {
         let other = changed(alloc, from, to)?;
         let given = whole(&SHOW, other.as_bytes());
-        assert_gives(&rt, alloc, given, 0, &text, "")?;
+        assert_gives(alloc, given, 0, &text, "")?;
     }
     Ok(())
 }
@@ -73,7 +71,7 @@ fn what_a_vote_says_is_kept(rt: HostRuntime) -> Result<(), Fail> {
     for (from, to) in cases {
         let text = changed(alloc, from, to)?;
         let given = whole(&SHOW, text.as_bytes());
-        assert_gives(&rt, alloc, given, 0, &text, "")?;
+        assert_gives(alloc, given, 0, &text, "")?;
     }
     Ok(())
 }
@@ -81,11 +79,10 @@ fn what_a_vote_says_is_kept(rt: HostRuntime) -> Result<(), Fail> {
 #[test]
 fn what_is_no_vote_is_not_shown(rt: HostRuntime) -> Result<(), Fail> {
     let alloc = rt.alloc();
-    let missing = "document fault at 0: missing network-status-version\n";
-    assert_gives(&rt, alloc, whole(&SHOW, b""), 5, "", missing)?;
+    let missing = "missing network-status-version";
+    assert_fault(alloc, whole(&SHOW, b""), 0, missing)?;
     let mut more = input(alloc, &[ONE])?;
     let place = more.len();
     more.push_str("x\n")?;
-    let line = format!(in alloc; "document fault at {place}: order\n")?;
-    assert_gives(&rt, alloc, whole(&SHOW, more.as_bytes()), 5, "", &line)
+    assert_fault(alloc, whole(&SHOW, more.as_bytes()), place, "order")
 }

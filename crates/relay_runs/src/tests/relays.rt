@@ -1,6 +1,6 @@
 // Runs of `compute` over votes that list one relay.
 use super::relay_votes::*;
-use run_stage::{THE_FIVE, THE_FOUR, THE_THREE, THREE, Vote, compute_words, input, run_of, whole};
+use run_stage::{SET, THE_FIVE, THE_FOUR, THE_THREE, THREE, Vote, X, compute_words, computed};
 use std::alloc::Global;
 use std::process::Abort;
 use std::test::Fail;
@@ -14,16 +14,18 @@ pub struct Case<'a> {
     pub relays: &'a [&'a str],
 }
 
-// Asserts that the consensus of the votes knows the flags and has the lines of relays.
-pub fn assert_lists(rt: &impl Abort, alloc: Global, case: &Case<'_>) -> Result<(), Fail> {
-    let words = compute_words(case.roster);
-    let votes = input(alloc, case.votes)?;
-    let gave = run_of(alloc, &whole(&words, votes.as_bytes()))?;
-    assert_eq!(rt; gave.number, 0);
-    let text = String::from_utf8(gave.text)?;
+// What stands in a consensus before its last vote digest, and its lines of relays.
+fn parts_of(text: &str) -> Result<(&str, &str), Fail> {
     let (front, _) = text.split_once("directory-footer").ok_or("no footer")?;
     let (front, behind) = front.rsplit_once("vote-digest ").ok_or("no source")?;
     let (_, relays) = behind.split_once("\n").ok_or("no line end")?;
+    Ok((front, relays))
+}
+
+// Asserts that the consensus of the votes knows the flags and has the lines of relays.
+pub fn assert_lists(rt: &impl Abort, alloc: Global, case: &Case<'_>) -> Result<(), Fail> {
+    let text = computed(alloc, &compute_words(case.roster), case.votes)?;
+    let (front, relays) = parts_of(&text)?;
     let wanted = case.relays.concat(alloc)?;
     assert_eq!(rt; relays, wanted.as_str());
     let known = format!(in alloc; "\nknown-flags {}\n", case.flags)?;

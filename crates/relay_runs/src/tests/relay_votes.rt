@@ -1,25 +1,17 @@
 // Lines of one relay, and votes that list it.
-use run_stage::{FIVE, FOUR, ONE, THREE, TWO, Vote};
+use run_stage::{FIVE, FOUR, KEY_P, ONE, SET, THREE, TWO, Vote, X};
 
-/// The first line of the relay.
-pub const X: &str =
-    "r relay1 AQEBAQEBAQEBAQEBAQEBAQEBAQE AgICAgICAgICAgICAgICAgICAgI 2025-12-31 22:00:00 198.51.100.7 9001 0\n";
-
-/// Its first line with a later descriptor.
+/// The first line of the relay with a later descriptor.
 pub const X_LATER: &str =
     "r relay1 AQEBAQEBAQEBAQEBAQEBAQEBAQE BwcHBwcHBwcHBwcHBwcHBwcHBwc 2025-12-31 23:00:00 198.51.100.7 9001 0\n";
 
-/// Its first line with another descriptor of the same moment, whose digest is greater.
+/// The first line of the relay with another descriptor of the same moment, whose digest is greater.
 pub const X_GREATER: &str =
     "r relay1 AQEBAQEBAQEBAQEBAQEBAQEBAQE BwcHBwcHBwcHBwcHBwcHBwcHBwc 2025-12-31 22:00:00 198.51.100.7 9001 0\n";
-
-pub const SET: &str = "s Running Valid\n";
 
 pub const VALID: &str = "s Valid\n";
 
 pub const EXIT: &str = "s Exit Running Valid\n";
-
-pub const KEY_P: &str = "id ed25519 AwMDAwMDAwMDAwMDAwMDAwMDAwMDAwMDAwMDAwMDAwM\n";
 
 pub const KEY_Q: &str = "id ed25519 BAQEBAQEBAQEBAQEBAQEBAQEBAQEBAQEBAQEBAQEBAQ\n";
 

@@ -1,8 +1,8 @@
 // Runs of `compute` over votes that say a relay's bandwidth.
-use super::relay_votes::{SET, SET_BARE, VALID, X};
+use super::relay_votes::{SET_BARE, VALID};
 use super::relays::{Case, assert_lists};
 use run_stage::{
-    FIVE, FOUR, ONE, THE_FIVE, THE_THREE, THREE, TWO, Vote, compute_words, input, run_of, whole,
+    FIVE, FOUR, ONE, SET, THE_FIVE, THE_THREE, THREE, TWO, Vote, X, compute_words, computed,
 };
 use std::test::Fail;
 
@@ -176,6 +176,8 @@ const THREE_SETS_ALL: Vote = Vote {
     ..THREE
 };
 
+const SETTING_ALL: &[Vote] = &[ONE_SETS_ALL, TWO_SETS_ALL, THREE_SETS_ALL];
+
 /// The weights of a consensus whose relays are all of the middle.
 const MIDDLE_WEIGHTS: &str =
     "bandwidth-weights Wbd=0 Wbe=0 Wbg=0 Wbm=10000 Wdb=10000 Web=10000 Wed=10000 Wee=10000 Weg=10000 Wem=10000 Wgb=10000 Wgd=0 Wgg=10000 Wgm=10000 Wmb=10000 Wmd=0 Wme=0 Wmg=0 Wmm=10000\n";
@@ -184,7 +186,7 @@ const MIDDLE_WEIGHTS: &str =
 fn a_middle_relay_weighs_in_the_middle_alone(rt: HostRuntime) -> Result<(), Fail> {
     let case = Case {
         roster: THE_THREE,
-        votes: &[ONE_SETS_ALL, TWO_SETS_ALL, THREE_SETS_ALL],
+        votes: SETTING_ALL,
         flags: "BadExit Exit Guard MiddleOnly NoEdConsensus Running Valid",
         relays: &[
             X,
@@ -197,10 +199,7 @@ fn a_middle_relay_weighs_in_the_middle_alone(rt: HostRuntime) -> Result<(), Fail
 
 #[test]
 fn a_footer_has_the_weights(rt: HostRuntime) -> Result<(), Fail> {
-    let alloc = rt.alloc();
-    let words = compute_words(THE_THREE);
-    let text = input(alloc, &[ONE_SETS_ALL, TWO_SETS_ALL, THREE_SETS_ALL])?;
-    let gave = run_of(alloc, &whole(&words, text.as_bytes()))?;
-    assert!(rt; gave.text.ends_with(MIDDLE_WEIGHTS.as_bytes()));
+    let text = computed(rt.alloc(), &compute_words(THE_THREE), SETTING_ALL)?;
+    assert!(rt; text.ends_with(MIDDLE_WEIGHTS));
     Ok(())
 }

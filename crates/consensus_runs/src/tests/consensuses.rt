@@ -1,6 +1,7 @@
 // Runs of `check` and `show` on consensuses.
-use super::assert_gives;
-use run_stage::{ONE, THE_THREE, THREE, TIME, TWO, input, place_of, run_of, whole};
+use run_stage::{
+    ONE, THREE, TWO, assert_fault, assert_gives, computed, flavour_words, place_of, whole,
+};
 use std::alloc::Global;
 use std::test::Fail;
 
@@ -23,30 +24,19 @@ YWJj
 ",
 ];
 
-/// The consensus of three plain votes, in a flavour.
-fn computed(alloc: Global, flavour: &str) -> Result<String, Fail> {
-    let words = [
-        "compute",
-        "--flavour",
-        flavour,
-        "--authorities",
-        THE_THREE,
-        "--valid-after",
-        TIME,
-    ];
-    let votes = input(alloc, &[ONE, TWO, THREE])?;
-    let gave = run_of(alloc, &whole(&words, votes.as_bytes()))?;
-    Ok(String::from_utf8(gave.text)?)
+// The consensus of three plain votes, in a flavour.
+fn plain_consensus(alloc: Global, flavour: &str) -> Result<String, Fail> {
+    computed(alloc, &flavour_words(flavour), &[ONE, TWO, THREE])
 }
 
 #[test]
 fn a_computed_consensus_is_shown_as_it_is(rt: HostRuntime) -> Result<(), Fail> {
     let alloc = rt.alloc();
     for flavour in ["ns", "microdesc"] {
-        let text = computed(alloc, flavour)?;
+        let text = plain_consensus(alloc, flavour)?;
         let bytes = text.as_bytes();
-        assert_gives(&rt, alloc, whole(&CHECK, bytes), 0, "ok\n", "")?;
-        assert_gives(&rt, alloc, whole(&SHOW, bytes), 0, &text, "")?;
+        assert_gives(alloc, whole(&CHECK, bytes), 0, "ok\n", "")?;
+        assert_gives(alloc, whole(&SHOW, bytes), 0, &text, "")?;
     }
     Ok(())
 }
@@ -54,17 +44,17 @@ fn a_computed_consensus_is_shown_as_it_is(rt: HostRuntime) -> Result<(), Fail> {
 #[test]
 fn signatures_are_shown_by_their_identity(rt: HostRuntime) -> Result<(), Fail> {
     let alloc = rt.alloc();
-    let unsigned = computed(alloc, "ns")?;
+    let unsigned = plain_consensus(alloc, "ns")?;
     let [two, unknown, one] = SIGNATURES;
     let text = format!(in alloc; "{unsigned}{two}{unknown}{one}")?;
     let wanted = format!(in alloc; "{unsigned}{one}{two}")?;
-    assert_gives(&rt, alloc, whole(&SHOW, text.as_bytes()), 0, &wanted, "")
+    assert_gives(alloc, whole(&SHOW, text.as_bytes()), 0, &wanted, "")
 }
 
 #[test]
 fn what_is_no_consensus_is_refused(rt: HostRuntime) -> Result<(), Fail> {
     let alloc = rt.alloc();
-    let text = computed(alloc, "microdesc")?;
+    let text = plain_consensus(alloc, "microdesc")?;
     let cases = [
         ("3 microdesc", "3 unknown", "unknown", "value"),
         (
@@ -83,8 +73,7 @@ fn what_is_no_consensus_is_refused(rt: HostRuntime) -> Result<(), Fail> {
     for (from, to, piece, reason) in cases {
         let text = text.replacen(alloc, from, to, 1)?;
         let place = place_of(&text, piece);
-        let line = format!(in alloc; "document fault at {place}: {reason}\n")?;
-        assert_gives(&rt, alloc, whole(&CHECK, text.as_bytes()), 5, "", &line)?;
+        assert_fault(alloc, whole(&CHECK, text.as_bytes()), place, reason)?;
     }
     Ok(())
 }

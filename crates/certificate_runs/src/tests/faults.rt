@@ -1,0 +1,180 @@
+// Texts that are no certificate, each with its fault.
+use super::{Fault, ITEMS, assert_faulty, assert_none, with_items};
+use std::alloc::Global;
+use std::test::Fail;
+
+#[test]
+fn each_item_stands_once(rt: HostRuntime) -> Result<(), Fail> {
+    let alloc = rt.alloc();
+    let missing: [Fault; 8] = [
+        (0, "missing dir-key-certificate-version"),
+        (446, "missing fingerprint"),
+        (361, "missing dir-identity-key"),
+        (461, "missing dir-key-published"),
+        (463, "missing dir-key-expires"),
+        (414, "missing dir-signing-key"),
+        (380, "missing dir-key-crosscert"),
+        (499, "missing dir-key-certification"),
+    ];
+    for (item, fault) in ITEMS.iter().zip(missing) {
+        assert_faulty(alloc, item, "", fault)?;
+    }
+    let twice: [Fault; 8] = [
+        (30, "twice dir-key-certificate-version"),
+        (83, "twice fingerprint"),
+        (221, "twice dir-identity-key"),
+        (259, "twice dir-key-published"),
+        (295, "twice dir-key-expires"),
+        (380, "twice dir-signing-key"),
+        (499, "twice dir-key-crosscert"),
+        (616, "order"),
+    ];
+    for (item, fault) in ITEMS.iter().zip(twice) {
+        assert_faulty(alloc, item, &item.repeat(alloc, 2)?, fault)?;
+    }
+    let address = "dir-address a\ndir-address b\nfingerprint";
+    assert_faulty(alloc, "fingerprint", address, (44, "twice dir-address"))
+}
+
+#[test]
+fn items_say_what_they_are_to(rt: HostRuntime) -> Result<(), Fail> {
+    let cases: [(&str, &str, usize); 20] = [
+        ("version 3", "version 4", 28),
+        ("version 3", "version 03", 28),
+        ("version 3", "version", 0),
+        ("fingerprint", "dir-address\t\nfingerprint", 30),
+        ("fingerprint 2FD4", "fingerprint\nx", 30),
+        ("2FD4", "2GD4", 42),
+        ("EB12", "EB1", 42),
+        ("EB12", "EB123", 42),
+        ("2FD4E1C6", "2FD4 E1C6", 42),
+        ("published 2025", "published\nx", 221),
+        ("2025-12-01 00:", "2025-12-01\nx", 221),
+        ("2025-12-01", "2025-11-31", 239),
+        ("2025-12-01", "1969-12-31", 239),
+        ("2025-12-01", "2025-012-01", 239),
+        ("2025-12-01 ", "2025-12-01T", 239),
+        ("2025-12-01 00:00:00", "2025-12-01  00:00:60", 251),
+        ("2026-12-01 00:00:00", "2026-00-01", 275),
+        ("2026-12-01", "10000-12-01", 275),
+        ("2026-12-01 00:00:00", "2026-12-01 24:00:00", 286),
+        ("2026-12-01 00:00:00", "2026-12-01 00:00", 286),
+    ];
+    for (from, to, place) in cases {
+        assert_faulty(rt.alloc(), from, to, (place, "value"))?;
+    }
+    Ok(())
+}
+
+/// The number of an item, what stands in it, another in its place, and the place of the value that is wrong then.
+type Words = (usize, &'static str, &'static str, usize);
+
+// Asserts that an item with another word of its object is wrong, and one that has no object.
+fn assert_words(alloc: Global, words: Words) -> Result<(), Fail> {
+    let (number, from, to, place) = words;
+    let item = with_items(alloc, &[number])?;
+    let fault = (place, "value");
+    assert_faulty(alloc, &item, &item.replace(alloc, from, to)?, fault)?;
+    for between in ["\n\n", "\nx\n"] {
+        let other = item.replacen(alloc, "\n", between, 1)?;
+        assert_faulty(alloc, &item, &other, fault)?;
+    }
+    Ok(())
+}
+
+#[test]
+fn objects_have_their_words(rt: HostRuntime) -> Result<(), Fail> {
+    let cases: [Words; 4] = [
+        (2, "RSA PUBLIC KEY", "PUBLIC KEY", 83),
+        (5, "RSA PUBLIC KEY", "rsa public key", 295),
+        (6, "ID SIGNATURE", "KEY SIGNATURE", 380),
+        (7, "SIGNATURE", "ID SIGNATURE", 499),
+    ];
+    for words in cases {
+        assert_words(rt.alloc(), words)?;
+    }
+    Ok(())
+}
+
+#[test]
+fn lines_and_objects_have_their_form(rt: HostRuntime) -> Result<(), Fail> {
+    let cases: [(&str, &str, Fault); 11] = [
+        (
+            "dir-key-published",
+            "_x\ndir-key-published",
+            (221, "keyword"),
+        ),
+        ("dir-key-published", " dir-key-published", (221, "keyword")),
+        (
+            "dir-key-published",
+            "-x\ndir-key-published",
+            (221, "keyword"),
+        ),
+        ("2025-12-01 ", "2025-12-01\0 ", (249, "nul")),
+        ("dir-key-published", "x \0\ndir-key-published", (223, "nul")),
+        (
+            "dir-key-expires",
+            "-x\ndir-key-expires",
+            (259, "object words"),
+        ),
+        ("BEGIN SIGN", "BEGIN  SIGN", (521, "object words")),
+        ("c2lnbi0x", "c2lnbi0*", (311, "object base64")),
+        ("c2lnbi0x", "c2lnbi0", (311, "object base64")),
+        ("c2lnbi0x", "c2ln\n\nbi0x", (311, "object base64")),
+        ("END ID", "END", (472, "object end")),
+    ];
+    for (from, to, fault) in cases {
+        assert_faulty(rt.alloc(), from, to, fault)?;
+    }
+    Ok(())
+}
+
+#[test]
+fn a_front_is_no_certificate(rt: HostRuntime) -> Result<(), Fail> {
+    let alloc = rt.alloc();
+    let text = ITEMS.concat(alloc)?;
+    let cases: [(usize, Fault); 14] = [
+        (0, (0, "missing dir-key-certificate-version")),
+        (1, (1, "unterminated")),
+        (29, (29, "unterminated")),
+        (30, (30, "missing fingerprint")),
+        (83, (83, "missing dir-identity-key")),
+        (100, (83, "value")),
+        (131, (131, "unterminated")),
+        (221, (221, "missing dir-key-published")),
+        (259, (259, "missing dir-key-expires")),
+        (295, (295, "missing dir-signing-key")),
+        (380, (380, "missing dir-key-crosscert")),
+        (499, (499, "missing dir-key-certification")),
+        (521, (499, "value")),
+        (615, (615, "unterminated")),
+    ];
+    for (count, fault) in cases {
+        assert!(rt; count <= text.len());
+        assert_none(alloc, &text.as_bytes()[..count], fault)?;
+    }
+    Ok(())
+}
+
+#[test]
+fn one_certificate_stands_alone(rt: HostRuntime) -> Result<(), Fail> {
+    let alloc = rt.alloc();
+    let cases = [
+        ("x\n", 616),
+        ("x", 616),
+        ("_\n", 616),
+        ("\0\n", 616),
+        (" ", 616),
+        ("-----BEGIN X-----\n", 616),
+        ("\n \t\nx\n", 620),
+        ("\n \t\n -x\n", 620),
+        ("directory-footer\n", 616),
+        ("dir-key-certificate-version 3\n", 616),
+    ];
+    for (behind, place) in cases {
+        let mut text = ITEMS.concat(alloc)?;
+        text.push_str(behind)?;
+        assert_none(alloc, text.as_bytes(), (place, "order"))?;
+    }
+    Ok(())
+}

@@ -1,0 +1,4 @@
+// Runs that write, check and show consensuses.
+mod consensuses;
+mod flavours;
+mod lists;

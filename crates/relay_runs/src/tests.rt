@@ -1,0 +1,4 @@
+// Runs of `compute` over votes that list relays.
+mod bandwidths;
+mod relay_votes;
+mod relays;

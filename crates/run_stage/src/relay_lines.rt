@@ -1,0 +1,11 @@
+// Lines of relays.
+
+/// The first line of a relay.
+pub const X: &str =
+    "r relay1 AQEBAQEBAQEBAQEBAQEBAQEBAQE AgICAgICAgICAgICAgICAgICAgI 2025-12-31 22:00:00 198.51.100.7 9001 0\n";
+
+/// The flags of a relay that is listed.
+pub const SET: &str = "s Running Valid\n";
+
+/// An Ed25519 identity.
+pub const KEY_P: &str = "id ed25519 AwMDAwMDAwMDAwMDAwMDAwMDAwMDAwMDAwMDAwMDAwM\n";
