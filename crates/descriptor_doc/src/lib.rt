@@ -1,4 +1,4 @@
-//! Server descriptors: reading and writing them, and when one holds.
+//! Server descriptors: reading them, and when one holds.
 #![tactic(auto)]
 
 mod checked;
@@ -18,3 +18,8 @@ pub use ed_certs::EdCert;
 pub use head::{Head, head_of};
 pub use kept::Kept;
 pub use reading::read;
+
+#[cfg(test)]
+mod fixtures;
+#[cfg(test)]
+mod tests;

@@ -8,3 +8,6 @@ mod said;
 
 pub use frame::DescriptorFrame;
 pub use said::{BandwidthLine, DescriptorKind, DescriptorValue, RouterLine};
+
+#[cfg(test)]
+mod tests;

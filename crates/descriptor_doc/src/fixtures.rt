@@ -1,0 +1,106 @@
+// Descriptors from outside.
+
+// A descriptor that holds by the test scheme, with Ed25519 items.
+const SIGNED: &[u8] = b"router relay1 198.51.100.7 9001 0 0\n\
+identity-ed25519\n\
+-----BEGIN ED25519 CERT-----\n\
+AQQACSfAAQNpCqtAEPAfS6YozW/WWlNB2xdz8Uo36WkcBDcQV7j9AQAgBACRnaCh\n\
+dS6KybKlB+DU5dYA6AIZma45GHoiGl/I3dVLsA2Kx5+lUQ05m5D35m965BFjzxzt\n\
+cL3GzmwVsgDbCer9DYrHn6VRDTmbkPfmb3rkEWPPHO1wvcbObBWyANsJ6v0=\n\
+-----END ED25519 CERT-----\n\
+master-key-ed25519 kZ2goXUuismypQfg1OXWAOgCGZmuORh6IhpfyN3VS7A\n\
+platform Tor 0.4.8.12 on Linux\n\
+published 2025-12-31 22:00:00\n\
+fingerprint 438B F08F 85C0 84DE 9788 24AE 225C 6DD0 9DB3 BF03\n\
+uptime 5\n\
+bandwidth 1000000 2000000 900000\n\
+signing-key\n\
+-----BEGIN RSA PUBLIC KEY-----\n\
+cmVsYXktc2lnbg==\n\
+-----END RSA PUBLIC KEY-----\n\
+reject *:*\n\
+router-sig-ed25519 /ijXkQQWlB8F6VaLN8YSIvShT5yiX9oDJ7ihsOf6PBH+KNeRBBaUHwXpVos3xhIi9KFPnKJf2gMnuKGw5/o8EQ\n\
+router-signature\n\
+-----BEGIN SIGNATURE-----\n\
+vP+fl+WyyVUPS1aGJZeOu5OmVN0RKkz4em7UEiwI3aY=\n\
+-----END SIGNATURE-----\n\
+";
+
+// A descriptor without Ed25519 items, whose signing key is the byte `a`. It holds by the test scheme.
+const PLAIN: &[u8] = b"router relay1 198.51.100.7 9001 0 0\n\
+published 2025-12-31 22:00:00\n\
+bandwidth 1000000 2000000 900000\n\
+signing-key\n\
+-----BEGIN RSA PUBLIC KEY-----\n\
+YQ==\n\
+-----END RSA PUBLIC KEY-----\n\
+family beta ALPHA\n\
+accept *:80\n\
+reject *:*\n\
+router-signature\n\
+-----BEGIN SIGNATURE-----\n\
+pwN19z4/CmAMNLp5S1QZ45ZzBxpdsZX8c5v6DA/hk1o=\n\
+-----END SIGNATURE-----\n\
+";
+
+// The same key's descriptor with an Ed25519 certificate of 490894 hours, which ends as it is published; else it holds.
+const EXPIRED: &[u8] = b"router relay1 198.51.100.7 9001 0 0\n\
+identity-ed25519\n\
+-----BEGIN ED25519 CERT-----\n\
+AQQAB32OAT/v0Jjr2z3l7iDTQG7pXJ/GNA0nToBirmwl01b8gEb4AQAgBAAmPMG5\n\
+wrVc4RuhvoVFYPAL+7YZ33T22MiA28BK5CUK9sDzz+4Umm5ksaOecszkysgfiKIe\n\
+T+DAivoQ7629aPwKwPPP7hSabmSxo55yzOTKyB+Ioh5P4MCK+hDvrb1o/Ao=\n\
+-----END ED25519 CERT-----\n\
+published 2025-12-31 22:00:00\n\
+bandwidth 1000000 2000000 900000\n\
+signing-key\n\
+-----BEGIN RSA PUBLIC KEY-----\n\
+YQ==\n\
+-----END RSA PUBLIC KEY-----\n\
+router-sig-ed25519 7iAGWJvxG0alEA0Nz1P2eVt0saV//oWbEfHZauxZxDruIAZYm/EbRqUQDQ3PU/Z5W3SxpX/+hZsR8dlq7FnEOg\n\
+router-signature\n\
+-----BEGIN SIGNATURE-----\n\
+SiG30YSS8Rni6gnBGlb5QfmNq1wy4WVZ8igmI1hxLF0=\n\
+-----END SIGNATURE-----\n\
+";
+
+// The same with a certificate of one hour more. It holds.
+const LASTS: &[u8] = b"router relay1 198.51.100.7 9001 0 0\n\
+identity-ed25519\n\
+-----BEGIN ED25519 CERT-----\n\
+AQQAB32PAT/v0Jjr2z3l7iDTQG7pXJ/GNA0nToBirmwl01b8gEb4AQAgBAAmPMG5\n\
+wrVc4RuhvoVFYPAL+7YZ33T22MiA28BK5CUK9iioByv7bvsignYHEFLf8lSPv8i5\n\
+zG5jSKqbYiTdu9vsKKgHK/tu+yKCdgcQUt/yVI+/yLnMbmNIqptiJN272+w=\n\
+-----END ED25519 CERT-----\n\
+published 2025-12-31 22:00:00\n\
+bandwidth 1000000 2000000 900000\n\
+signing-key\n\
+-----BEGIN RSA PUBLIC KEY-----\n\
+YQ==\n\
+-----END RSA PUBLIC KEY-----\n\
+router-sig-ed25519 Q5cM9uJx/GDQOTQKazTm01E4BCXJueIUEtDJiodghDlDlwz24nH8YNA5NAprNObTUTgEJcm54hQS0MmKh2CEOQ\n\
+router-signature\n\
+-----BEGIN SIGNATURE-----\n\
+7Flc2Hyi7+QJgSJ4Ip+n/4dmM69lOFOb24Fiiyi3gWY=\n\
+-----END SIGNATURE-----\n\
+";
+
+/// A descriptor that holds by the test scheme, with Ed25519 items.
+pub fn signed() -> &'static [u8] {
+    SIGNED
+}
+
+/// One without Ed25519 items, whose signing key is the byte `a`, which holds.
+pub fn plain() -> &'static [u8] {
+    PLAIN
+}
+
+/// One whose Ed25519 certificate ends as it is published, and which holds otherwise.
+pub fn expired() -> &'static [u8] {
+    EXPIRED
+}
+
+/// The same with a certificate of one hour more, which holds.
+pub fn lasting() -> &'static [u8] {
+    LASTS
+}
