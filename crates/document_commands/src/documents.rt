@@ -105,7 +105,7 @@ fn one_vote(alloc: Global, bytes: &Bytes) -> Result<Vote, ReadRefusal>
 }
 
 /// The certificate that the input is.
-fn one_cert(alloc: Global, bytes: &[u8]) -> Result<Cert, ReadRefusal>
+fn one_cert(alloc: Global, bytes: &Bytes) -> Result<Cert, ReadRefusal>
     requires { length bytes.now < 2 ^ 61 }
     ensures { ReadsOne (documents.one_cert bytes.now) result }
 {
@@ -114,11 +114,20 @@ fn one_cert(alloc: Global, bytes: &[u8]) -> Result<Cert, ReadRefusal>
 }
 
 /// The consensus that the input is.
-fn one_consensus(alloc: Global, bytes: &[u8]) -> Result<SignedConsensus, ReadRefusal>
+fn one_consensus(alloc: Global, bytes: &Bytes) -> Result<SignedConsensus, ReadRefusal>
     requires { length bytes.now < 2 ^ 61 }
     ensures read { ReadsOne (documents.one_consensus bytes.now) result }
     ensures moments { IfOk result (λ consensus. HasMoments consensus.facts) }
 {
-    let (consensus, used) = consensus_doc::read(alloc, bytes)?;
-    alone(bytes, consensus, used)
+    consensus_in(alloc, bytes)
+}
+
+/// The consensus that a text is.
+fn consensus_in(alloc: Global, text: &[u8]) -> Result<SignedConsensus, ReadRefusal>
+    requires { length text.now < 2 ^ 61 }
+    ensures read { ReadsOne (documents.one_consensus text.now) result }
+    ensures moments { IfOk result (λ consensus. HasMoments consensus.facts) }
+{
+    let (consensus, used) = consensus_doc::read(alloc, text)?;
+    alone(text, consensus, used)
 }

@@ -1,3 +1,4 @@
+use Rattle.std.proofs.lemmas.Result.{err_from_is_err_and}
 use Rattle.document_commands.specs.Answers.{check_text}
 use Rattle.document_commands.specs.Documents.{one_cert, one_consensus, one_vote}
 use Rattle.document_commands.proofs.Telling.{of_cert, of_consensus, of_vote, one_read}
@@ -16,3 +17,10 @@ returns-in_ok-text-in-Consensus c =
     (one_read c.args.kind (one_consensus c.args.bytes.now) c.one_consensus.result
     c.in_ok-_consensus-in-Consensus._consensus c.one_consensus.ensures.read c.in_ok-_consensus-in-Consensus.ensures)
     c.in_ok-text-in-Consensus.ensures.items
+
+-- there was no memory for the text
+pub returns-in_err-text-in-Vote : goal.returns-in_err-text-in-Vote
+returns-in_err-text-in-Vote c =
+    let p =
+    err_from_is_err_and c.from_residual-in_err-text-in-Vote.result c.from_residual-in_err-text-in-Vote.ensures.1 in
+    rw (p.1, p.2) tt
