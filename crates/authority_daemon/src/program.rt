@@ -118,10 +118,7 @@ fn run_command<S: Source, K: Sink, V: Verifier>(
         Err(ReadAllFault::ReadFault) => return Status::ReadFault,
         Err(ReadAllFault::Memory) => return Status::Memory,
     };
-    let Ok(bytes) = Bytes::from_vec(bytes) else {
-        return Status::Memory;
-    };
-    match answer(alloc, &command, &bytes, verifier) {
+    match answer(alloc, &command, bytes, verifier) {
         Ok(text) => match write_all(sink, &text) {
             WriteAll::Done => Status::Done,
             WriteAll::Failed { .. } => Status::WriteFault,
@@ -131,8 +128,24 @@ fn run_command<S: Source, K: Sink, V: Verifier>(
     }
 }
 
-/// What a command answers to an input.
+/// What a command answers to an input of these bytes.
 fn answer<V: Verifier>(
+    alloc: Global,
+    command: &Command,
+    bytes: Vec<u8>,
+    verifier: &mut V,
+) -> Result<Vec<u8>, Stop>
+    requires { vec_len bytes < 2 ^ 61 }
+    ensures answer { Answered (Answers (rules V.may_accept V.may_refuse) command.now bytes.items) result }
+    ensures fault { result ≡ Err (Stop.Refused Refusal.Verifier) → Rose (V.faults verifier.old) (V.faults verifier.new) }
+    ensures unasked { verifies command.now ≡ false → verifier.new ≡ verifier.old }
+{
+    let input = Bytes::from_vec(bytes)?;
+    answer_to(alloc, command, &input, verifier)
+}
+
+/// What a command answers to an input.
+fn answer_to<V: Verifier>(
     alloc: Global,
     command: &Command,
     bytes: &Bytes,
