@@ -45,7 +45,8 @@ fn walked(alloc: Global, one: &Vote, two: &Vote) -> Result<Walked, Fail> {
     let mut votes = Accepted::new(alloc, 2)?;
     let _ = votes.place(checked(alloc, one)?);
     let _ = votes.place(checked(alloc, two)?);
-    let mut group = Vec::with_capacity(alloc, 2)?;
+    let count = votes.len();
+    let mut group = Vec::with_capacity(alloc, count)?;
     let mut walk = Merge::new(alloc, &votes)?;
     let mut found: Walked = [(None, 0); 4];
     found[0] = (walk.next(&mut group), group.len());
