@@ -14,7 +14,7 @@ pub use consensus_terms::{
     SignedConsensus, SourceLine,
 };
 pub use consensus_text::{digests, write_facts, write_signed};
-pub use reading::read;
+pub use reading::{flavour_of, read};
 
 #[cfg(test)]
 mod tests;

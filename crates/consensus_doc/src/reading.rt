@@ -130,8 +130,9 @@ fn flavour_of_item(item: &Item<'_>) -> Flavour
     }
 }
 
-/// The flavour that a document names.
-fn flavour_of(bytes: &[u8]) -> Flavour
+/// The flavour that a document names: microdesc where the second argument of its first item says so, and else ns (dir-spec,
+/// "Vote and consensus status document formats"). At most 67,108,864 bytes are looked at.
+pub fn flavour_of(bytes: &[u8]) -> Flavour
     requires { length bytes.now < 2 ^ 62 }
     ensures { result ≡ terms.flavour_of (items_of terms.max_consensus bytes.now).items }
 {
