@@ -18,6 +18,7 @@ pub use ed_certs::EdCert;
 pub use head::{Head, head_of};
 pub use kept::Kept;
 pub use reading::read;
+pub use values::{decode_if, ports_if, words_if};
 
 #[cfg(test)]
 mod fixtures;

@@ -60,7 +60,7 @@ fn certificate_of(
 ///
 /// # Errors
 /// `Memory` is want of memory.
-fn decode_if(alloc: Global, bytes: &[u8], lines: Option<Span>) -> Result<Option<Text>, Memory>
+pub fn decode_if(alloc: Global, bytes: &[u8], lines: Option<Span>) -> Result<Option<Text>, Memory>
     ensures { IfOk result (λ text. text ≡ option_map (parts.bytes_in bytes.now) lines) }
 {
     match lines {
@@ -73,7 +73,7 @@ fn decode_if(alloc: Global, bytes: &[u8], lines: Option<Span>) -> Result<Option<
 ///
 /// # Errors
 /// `Memory` is want of memory.
-fn ports_of(alloc: Global, bytes: &[u8], span: Option<Span>) -> Result<Option<PortSummary>, Memory>
+pub fn ports_if(alloc: Global, bytes: &[u8], span: Option<Span>) -> Result<Option<PortSummary>, Memory>
     ensures { IfOk result (λ found. found ≡ option_and_then (descriptors.ports_in bytes.now) span) }
 {
     let Some(span) = span else {
@@ -106,7 +106,7 @@ fn words_in(alloc: Global, text: &[u8]) -> Result<Seq<Text>, Memory>
 ///
 /// # Errors
 /// `Memory` is want of memory.
-fn words_if(alloc: Global, bytes: &[u8], span: Option<Span>) -> Result<Option<Seq<Text>>, Memory>
+pub fn words_if(alloc: Global, bytes: &[u8], span: Option<Span>) -> Result<Option<Seq<Text>>, Memory>
     requires { length bytes.now < 2 ^ 62 }
     ensures { IfOk result (λ words. words ≡ option_map (descriptors.words_in bytes.now) span) }
 {
@@ -209,7 +209,7 @@ pub(crate) fn descriptor_of(alloc: Global, bytes: &[u8], kept: Kept) -> Result<D
         ntor_onion_key: head.ntor_onion_key,
         or_addresses: texts_of(alloc, bytes, kept.addresses.as_slice())?,
         policy: kept.policy,
-        ipv6_policy: ports_of(alloc, bytes, head.ipv6_policy)?,
+        ipv6_policy: ports_if(alloc, bytes, head.ipv6_policy)?,
         family: words_if(alloc, bytes, head.family)?,
         tunnelled_dir_server: head.tunnelled_dir_server,
         proto: copy_part_if(alloc, bytes, head.proto)?,

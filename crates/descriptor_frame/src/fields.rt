@@ -31,7 +31,7 @@ pub(crate) fn hibernating(text: &[u8]) -> Option<bool>
 }
 
 /// 32 bytes in base64.
-pub(crate) fn key(text: &[u8]) -> Option<[u8; 32]>
+pub fn key(text: &[u8]) -> Option<[u8; 32]>
     ensures { result ≡ fields.key text.now }
 {
     let mut bytes = [0u8; 32];

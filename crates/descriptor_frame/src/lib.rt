@@ -6,7 +6,9 @@ mod frame;
 mod lines;
 mod said;
 
+pub use fields::key;
 pub use frame::DescriptorFrame;
+pub use lines::{key_of, ports_of};
 pub use said::{BandwidthLine, DescriptorKind, DescriptorValue, RouterLine};
 
 #[cfg(test)]

@@ -67,8 +67,11 @@ pub(crate) fn certificate_lines(alloc: Global, item: &Item<'_>) -> Result<Span, 
     given(at_place(object_of(is_wanted, item)))
 }
 
-/// An Ed25519 key.
-pub(crate) fn key_of(item: &Item<'_>) -> Result<[u8; 32], u64>
+/// A key of 32 bytes in base64.
+///
+/// # Errors
+/// The place of what is wrong.
+pub fn key_of(item: &Item<'_>) -> Result<[u8; 32], u64>
     requires { IsInside item.now }
     ensures { result ≡ lines.first_of fields.key (seen item.now) }
 {
@@ -149,7 +152,10 @@ pub(crate) fn policy_of(accept: bool, item: &Item<'_>) -> Result<PolicyItem, u64
 }
 
 /// Where a summary of ports stands.
-pub(crate) fn ports_of(alloc: Global, item: &Item<'_>) -> Result<Span, ReadRefusal>
+///
+/// # Errors
+/// `Frame` is the fault at the place of what is wrong. `Memory` is want of memory.
+pub fn ports_of(alloc: Global, item: &Item<'_>) -> Result<Span, ReadRefusal>
     requires { IsInside item.now }
     ensures { Gives (faults.at_place (lines.ports_of (seen item.now))) result }
 {

@@ -1,3 +1,2 @@
 pub mod LinesBehind
-pub mod Telling
 pub mod NotRefused

@@ -1,6 +1,7 @@
 -- What the commands over one document answer to an input.
 use Rattle.std.specs.Prelude.{◌≡◌, ℕ, List, [], ◌∷◌, codes, ◌++◌, Result, Ok, Err}
 use Rattle.item_terms.specs.Bytes.{line_feed}
+use Rattle.frame_terms.specs.declared.fault.ReadRefusal.{ReadRefusal}
 use Rattle.frame_terms.specs.declared.fault.ReadRefusal.TheVariants.{Frame}
 use Rattle.authority_certs.specs.Texts.{cert_text}
 use Rattle.vote_text.specs.Texts.{vote_text}
@@ -11,21 +12,20 @@ use Rattle.exit_status.specs.declared.status.Refusal.{Refusal}
 use Rattle.exit_status.specs.declared.status.Refusal.TheVariants as refusal
 use Rattle.document_commands.specs.Documents.{Document, cert, consensus, document_of, vote}
 
--- The input is one document of this kind, and the text is that of it.
-pub record Tells (text_of : Document → List ℕ) (kind : Kind) (bytes text : List ℕ) : Type 0 where
-  pub document : Document
-  pub read : document_of kind bytes ≡ Ok document
+-- A document was read, and the text is that of it.
+pub record Tells {D : Type 0} (text_of : D → List ℕ) (read : Result D ReadRefusal) (text : List ℕ) : Type 0 where
+  pub document : D
+  pub is : read ≡ Ok document
   pub written : text ≡ text_of document
 
--- what a command answers that tells something of a document: a text, or the first fault, and no other refusal
-abbrev pub ReadAnswers : (Document → List ℕ) → Kind → List ℕ → Result (List ℕ) Refusal → Type 0
-ReadAnswers text_of kind bytes (Ok text) = Tells text_of kind bytes text
-ReadAnswers text_of kind bytes (Err (refusal.Document why)) =
-    (why.kind ≡ kind) × (document_of kind bytes ≡ Err (Frame why.fault))
-ReadAnswers text_of kind bytes (Err _) = ⊥
+-- what a command answers that tells something of what was read: a text, or the first fault, and no other refusal
+abbrev pub ReadAnswers : {D : Type 0} → (D → List ℕ) → Kind → Result D ReadRefusal → Result (List ℕ) Refusal → Type 0
+ReadAnswers text_of kind read (Ok text) = Tells text_of read text
+ReadAnswers text_of kind read (Err (refusal.Document why)) = (why.kind ≡ kind) × (read ≡ Err (Frame why.fault))
+ReadAnswers text_of kind read (Err _) = ⊥
 
 -- what `check` says of a document that is one
-abbrev pub check_text : Document → List ℕ
+abbrev pub check_text : {D : Type 0} → D → List ℕ
 check_text document = codes "ok" ++ line_feed ∷ []
 
 -- the canonical text of a document: a line for each kind
@@ -36,11 +36,11 @@ canonical_text (consensus read) = signed (facts_text read) read.signatures
 
 -- what `check` answers
 abbrev pub CheckAnswers : Kind → List ℕ → Result (List ℕ) Refusal → Type 0
-CheckAnswers kind bytes answer = ReadAnswers check_text kind bytes answer
+CheckAnswers kind bytes answer = ReadAnswers check_text kind (document_of kind bytes) answer
 
 -- what `show` answers
 abbrev pub ShowAnswers : Kind → List ℕ → Result (List ℕ) Refusal → Type 0
-ShowAnswers kind bytes answer = ReadAnswers canonical_text kind bytes answer
+ShowAnswers kind bytes answer = ReadAnswers canonical_text kind (document_of kind bytes) answer
 
 -- The input is one document of this kind: `check` and `show` have to answer it with a text.
 pub record IsDocument (kind : Kind) (bytes : List ℕ) : Type 0 where

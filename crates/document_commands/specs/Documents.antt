@@ -29,18 +29,6 @@ abbrev pub whole : {X : Type 0} → List ℕ → Result (X × ℕ) ReadRefusal �
 whole bytes (Ok (document, used)) = unless_more document (after_blanks used bytes)
 whole bytes (Err refusal) = Err refusal
 
--- the vote that the input is, or its first fault
-abbrev pub one_vote : List ℕ → Result ReadVote ReadRefusal
-one_vote bytes = whole bytes (vote_of bytes)
-
--- the certificate that the input is, or its first fault
-abbrev pub one_cert : List ℕ → Result Cert ReadRefusal
-one_cert bytes = whole bytes (cert_of bytes)
-
--- the consensus that the input is, or its first fault
-abbrev pub one_consensus : List ℕ → Result SignedConsensus ReadRefusal
-one_consensus bytes = whole bytes (consensus_of bytes)
-
 -- what was read, as a document
 abbrev pub as_document : {X : Type 0} → (X → Document) → Result X ReadRefusal → Result Document ReadRefusal
 as_document wrap (Ok read) = Ok (wrap read)
@@ -48,6 +36,6 @@ as_document wrap (Err refusal) = Err refusal
 
 -- the document of a kind that the input is, or its first fault: a line for each kind
 abbrev pub document_of : Kind → List ℕ → Result Document ReadRefusal
-document_of kind.Vote bytes = as_document vote (one_vote bytes)
-document_of kind.Cert bytes = as_document cert (one_cert bytes)
-document_of kind.Consensus bytes = as_document consensus (one_consensus bytes)
+document_of kind.Vote bytes = as_document vote (whole bytes (vote_of bytes))
+document_of kind.Cert bytes = as_document cert (whole bytes (cert_of bytes))
+document_of kind.Consensus bytes = as_document consensus (whole bytes (consensus_of bytes))

@@ -1,5 +1,5 @@
 -- What the private functions of this crate return.
-use Rattle.std.specs.Prelude.{◌≡◌, Result, Ok, Err}
+use Rattle.std.specs.Prelude.{◌≡◌, ◌≤◌, ℕ, Result, Ok, Err}
 use Rattle.frame_terms.specs.declared.fault.ReadRefusal.{ReadRefusal}
 use Rattle.frame_terms.specs.Refusals.{Fails}
 
@@ -7,3 +7,13 @@ use Rattle.frame_terms.specs.Refusals.{Fails}
 abbrev pub ReadsOne : {D : Type 0} → Result D ReadRefusal → Result D ReadRefusal → Type 0
 ReadsOne read (Ok document) = read ≡ Ok document
 ReadsOne read (Err refusal) = Fails refusal read
+
+-- a document was read, or the refusal is its fault
+abbrev pub IsOne : {D : Type 0} → Result D ReadRefusal → Result (Unit {0}) ReadRefusal → Type 0
+IsOne {D} read (Ok _) = (document : D) × (read ≡ Ok document)
+IsOne read (Err refusal) = Fails refusal read
+
+-- the same of a document and the place after it, which is within so many bytes
+abbrev pub ReadsFirst : {D : Type 0} → Result (D × ℕ) ReadRefusal → ℕ → Result (D × ℕ) ReadRefusal → Type 0
+ReadsFirst read most (Ok (document, used)) = (read ≡ Ok (document, used)) × (used ≤ most)
+ReadsFirst read most (Err refusal) = Fails refusal read

@@ -2,6 +2,10 @@
 #![tactic(auto)]
 
 mod blanks;
-mod documents;
+mod cert;
+mod commands;
+mod consensus;
+mod one;
+mod vote;
 
-pub use documents::{check, show};
+pub use commands::{check, show};

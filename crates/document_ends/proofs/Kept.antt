@@ -1,5 +1,5 @@
 -- A document ends where something is kept of it as it does where nothing is.
-use Rattle.std.proofs.Common.{◌≡◌, ℕ, List, length, Result, Ok, ap, sym, ◌∙◌}
+use Rattle.std.proofs.Common.{◌≡◌, ℕ, List, length, Result, Ok, refl, ap, sym, ◌∙◌}
 use Rattle.std.specs.List.{fold}
 use Rattle.item_terms.specs.Items.{Contents, items_of}
 use Rattle.frame_terms.specs.declared.document.Group.{Group}
@@ -26,45 +26,65 @@ use Rattle.consensus_terms.specs.declared.consensus.SignedConsensus.{SignedConse
 use Rattle.consensus_terms.specs.declared.flavour.Flavour.{Flavour}
 use Rattle.consensus_doc.specs.Drafts as drafts
 use Rattle.consensus_doc.specs.Reading.{consensus_as, consensus_in, consensus_of, flavour_of, max_consensus, with_consensus}
+use Rattle.micro_frame.specs.Tables.{micro_tables}
+use Rattle.micro_desc.specs.declared.micro.Micro.{Micro}
+use Rattle.micro_desc.specs.Heads as micros
+use Rattle.micro_desc.specs.Micros.{micro_in}
+use Rattle.micro_desc.specs.Reading.{max_micro, micro_of, with_micro}
 use Rattle.document_ends.specs.Ends.{EndsAs}
 
--- whatever is kept of the sections, the document ends there
-kept_there : {S V F : Type 0} (with_ : F → S → List (Taken V) → F) (facts : F) (made : Result (Document S V) ReadRefusal) (used : ℕ)
-    → EndsAs made (Ok used) → (kept : F) × (finish with_ facts made ≡ Ok (kept, used))
-kept_there with_ facts made used ends =
+-- A document of which something is kept ends where it does when nothing is: what is kept of its sections makes a value of it.
+ends_as : {S V F D : Type 0} (wrap : Result (F × ℕ) ReadRefusal → Result (D × ℕ) ReadRefusal) (value : F → D)
+    → ((kept : F) (n : ℕ) → wrap (Ok (kept, n)) ≡ Ok (value kept, n))
+    → (with_ : F → S → List (Taken V) → F) (facts : F) (made : Contents → Result (Document S V) ReadRefusal)
+    → (contents wanted : Contents) (end : ℕ) → contents ≡ wanted → EndsAs (made contents) (Ok end)
+    → (document : D) × (wrap (finish with_ facts (made wanted)) ≡ Ok (document, end))
+ends_as wrap value makes with_ facts made contents wanted end is ends =
     let kept = fold (λ k (group : Group _ _). with_ k group.section group.taken) facts ends.0.groups in
-    (kept, ap (finish with_ facts) ends.1 ∙ ap (λ (n : ℕ). Ok (kept, n)) ends.2)
+    (
+      value kept,
+      ap (λ (c : Contents). wrap (finish with_ facts (made c))) (sym is)
+      ∙ ap (λ (d : Result (Document _ _) ReadRefusal). wrap (finish with_ facts d)) ends.1
+      ∙ makes kept ends.0.used
+      ∙ ap (λ (n : ℕ). Ok (value kept, n)) ends.2,
+    )
 
 pub cert_ends : (bytes : List ℕ) (contents : Contents) (end : ℕ) → contents ≡ items_of max_cert bytes
     → EndsAs (document_of cert_tables (length bytes) contents) (Ok end) → (cert : Cert) × (cert_of bytes ≡ Ok (cert, end))
 cert_ends bytes contents end is ends =
-    let k = kept_there head_with no_head (document_of cert_tables (length bytes) contents) end ends in
-    (cert_in bytes k.0, ap (λ (c : Contents). with_cert bytes (finish head_with no_head (document_of cert_tables (length bytes) c))) (sym is) ∙ ap (with_cert bytes) k.1)
-
-pub descriptor_ends : (bytes : List ℕ) (contents : Contents) (end : ℕ) → contents ≡ items_of max_descriptor bytes
-    → EndsAs (document_of descriptor_tables (length bytes) contents) (Ok end)
-    → (descriptor : Descriptor) × (descriptor_of bytes ≡ Ok (descriptor, end))
-descriptor_ends bytes contents end is ends =
-    let k = kept_there kept_with none_kept (document_of descriptor_tables (length bytes) contents) end ends in
-    (descriptor_in bytes k.0, ap (λ (c : Contents). with_descriptor bytes (finish kept_with none_kept (document_of descriptor_tables (length bytes) c))) (sym is) ∙ ap (with_descriptor bytes) k.1)
+    ends_as (with_cert bytes) (cert_in bytes) (λ k n. refl) head_with no_head (document_of cert_tables (length bytes)) contents
+    (items_of max_cert bytes) end is ends
 
 pub vote_ends : (bytes : List ℕ) (contents : Contents) (end : ℕ) → contents ≡ items_of max_vote bytes
     → EndsAs (document_of vote_tables (length bytes) contents) (Ok end) → (vote : ReadVote) × (vote_of bytes ≡ Ok (vote, end))
 vote_ends bytes contents end is ends =
-    let k = kept_there votes.kept_with votes.none_kept (document_of vote_tables (length bytes) contents) end ends in
-    (vote_in bytes k.0, ap (λ (c : Contents). with_facts bytes (finish votes.kept_with votes.none_kept (document_of vote_tables (length bytes) c))) (sym is) ∙ ap (with_facts bytes) k.1)
+    ends_as (with_facts bytes) (vote_in bytes) (λ k n. refl) votes.kept_with votes.none_kept
+    (document_of vote_tables (length bytes)) contents (items_of max_vote bytes) end is ends
 
 as_flavour : (flavour : Flavour) (bytes : List ℕ) (contents : Contents) (end : ℕ) → contents ≡ items_of max_consensus bytes
     → EndsAs (document_of (consensus_tables flavour) (length bytes) contents) (Ok end)
     → (consensus : SignedConsensus) × (consensus_as flavour bytes ≡ Ok (consensus, end))
 as_flavour flavour bytes contents end is ends =
-    let k = kept_there (drafts.with_section flavour bytes) drafts.no_draft (document_of (consensus_tables flavour) (length bytes) contents) end ends in
-    (consensus_in flavour k.0, ap (λ (c : Contents). with_consensus flavour (finish (drafts.with_section flavour bytes) drafts.no_draft (document_of (consensus_tables flavour) (length bytes) c))) (sym is) ∙ ap (with_consensus flavour) k.1)
+    ends_as (with_consensus flavour) (consensus_in flavour) (λ k n. refl) (drafts.with_section flavour bytes) drafts.no_draft
+    (document_of (consensus_tables flavour) (length bytes)) contents (items_of max_consensus bytes) end is ends
 
-pub consensus_ends : (flavour : Flavour) (bytes : List ℕ) (contents : Contents) (end : ℕ) → contents ≡ items_of max_consensus bytes
-    → flavour ≡ flavour_of (items_of max_consensus bytes).items
+pub consensus_ends : (flavour : Flavour) (bytes : List ℕ) (contents : Contents) (end : ℕ)
+    → contents ≡ items_of max_consensus bytes → flavour ≡ flavour_of (items_of max_consensus bytes).items
     → EndsAs (document_of (consensus_tables flavour) (length bytes) contents) (Ok end)
     → (consensus : SignedConsensus) × (consensus_of bytes ≡ Ok (consensus, end))
 consensus_ends flavour bytes contents end is named ends =
     let k = as_flavour flavour bytes contents end is ends in
     (k.0, ap (λ (f : Flavour). consensus_as f bytes) (sym named) ∙ k.1)
+
+pub descriptor_ends : (bytes : List ℕ) (contents : Contents) (end : ℕ) → contents ≡ items_of max_descriptor bytes
+    → EndsAs (document_of descriptor_tables (length bytes) contents) (Ok end)
+    → (descriptor : Descriptor) × (descriptor_of bytes ≡ Ok (descriptor, end))
+descriptor_ends bytes contents end is ends =
+    ends_as (with_descriptor bytes) (descriptor_in bytes) (λ k n. refl) kept_with none_kept
+    (document_of descriptor_tables (length bytes)) contents (items_of max_descriptor bytes) end is ends
+
+pub micro_ends : (bytes : List ℕ) (contents : Contents) (end : ℕ) → contents ≡ items_of max_micro bytes
+    → EndsAs (document_of micro_tables (length bytes) contents) (Ok end) → (micro : Micro) × (micro_of bytes ≡ Ok (micro, end))
+micro_ends bytes contents end is ends =
+    ends_as (with_micro bytes) (micro_in bytes) (λ k n. refl) micros.head_with micros.no_head
+    (document_of micro_tables (length bytes)) contents (items_of max_micro bytes) end is ends

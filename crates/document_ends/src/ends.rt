@@ -3,6 +3,7 @@ ghost use Rattle.std.specs.Prelude.{◌<◌, ◌^◌, length};
 ghost use Rattle.authority_certs.specs.Reading.{cert_of};
 ghost use Rattle.consensus_doc.specs.Reading.{consensus_of};
 ghost use Rattle.descriptor_doc.specs.Reading.{descriptor_of};
+ghost use Rattle.micro_desc.specs.Reading.{micro_of};
 ghost use Rattle.vote_doc.specs.Reading.{vote_of};
 ghost use Rattle.document_ends.specs.Ends.{Ends};
 
@@ -13,6 +14,7 @@ use consensus_frame::ConsensusFrame;
 use descriptor_frame::DescriptorFrame;
 use dirdoc_grammar::Items;
 use frame_terms::ReadRefusal;
+use micro_frame::MicroFrame;
 use std::alloc::Global;
 use vote_frame::VoteFrame;
 
@@ -27,6 +29,9 @@ const MAX_CONSENSUS: u64 = 67_108_864;
 
 /// How many bytes a descriptor may have.
 const MAX_DESCRIPTOR: u64 = 65_536;
+
+/// How many bytes a microdescriptor may have.
+const MAX_MICRO: u64 = 65_536;
 
 /// The place after the vote that the bytes begin with, as `vote_doc::read` finds it.
 ///
@@ -80,6 +85,20 @@ pub fn end_of_descriptor(alloc: Global, bytes: &[u8]) -> Result<usize, ReadRefus
 {
     let mut items = Items::new(bytes, MAX_DESCRIPTOR);
     let frame = DescriptorFrame { alloc };
+    let end = end_of(alloc, frame, &mut items, bytes.len() as u64)?;
+    Ok(end as usize)
+}
+
+/// The place after the microdescriptor that the bytes begin with, as `micro_desc::read` finds it.
+///
+/// # Errors
+/// As those of `micro_desc::read`.
+pub fn end_of_micro(alloc: Global, bytes: &[u8]) -> Result<usize, ReadRefusal>
+    requires { length bytes.now < 2 ^ 62 }
+    ensures { Ends bytes.now (micro_of bytes.now) result }
+{
+    let mut items = Items::new(bytes, MAX_MICRO);
+    let frame = MicroFrame { alloc };
     let end = end_of(alloc, frame, &mut items, bytes.len() as u64)?;
     Ok(end as usize)
 }

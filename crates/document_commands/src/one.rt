@@ -1,0 +1,111 @@
+// One document of any kind, and what the commands answer of it.
+ghost use Rattle.std.specs.Prelude.{◌≡◌, ◌≤◌, ◌<◌, ◌^◌, ℕ, List, Result, IfOk, length};
+ghost use Rattle.frame_terms.specs.declared.fault.ReadRefusal.{ReadRefusal};
+ghost use Rattle.exit_status.specs.Stops.{Answered};
+ghost use Rattle.document_ends.specs.Ends.{Ends};
+ghost use Rattle.document_commands.specs.Answers.{ReadAnswers, check_text};
+ghost use Rattle.document_commands.specs.Blanks as blanks;
+ghost use Rattle.document_commands.specs.Documents as documents;
+ghost use Rattle.document_commands.specs.Private.{IsOne, ReadsFirst, ReadsOne};
+
+use crate::blanks::after_blanks;
+use bytes::Bytes;
+use daemon_words::Kind;
+use dir_bytes::Memory;
+use exit_status::{Stop, of_kind};
+use frame_terms::{FrameFault, FrameReason, ReadRefusal};
+use std::alloc::Global;
+
+/// What `check` says of a document that is one.
+const OK: &[u8] = b"ok\n";
+
+/// A document of a kind, as the commands see it: how it is read, and how it is written.
+pub trait Document: Drop {
+    /// The document that bytes begin with, and the place after it; or the first fault.
+    ghost read_of: { List ℕ → Result (Self × ℕ) ReadRefusal };
+
+    /// What is known of each document that was read, without which it has no text.
+    ghost is_fit: { Self → Type 0 };
+
+    /// Its canonical text.
+    ghost text_of: { Self → List ℕ };
+
+    /// The document that the bytes begin with, and the place after it.
+    ///
+    /// # Errors
+    /// `Frame` is its first fault: what is wrong and at which byte. `Memory` is want of memory.
+    fn read(alloc: Global, bytes: &Bytes) -> Result<(Self, usize), ReadRefusal>
+        requires { length bytes.now < 2 ^ 61 }
+        ensures read { ReadsFirst (read_of bytes.now) (length bytes.now) result }
+        ensures fit { IfOk result (λ read. is_fit read.0) };
+
+    /// The place after the document that the bytes begin with, of which nothing is kept.
+    ///
+    /// # Errors
+    /// As those of `read`.
+    fn end(alloc: Global, bytes: &[u8]) -> Result<usize, ReadRefusal>
+        requires { length bytes.now < 2 ^ 61 }
+        ensures { Ends bytes.now (read_of bytes.now) result };
+
+    /// Its canonical text.
+    ///
+    /// # Errors
+    /// `Memory` is want of memory.
+    fn write(&self, alloc: Global) -> Result<Vec<u8>, Memory>
+        requires { is_fit self.now }
+        ensures { IfOk result (λ text. text.items ≡ text_of self.now) };
+}
+
+/// `ok`, where the input is one document.
+pub fn check_one<D: Document>(alloc: Global, kind: Kind, bytes: &Bytes) -> Result<Vec<u8>, Stop>
+    requires { length bytes.now < 2 ^ 61 }
+    ensures { Answered (ReadAnswers check_text kind (documents.whole bytes.now (D.read_of bytes.now))) result }
+{
+    of_kind(kind, is_one::<D>(alloc, bytes))?;
+    let text = Vec::from_slice(alloc, OK)?;
+    Ok(text)
+}
+
+/// The canonical text of the one document that the input is.
+pub fn show_one<D: Document>(alloc: Global, kind: Kind, bytes: &Bytes) -> Result<Vec<u8>, Stop>
+    requires { length bytes.now < 2 ^ 61 }
+    ensures { Answered (ReadAnswers D.text_of kind (documents.whole bytes.now (D.read_of bytes.now))) result }
+{
+    let document = of_kind(kind, one::<D>(alloc, bytes))?;
+    let text = document.write(alloc)?;
+    Ok(text)
+}
+
+/// The one document that the input is.
+fn one<D: Document>(alloc: Global, bytes: &Bytes) -> Result<D, ReadRefusal>
+    requires { length bytes.now < 2 ^ 61 }
+    ensures read { ReadsOne (documents.whole bytes.now (D.read_of bytes.now)) result }
+    ensures fit { IfOk result (λ document. D.is_fit document) }
+{
+    let (document, used) = D::read(alloc, bytes)?;
+    alone(bytes, document, used)
+}
+
+/// Nothing, where the input is one document.
+fn is_one<D: Document>(alloc: Global, bytes: &[u8]) -> Result<(), ReadRefusal>
+    requires { length bytes.now < 2 ^ 61 }
+    ensures { IsOne (documents.whole bytes.now (D.read_of bytes.now)) result }
+{
+    let end = D::end(alloc, bytes)?;
+    alone(bytes, (), end)
+}
+
+/// What was read of the first bytes of the input, unless another line stands behind it.
+fn alone<D: Drop>(bytes: &[u8], document: D, used: usize) -> Result<D, ReadRefusal>
+    requires within { used ≤ length bytes.now }
+    requires short { length bytes.now < 2 ^ 61 }
+    ensures { result ≡ documents.unless_more document (blanks.after_blanks used bytes.now) }
+{
+    match after_blanks(bytes, used) {
+        None => Ok(document),
+        Some(place) => Err(ReadRefusal::Frame(FrameFault {
+            place: place as u64,
+            reason: FrameReason::Order,
+        })),
+    }
+}

@@ -1,0 +1,2 @@
+pub mod KeptMicros
+pub mod MicroTexts

@@ -1,0 +1,5 @@
+pub mod Heads
+pub mod Micros
+pub mod Reading
+pub mod Texts
+pub mod Makings

@@ -1,0 +1,50 @@
+-- The microdescriptor of a relay with a server descriptor and a summary of its exit policy (dir-spec, "Computing
+-- microdescriptors").
+use Rattle.std.specs.Prelude.{ℕ, ◌==◌, Bool, true, false, not, ◌&&◌, List, [], ◌∷◌, length}
+use Rattle.std.specs.Prelude.{Option, Some, None, option_and_then, if◌then◌else◌}
+use Rattle.dir_values.specs.Ports.{Ports, last_port}
+use Rattle.dir_values.specs.declared.digest.Fingerprint.{Fingerprint}
+use Rattle.dir_values.specs.declared.port_range.PortRange.{PortRange}
+use Rattle.ed_certs.specs.declared.certificate.EdCert.{EdCert}
+use Rattle.relay_family.specs.Families.{family_of}
+use Rattle.descriptor_doc.specs.declared.descriptor.Descriptor.{Descriptor}
+use Rattle.micro_frame.specs.declared.said.MicroId.{MicroId}
+use Rattle.micro_frame.specs.declared.said.MicroId.TheVariants.{Ed25519, Rsa1024}
+use Rattle.micro_desc.specs.declared.micro.Micro.{Micro}
+
+-- a family, where it has a name
+abbrev pub unless_empty : List (List ℕ) → Option (List (List ℕ))
+unless_empty family = if length family == 0 then None else Some family
+
+-- the canonical family that names make, where a name is left
+abbrev pub family_if : List (List ℕ) → Option (List (List ℕ))
+family_if names = unless_empty (family_of names)
+
+-- whether ranges are every port, as one range
+abbrev pub is_every_port : List PortRange → Bool
+is_every_port (range ∷ []) = range.low == 1 && range.high == last_port
+is_every_port _ = false
+
+-- whether a summary is `reject 1-65535`
+abbrev pub rejects_all : Ports → Bool
+rejects_all ports = not ports.accept && is_every_port ports.ranges
+
+-- a summary, unless it rejects all ports
+abbrev pub ports_if : Ports → Option Ports
+ports_if ports = if rejects_all ports then None else Some ports
+
+-- whose microdescriptor it is: the signer of the Ed25519 certificate, or else the RSA identity
+abbrev pub id_of : Option EdCert → Fingerprint → MicroId
+id_of None identity = Rsa1024 identity
+id_of (Some certificate) identity = Ed25519 certificate.signer
+
+-- the microdescriptor of a relay with this server descriptor and this summary of its exit policy
+abbrev pub micro_of_descriptor : Descriptor → Ports → Micro
+micro_of_descriptor descriptor summary = record {
+  onion_key = descriptor.onion_key;
+  ntor_onion_key = descriptor.ntor_onion_key;
+  family = option_and_then family_if descriptor.family;
+  p = ports_if summary;
+  p6 = option_and_then ports_if descriptor.ipv6_policy;
+  id = Some (id_of descriptor.identity_ed25519 descriptor.identity);
+}

@@ -1,0 +1,18 @@
+-- What a microdescriptor says of which something was kept (dir-spec, "Computing microdescriptors").
+use Rattle.std.specs.Prelude.{ℕ, List, option_and_then}
+use Rattle.std.specs.Option.{option_map}
+use Rattle.frame_values.specs.Parts.{bytes_in}
+use Rattle.descriptor_doc.specs.Descriptors.{ports_in, words_in}
+use Rattle.micro_desc.specs.declared.head.MicroHead.{MicroHead}
+use Rattle.micro_desc.specs.declared.micro.Micro.{Micro}
+
+-- what the microdescriptor says of which this was kept, in these bytes
+abbrev pub micro_in : List ℕ → MicroHead → Micro
+micro_in bytes head = record {
+  onion_key = option_map (bytes_in bytes) head.onion_key;
+  ntor_onion_key = head.ntor_onion_key;
+  family = option_map (words_in bytes) head.family;
+  p = option_and_then (ports_in bytes) head.p;
+  p6 = option_and_then (ports_in bytes) head.p6;
+  id = head.id;
+}

@@ -1,0 +1,49 @@
+-- The items of a microdescriptor, which has one section (dir-spec, "Computing microdescriptors").
+use Rattle.std.specs.Prelude.{false, List, [], ◌∷◌, Some, None, Ok}
+use Rattle.frame_terms.specs.declared.keyword.Keyword.TheVariants as the
+use Rattle.frame_terms.specs.declared.row.Count.TheVariants.{One, Optional}
+use Rattle.frame_terms.specs.declared.row.Row.{Row}
+use Rattle.frame_terms.specs.declared.section.Again.TheVariants as again
+use Rattle.frame_terms.specs.declared.section.Shape.{Shape}
+use Rattle.frame_terms.specs.Rows.{row}
+use Rattle.frame_terms.specs.Tables.{Tables}
+use Rattle.frame_values.specs.declared.values.Value.{Value}
+use Rattle.frame_values.specs.Faults.{at_place}
+use Rattle.micro_frame.specs.declared.said.MicroKind.{MicroKind}
+use Rattle.micro_frame.specs.declared.said.MicroKind.TheVariants as kind
+use Rattle.micro_frame.specs.declared.said.MicroValue.{MicroValue}
+use Rattle.micro_frame.specs.Lines.{value_at}
+
+-- its items; the first one opens it
+abbrev pub rows : List (Row MicroKind)
+rows =
+    row the.OnionKey One kind.OnionKey
+    ∷ row the.NtorOnionKey Optional kind.Key
+    ∷ row the.Family Optional kind.Rest
+    ∷ row the.P Optional kind.Ports
+    ∷ row the.P6 Optional kind.Ports
+    ∷ row the.Id Optional kind.Id
+    ∷ []
+
+-- how it begins; it ends before the next `onion-key`, which begins the next microdescriptor, or with the input
+abbrev pub shape : Shape (Unit {0})
+shape = record {
+  opener = the.OnionKey;
+  last = None;
+  again = again.Document;
+  inner = None;
+  limit = None;
+}
+
+-- the tables of a microdescriptor
+abbrev pub micro_tables : Tables (Unit {0}) MicroKind (Value MicroValue) (Unit {0})
+micro_tables = record {
+  first = tt;
+  sections = tt ∷ [];
+  shape = λ _. shape;
+  rows = λ _. rows;
+  ignores = λ _ _. false;
+  value_of = λ _ kind item. at_place (value_at kind item);
+  start = tt;
+  note = λ _ _. Ok tt;
+}
