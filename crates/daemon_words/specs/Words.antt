@@ -56,7 +56,9 @@ kind_named word =
     if bytes_eq word (codes "vote") then Some kind.Vote
     else (if bytes_eq word (codes "cert") then Some kind.Cert
     else (if bytes_eq word (codes "consensus") then Some kind.Consensus
-    else None))
+    else (if bytes_eq word (codes "descriptor") then Some kind.Descriptor
+    else (if bytes_eq word (codes "micro") then Some kind.Micro
+    else None))))
 
 -- the kind of document that stands among the values
 abbrev pub kind_in : List Row → Option Kind

@@ -41,6 +41,10 @@ pub enum Kind {
     Cert,
     /// A consensus, of either flavour.
     Consensus,
+    /// A server descriptor.
+    Descriptor,
+    /// A microdescriptor.
+    Micro,
 }
 
 /// A command with its options.
@@ -99,6 +103,8 @@ fn kind_named(word: &str) -> Option<Kind>
         "vote" => Some(Kind::Vote),
         "cert" => Some(Kind::Cert),
         "consensus" => Some(Kind::Consensus),
+        "descriptor" => Some(Kind::Descriptor),
+        "micro" => Some(Kind::Micro),
         _ => None,
     }
 }

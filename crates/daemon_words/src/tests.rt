@@ -105,6 +105,8 @@ fn documents_are_checked_and_shown(rt: HostRuntime) -> Result<(), Fail> {
         ("vote", Kind::Vote),
         ("cert", Kind::Cert),
         ("consensus", Kind::Consensus),
+        ("descriptor", Kind::Descriptor),
+        ("micro", Kind::Micro),
     ] {
         for words in [
             &["check", word][..],
@@ -131,6 +133,8 @@ fn other_kinds_give_nothing(rt: HostRuntime) -> Result<(), Fail> {
         &["Cert"],
         &["certificate"],
         &["cer"],
+        &["microdesc"],
+        &["microdescriptor"],
         &[""],
         &["vote", "vote"],
         &["vote", "cert"],

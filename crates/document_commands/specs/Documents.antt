@@ -9,6 +9,10 @@ use Rattle.vote_terms.specs.Votes.{ReadVote}
 use Rattle.vote_doc.specs.Reading.{vote_of}
 use Rattle.consensus_terms.specs.declared.consensus.SignedConsensus.{SignedConsensus}
 use Rattle.consensus_doc.specs.Reading.{consensus_of}
+use Rattle.descriptor_doc.specs.declared.descriptor.Descriptor.{Descriptor}
+use Rattle.descriptor_doc.specs.Reading.{descriptor_of}
+use Rattle.micro_desc.specs.declared.micro.Micro.{Micro}
+use Rattle.micro_desc.specs.Reading.{micro_of}
 use Rattle.daemon_words.specs.declared.command.Kind.{Kind}
 use Rattle.daemon_words.specs.declared.command.Kind.TheVariants as kind
 use Rattle.document_commands.specs.Blanks.{after_blanks}
@@ -18,6 +22,8 @@ pub data Document : Type 0 where
   vote : ReadVote → Document
   cert : Cert → Document
   consensus : SignedConsensus → Document
+  descriptor : Descriptor → Document
+  micro : Micro → Document
 
 -- what was read, unless another line stands at a place behind it: that line is out of order
 abbrev pub unless_more : {X : Type 0} → X → Option ℕ → Result X ReadRefusal
@@ -39,3 +45,5 @@ abbrev pub document_of : Kind → List ℕ → Result Document ReadRefusal
 document_of kind.Vote bytes = as_document vote (whole bytes (vote_of bytes))
 document_of kind.Cert bytes = as_document cert (whole bytes (cert_of bytes))
 document_of kind.Consensus bytes = as_document consensus (whole bytes (consensus_of bytes))
+document_of kind.Descriptor bytes = as_document descriptor (whole bytes (descriptor_of bytes))
+document_of kind.Micro bytes = as_document micro (whole bytes (micro_of bytes))

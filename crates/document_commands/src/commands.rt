@@ -8,7 +8,9 @@ use authority_certs::Cert;
 use bytes::Bytes;
 use consensus_doc::SignedConsensus;
 use daemon_words::Kind;
+use descriptor_doc::Descriptor;
 use exit_status::Stop;
+use micro_desc::Micro;
 use std::alloc::Global;
 use vote_doc::Vote;
 
@@ -21,6 +23,8 @@ pub fn check(alloc: Global, kind: Kind, bytes: &Bytes) -> Result<Vec<u8>, Stop>
         Kind::Vote => check_one::<Vote>(alloc, kind, bytes),
         Kind::Cert => check_one::<Cert>(alloc, kind, bytes),
         Kind::Consensus => check_one::<SignedConsensus>(alloc, kind, bytes),
+        Kind::Descriptor => check_one::<Descriptor>(alloc, kind, bytes),
+        Kind::Micro => check_one::<Micro>(alloc, kind, bytes),
     }
 }
 
@@ -33,5 +37,7 @@ pub fn show(alloc: Global, kind: Kind, bytes: &Bytes) -> Result<Vec<u8>, Stop>
         Kind::Vote => show_one::<Vote>(alloc, kind, bytes),
         Kind::Cert => show_one::<Cert>(alloc, kind, bytes),
         Kind::Consensus => show_one::<SignedConsensus>(alloc, kind, bytes),
+        Kind::Descriptor => show_one::<Descriptor>(alloc, kind, bytes),
+        Kind::Micro => show_one::<Micro>(alloc, kind, bytes),
     }
 }

@@ -5,6 +5,8 @@ mod blanks;
 mod cert;
 mod commands;
 mod consensus;
+mod descriptor;
+mod micro;
 mod one;
 mod vote;
 

@@ -55,6 +55,8 @@ fn document_limit(kind: Kind) -> &'static [u8]
         Kind::Vote => b"vote 16777216",
         Kind::Cert => b"certificate 65536",
         Kind::Consensus => b"consensus 67108864",
+        Kind::Descriptor => b"descriptor 65536",
+        Kind::Micro => b"microdescriptor 65536",
     }
 }
 

@@ -22,6 +22,11 @@ fn other_statuses_have_lines(rt: HostRuntime) -> Result<(), Fail> {
             9,
             "limit certificate 65536\n",
         ),
+        (
+            fault_of(Kind::Micro, FrameReason::Doc(DocReason::DocumentTooLong)),
+            9,
+            "limit microdescriptor 65536\n",
+        ),
         (limit(DocReason::ObjectTooLong), 9, "limit object 65536\n"),
         (
             fault(FrameReason::Unsorted),

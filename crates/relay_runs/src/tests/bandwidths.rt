@@ -29,63 +29,30 @@ const MEASURE_BOTH: &[&str] = &[X, SET, W_500_700, Y, VALID, MEASURED];
 /// Entries that say a bandwidth, and measure nothing.
 const SAY_500: &[&str] = &[X, SET, W_500];
 
-const ONE_MEASURES_BOTH: Vote = Vote {
-    entries: MEASURE_BOTH,
-    ..ONE
-};
+const ONE_MEASURES_BOTH: Vote = vote!(ONE, entries: MEASURE_BOTH);
 
-const TWO_MEASURES_BOTH: Vote = Vote {
-    entries: MEASURE_BOTH,
-    ..TWO
-};
+const TWO_MEASURES_BOTH: Vote = vote!(TWO, entries: MEASURE_BOTH);
 
-const THREE_MEASURES_ONE: Vote = Vote {
-    entries: MEASURE_ONE,
-    ..THREE
-};
+const THREE_MEASURES_ONE: Vote = vote!(THREE, entries: MEASURE_ONE);
 
-const FOUR_SAYS_500: Vote = Vote {
-    entries: SAY_500,
-    ..FOUR
-};
+const FOUR_SAYS_500: Vote = vote!(FOUR, entries: SAY_500);
 
-const FIVE_SAYS_500: Vote = Vote {
-    entries: SAY_500,
-    ..FIVE
-};
+const FIVE_SAYS_500: Vote = vote!(FIVE, entries: SAY_500);
 
-const ONE_SAYS_700: Vote = Vote {
-    entries: &[X, SET, W_500_700],
-    ..ONE
-};
+const ONE_SAYS_700: Vote = vote!(ONE, entries: &[X, SET, W_500_700]);
 
-const TWO_SAYS_900: Vote = Vote {
-    entries: &[X, SET, W_500_900],
-    ..TWO
-};
+const TWO_SAYS_900: Vote = vote!(TWO, entries: &[X, SET, W_500_900]);
 
-const THREE_SAYS_800: Vote = Vote {
-    entries: &[X, SET, W_500_800],
-    ..THREE
-};
+const THREE_SAYS_800: Vote = vote!(THREE, entries: &[X, SET, W_500_800]);
 
 /// What an unmeasured bandwidth is at most.
 const LIMIT: &str = "params maxunmeasuredbw=100\n";
 
-const ONE_WITH_LIMIT: Vote = Vote {
-    lists: LIMIT,
-    ..ONE_MEASURES_BOTH
-};
+const ONE_WITH_LIMIT: Vote = vote!(ONE_MEASURES_BOTH, lists: LIMIT);
 
-const TWO_WITH_LIMIT: Vote = Vote {
-    lists: LIMIT,
-    ..TWO_MEASURES_BOTH
-};
+const TWO_WITH_LIMIT: Vote = vote!(TWO_MEASURES_BOTH, lists: LIMIT);
 
-const THREE_WITH_LIMIT: Vote = Vote {
-    lists: LIMIT,
-    ..THREE_MEASURES_ONE
-};
+const THREE_WITH_LIMIT: Vote = vote!(THREE_MEASURES_ONE, lists: LIMIT);
 
 #[test]
 fn what_three_votes_measure_limits_what_is_not_measured(rt: HostRuntime) -> Result<(), Fail> {
@@ -158,23 +125,11 @@ const SET_ALL: &[&str] = &[
     "w Bandwidth=1000\n",
 ];
 
-const ONE_SETS_ALL: Vote = Vote {
-    known_flags: ALL_FLAGS,
-    entries: SET_ALL,
-    ..ONE
-};
+const ONE_SETS_ALL: Vote = vote!(ONE, known_flags: ALL_FLAGS, entries: SET_ALL);
 
-const TWO_SETS_ALL: Vote = Vote {
-    known_flags: ALL_FLAGS,
-    entries: SET_ALL,
-    ..TWO
-};
+const TWO_SETS_ALL: Vote = vote!(TWO, known_flags: ALL_FLAGS, entries: SET_ALL);
 
-const THREE_SETS_ALL: Vote = Vote {
-    known_flags: ALL_FLAGS,
-    entries: SET_ALL,
-    ..THREE
-};
+const THREE_SETS_ALL: Vote = vote!(THREE, known_flags: ALL_FLAGS, entries: SET_ALL);
 
 const SETTING_ALL: &[Vote] = &[ONE_SETS_ALL, TWO_SETS_ALL, THREE_SETS_ALL];
 

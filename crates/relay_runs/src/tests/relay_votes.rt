@@ -32,165 +32,67 @@ pub const SET_BARE: &str = "s NoEdConsensus Running Valid\n";
 
 pub const EXIT_BARE: &str = "s Exit NoEdConsensus Running Valid\n";
 
-pub const ONE_X: Vote = Vote {
-    entries: &[X, SET],
-    ..ONE
-};
+pub const ONE_X: Vote = vote!(ONE, entries: &[X, SET]);
 
-pub const TWO_X: Vote = Vote {
-    entries: &[X, SET],
-    ..TWO
-};
+pub const TWO_X: Vote = vote!(TWO, entries: &[X, SET]);
 
-pub const THREE_X_VALID: Vote = Vote {
-    entries: &[X, VALID],
-    ..THREE
-};
+pub const THREE_X_VALID: Vote = vote!(THREE, entries: &[X, VALID]);
 
-pub const ONE_X_EXIT: Vote = Vote {
-    known_flags: "Exit Running Valid",
-    entries: &[X, EXIT],
-    ..ONE
-};
+pub const ONE_X_EXIT: Vote = vote!(ONE, known_flags: "Exit Running Valid", entries: &[X, EXIT]);
 
-pub const TWO_X_KNOWS_EXIT: Vote = Vote {
-    known_flags: "Exit Running Valid",
-    entries: &[X, SET],
-    ..TWO
-};
+pub const TWO_X_KNOWS_EXIT: Vote =
+    vote!(TWO, known_flags: "Exit Running Valid", entries: &[X, SET]);
 
-pub const THREE_X: Vote = Vote {
-    entries: &[X, SET],
-    ..THREE
-};
+pub const THREE_X: Vote = vote!(THREE, entries: &[X, SET]);
 
-pub const TWO_X_EXIT: Vote = Vote {
-    known_flags: "Exit Running Valid",
-    entries: &[X, EXIT],
-    ..TWO
-};
+pub const TWO_X_EXIT: Vote = vote!(TWO, known_flags: "Exit Running Valid", entries: &[X, EXIT]);
 
-pub const ONE_X_KEY_P: Vote = Vote {
-    entries: &[X, SET, KEY_P],
-    ..ONE
-};
+pub const ONE_X_KEY_P: Vote = vote!(ONE, entries: &[X, SET, KEY_P]);
 
-pub const TWO_X_KEY_P: Vote = Vote {
-    entries: &[X, SET, KEY_P],
-    ..TWO
-};
+pub const TWO_X_KEY_P: Vote = vote!(TWO, entries: &[X, SET, KEY_P]);
 
-pub const THREE_X_KEY_Q: Vote = Vote {
-    entries: &[X, SET, KEY_Q],
-    ..THREE
-};
+pub const THREE_X_KEY_Q: Vote = vote!(THREE, entries: &[X, SET, KEY_Q]);
 
-pub const FOUR_X_NO_KEY: Vote = Vote {
-    entries: &[X, SET, NO_KEY],
-    ..FOUR
-};
+pub const FOUR_X_NO_KEY: Vote = vote!(FOUR, entries: &[X, SET, NO_KEY]);
 
-pub const FIVE_X: Vote = Vote {
-    entries: &[X, SET],
-    ..FIVE
-};
+pub const FIVE_X: Vote = vote!(FIVE, entries: &[X, SET]);
 
-pub const THREE_X_KEY_P: Vote = Vote {
-    entries: &[X, SET, KEY_P],
-    ..THREE
-};
+pub const THREE_X_KEY_P: Vote = vote!(THREE, entries: &[X, SET, KEY_P]);
 
-pub const FOUR_X_KEY_Q: Vote = Vote {
-    entries: &[X, SET, KEY_Q],
-    ..FOUR
-};
+pub const FOUR_X_KEY_Q: Vote = vote!(FOUR, entries: &[X, SET, KEY_Q]);
 
-pub const TWO_X_PR_B_KEY_P: Vote = Vote {
-    entries: &[X, SET, PR_B, KEY_P],
-    ..TWO
-};
+pub const TWO_X_PR_B_KEY_P: Vote = vote!(TWO, entries: &[X, SET, PR_B, KEY_P]);
 
-pub const FOUR_X_PR_A_KEY_Q: Vote = Vote {
-    entries: &[X, SET, PR_A, KEY_Q],
-    ..FOUR
-};
+pub const FOUR_X_PR_A_KEY_Q: Vote = vote!(FOUR, entries: &[X, SET, PR_A, KEY_Q]);
 
-pub const THREE_X_LATER: Vote = Vote {
-    entries: &[X_LATER, SET],
-    ..THREE
-};
+pub const THREE_X_LATER: Vote = vote!(THREE, entries: &[X_LATER, SET]);
 
-pub const FOUR_X_LATER: Vote = Vote {
-    entries: &[X_LATER, SET],
-    ..FOUR
-};
+pub const FOUR_X_LATER: Vote = vote!(FOUR, entries: &[X_LATER, SET]);
 
-pub const ONE_X_LATER: Vote = Vote {
-    entries: &[X_LATER, SET],
-    ..ONE
-};
+pub const ONE_X_LATER: Vote = vote!(ONE, entries: &[X_LATER, SET]);
 
-pub const TWO_X_LATER: Vote = Vote {
-    entries: &[X_LATER, SET],
-    ..TWO
-};
+pub const TWO_X_LATER: Vote = vote!(TWO, entries: &[X_LATER, SET]);
 
-pub const FOUR_X: Vote = Vote {
-    entries: &[X, SET],
-    ..FOUR
-};
+pub const FOUR_X: Vote = vote!(FOUR, entries: &[X, SET]);
 
-pub const THREE_X_GREATER: Vote = Vote {
-    entries: &[X_GREATER, SET],
-    ..THREE
-};
+pub const THREE_X_GREATER: Vote = vote!(THREE, entries: &[X_GREATER, SET]);
 
-pub const FOUR_X_GREATER: Vote = Vote {
-    entries: &[X_GREATER, SET],
-    ..FOUR
-};
+pub const FOUR_X_GREATER: Vote = vote!(FOUR, entries: &[X_GREATER, SET]);
 
-pub const ONE_X_GREATER: Vote = Vote {
-    entries: &[X_GREATER, SET],
-    ..ONE
-};
+pub const ONE_X_GREATER: Vote = vote!(ONE, entries: &[X_GREATER, SET]);
 
-pub const TWO_X_GREATER: Vote = Vote {
-    entries: &[X_GREATER, SET],
-    ..TWO
-};
+pub const TWO_X_GREATER: Vote = vote!(TWO, entries: &[X_GREATER, SET]);
 
-pub const ONE_X_V_12_P_80: Vote = Vote {
-    entries: &[X, SET, V_12, P_80],
-    ..ONE
-};
+pub const ONE_X_V_12_P_80: Vote = vote!(ONE, entries: &[X, SET, V_12, P_80]);
 
-pub const TWO_X_V_12: Vote = Vote {
-    entries: &[X, SET, V_12],
-    ..TWO
-};
+pub const TWO_X_V_12: Vote = vote!(TWO, entries: &[X, SET, V_12]);
 
-pub const THREE_X_P_80: Vote = Vote {
-    entries: &[X, SET, P_80],
-    ..THREE
-};
+pub const THREE_X_P_80: Vote = vote!(THREE, entries: &[X, SET, P_80]);
 
-pub const ONE_X_V_9: Vote = Vote {
-    entries: &[X, SET, V_9],
-    ..ONE
-};
+pub const ONE_X_V_9: Vote = vote!(ONE, entries: &[X, SET, V_9]);
 
-pub const TWO_X_V_9: Vote = Vote {
-    entries: &[X, SET, V_9],
-    ..TWO
-};
+pub const TWO_X_V_9: Vote = vote!(TWO, entries: &[X, SET, V_9]);
 
-pub const THREE_X_V_12: Vote = Vote {
-    entries: &[X, SET, V_12],
-    ..THREE
-};
+pub const THREE_X_V_12: Vote = vote!(THREE, entries: &[X, SET, V_12]);
 
-pub const FOUR_X_V_12: Vote = Vote {
-    entries: &[X, SET, V_12],
-    ..FOUR
-};
+pub const FOUR_X_V_12: Vote = vote!(FOUR, entries: &[X, SET, V_12]);
