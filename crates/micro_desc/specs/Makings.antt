@@ -1,6 +1,6 @@
 -- The microdescriptor of a relay with a server descriptor and a summary of its exit policy (dir-spec, "Computing
 -- microdescriptors").
-use Rattle.std.specs.Prelude.{ℕ, ◌==◌, Bool, true, false, not, ◌&&◌, List, [], ◌∷◌, length}
+use Rattle.std.specs.Prelude.{ℕ, ◌==◌, Bool, false, not, ◌&&◌, List, [], ◌∷◌, length}
 use Rattle.std.specs.Prelude.{Option, Some, None, option_and_then, if◌then◌else◌}
 use Rattle.dir_values.specs.Ports.{Ports, last_port}
 use Rattle.dir_values.specs.declared.digest.Fingerprint.{Fingerprint}

@@ -62,11 +62,7 @@ fn push_names(rest: &mut Vec<u8>, names: &[Text]) -> Result<(), Memory>
 ///
 /// # Errors
 /// `Memory` is want of memory.
-fn push_family(
-    out: &mut Vec<u8>,
-    alloc: Global,
-    family: &Option<Seq<Text>>,
-) -> Result<(), Memory>
+fn push_family(out: &mut Vec<u8>, alloc: Global, family: &Option<Seq<Text>>) -> Result<(), Memory>
     ensures { OnOk result (out.new.items ≡ out.old.items ++ items_text (texts.family_items family.now)) }
 {
     let Some(names) = family else {
