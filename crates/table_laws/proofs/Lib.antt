@@ -1,0 +1,4 @@
+pub mod Ways
+pub mod Makes
+pub mod Rules
+pub mod Taking
