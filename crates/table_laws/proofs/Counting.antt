@@ -37,7 +37,7 @@ module _ {S K V X : Type 0} (tables : Tables S K V X) where
       → times keyword taken ≤ 1
 
   -- each item stands that has to
-  abbrev AreThere : S → List (Taken V) → Type 0
+  abbrev pub AreThere : S → List (Taken V) → Type 0
   AreThere section taken =
       (keyword : Keyword) (row : Row K) → row_of (tables.rows section) keyword ≡ Some row → is_one row.count ≡ true
       → 1 ≤ times keyword taken
@@ -91,7 +91,7 @@ module _ {S K V X : Type 0} (tables : Tables S K V X) where
   -- ---- once
 
   -- a section that lacks nothing
-  there_all : (section : S) (taken : List (Taken V)) → lacking (tables.rows section) taken ≡ None
+  pub there_all : (section : S) (taken : List (Taken V)) → lacking (tables.rows section) taken ≡ None
       → AreThere section taken
   there_all section taken none keyword row e has_to =
       let test : Row K → Bool = λ row. is_one row.count && not (stands row.keyword taken) in

@@ -4,3 +4,6 @@ pub mod Rules
 pub mod Taking
 pub mod Times
 pub mod Counting
+pub mod Lists
+pub mod Parts
+pub mod Ordering
