@@ -7,3 +7,4 @@ pub mod Counting
 pub mod Lists
 pub mod Parts
 pub mod Ordering
+pub mod Others

@@ -3,6 +3,7 @@ use Rattle.std.proofs.Common.{◌≡◌, ℕ, ◌≤◌, Bool, true, false, List
 use Rattle.std.proofs.Common.{◌∙◌, arith, subst, inl, inr}
 use Rattle.std.specs.Prelude.{◌⊎◌, ◌||◌, is_some, if◌then◌else◌}
 use Rattle.std.proofs.lemmas.Bool.{false≢true}
+use Rattle.std.proofs.lemmas.Option.{none-some}
 use Rattle.std.proofs.lemmas.List.Folds.{list_any-append}
 use Rattle.item_terms.specs.Items.{Contents, Item}
 use Rattle.frame_terms.specs.declared.document.Group.{Group}
@@ -48,27 +49,27 @@ module _ {S K V X : Type 0} (tables : Tables S K V X) where
       by_test false is e = absurd (cc (e))
 
   -- its last item does not stand
-  abbrev IsNotEnded : S → List (Taken V) → Type 0
+  abbrev pub IsNotEnded : S → List (Taken V) → Type 0
   IsNotEnded section taken =
       (keyword : Keyword) → (tables.shape section).last ≡ Some keyword → stands keyword taken ≡ false
 
   -- a section that is open inside another
-  record IsInside (section : S) (taken : List (Taken V)) (outer : Group S V) : Type 0 where
+  pub record IsInside (section : S) (taken : List (Taken V)) (outer : Group S V) : Type 0 where
     pub begun : BeginsWithOpener tables outer.section outer.taken
     pub inner : (tables.shape outer.section).inner ≡ Some section
     pub not_ended : IsNotEnded section taken
 
-  abbrev AroundPlaced : S → List (Taken V) → Option (Group S V) → Type 0
+  abbrev pub AroundPlaced : S → List (Taken V) → Option (Group S V) → Type 0
   AroundPlaced section taken None = Unit {0}
   AroundPlaced section taken (Some outer) = IsInside section taken outer
 
   -- the section that stands inside no other
-  abbrev top : S → Option (Group S V) → S
+  abbrev pub top : S → Option (Group S V) → S
   top section None = section
   top section (Some outer) = outer.section
 
   -- nothing stands, or the opener does first
-  abbrev IsBegun : S → List (Taken V) → Type 0
+  abbrev pub IsBegun : S → List (Taken V) → Type 0
   IsBegun section [] = Unit {0}
   IsBegun section (first ∷ taken) = same (opener tables section) first.keyword ≡ true
 
@@ -77,7 +78,7 @@ module _ {S K V X : Type 0} (tables : Tables S K V X) where
   begun_of section (first ∷ taken) begins = begins
 
   -- what is open, and where it stands
-  record IsPlaced (section : S) (taken : List (Taken V)) (around : Option (Group S V)) : Type 0 where
+  pub record IsPlaced (section : S) (taken : List (Taken V)) (around : Option (Group S V)) : Type 0 where
     pub listed : IsListed tables (top section around)
     pub begun : IsBegun section taken
     pub around_is : AroundPlaced section taken around
@@ -124,6 +125,21 @@ module _ {S K V X : Type 0} (tables : Tables S K V X) (sound : AreSound tables) 
 
   -- ---- the end of a document
 
+  -- where nothing is lacking, no section is open inside another
+  pub closes_alone : (section : S) (taken : List (Taken V)) (around : Option (Group S V))
+      → lacking (tables.rows section) taken ≡ None → IsPlaced tables section taken around → around ≡ None
+  closes_alone section taken None whole is = refl
+  closes_alone section taken (Some outer) whole is =
+      let is_inner = sound.inner outer.section section is.around_is.inner in
+      let some : 1 ≤ times is_inner.last taken =
+      stands_once tables section taken is_inner.last is_inner.last_once whole in
+      let no_ : times is_inner.last taken ≡ 0 =
+      none_stands is_inner.last taken (is.around_is.not_ended is_inner.last is_inner.ends) in
+      absurd (neither_way (times is_inner.last taken) some no_)
+    where
+      neither_way : (n : ℕ) → 1 ≤ n → n ≡ 0 → ⊥
+      neither_way n some no_ = omega (arith, some, no_)
+
   closes_placed : (section : S) (taken : List (Taken V)) (around : Option (Group S V))
       → lacking (tables.rows section) taken ≡ None → must_open tables (following tables section) ≡ None
       → IsPlaced tables section taken around
@@ -138,15 +154,7 @@ module _ {S K V X : Type 0} (tables : Tables S K V X) (sound : AreSound tables) 
   closes_placed section (first ∷ taken) None whole none is =
       stands_last tables sound section (first ∷ taken) is.begun (in_order_none tables (following tables section) none)
   closes_placed section taken (Some outer) whole none is =
-      let is_inner = sound.inner outer.section section is.around_is.inner in
-      let some : 1 ≤ times is_inner.last taken =
-      stands_once tables section taken is_inner.last is_inner.last_once whole in
-      let no_ : times is_inner.last taken ≡ 0 =
-      none_stands is_inner.last taken (is.around_is.not_ended is_inner.last is_inner.ends) in
-      absurd (neither_way (times is_inner.last taken) some no_)
-    where
-      neither_way : (n : ℕ) → 1 ≤ n → n ≡ 0 → ⊥
-      neither_way n some no_ = omega (arith, some, no_)
+      absurd (none-some outer (sym (closes_alone section taken (Some outer) whole is)))
 
   -- none follows a section that ends its document
   none_follows : (section : S) → ends_document tables section ≡ true → AreInOrder tables (following tables section) []
@@ -165,6 +173,14 @@ module _ {S K V X : Type 0} (tables : Tables S K V X) (sound : AreSound tables) 
       has_last None e = absurd (false≢true (e))
       has_last (Some keyword) e = refl
 
+  -- no document begins inside a section that is inside another
+  pub stops_alone : (section : S) (taken : List (Taken V)) (around : Option (Group S V))
+      → IsStopping tables section taken → IsPlaced tables section taken around → around ≡ None
+  stops_alone section taken None stopping is = refl
+  stops_alone section taken (Some outer) stopping is =
+      let is_inner = sound.inner outer.section section is.around_is.inner in
+      absurd (cc (is_inner.again, stopping.stops))
+
   stops_placed : (section : S) (first : Taken V) (taken : List (Taken V)) (around : Option (Group S V))
       → IsStopping tables section (first ∷ taken) → IsPlaced tables section (first ∷ taken) around
       → StandsFrom tables (top tables section around) (group section (first ∷ taken) ∷ [])
@@ -178,13 +194,12 @@ module _ {S K V X : Type 0} (tables : Tables S K V X) (sound : AreSound tables) 
       either true e = refl
       either false e = e
   stops_placed section first taken (Some outer) stopping is =
-      let is_inner = sound.inner outer.section section is.around_is.inner in
-      absurd (cc (is_inner.again, stopping.stops))
+      absurd (none-some outer (sym (stops_alone section (first ∷ taken) (Some outer) stopping is)))
 
   -- ---- an item
 
   -- one more of the section that is open
-  adds_placed : (across : X) (section : S) (first : Taken V) (taken : List (Taken V)) (around : Option (Group S V))
+  pub adds_placed : (across : X) (section : S) (first : Taken V) (taken : List (Taken V)) (around : Option (Group S V))
       (item : Item) (one : Taken V) → IsAdded tables across section (first ∷ taken) item one
       → IsPlaced tables section (first ∷ taken) around → IsPlaced tables section (first ∷ (taken ++ one ∷ [])) around
   adds_placed across section first taken None item one added is =
@@ -200,47 +215,74 @@ module _ {S K V X : Type 0} (tables : Tables S K V X) (sound : AreSound tables) 
   }
 
   -- a section that is open and stands inside no other
-  placed_alone : (section : S) (one : Taken V) → IsListed tables section
+  pub placed_alone : (section : S) (one : Taken V) → IsListed tables section
       → same (opener tables section) one.keyword ≡ true → IsPlaced tables section (one ∷ []) None
   placed_alone section one listed opens = record { listed = listed; begun = opens; around_is = tt }
 
-  -- the next section
-  opens_placed : (section : S) (first : Taken V) (taken : List (Taken V)) (around : Option (Group S V)) (other : S)
-      (one : Taken V) (groups : List (Group S V)) → same (opener tables other) one.keyword ≡ true
-      → IsLater tables section other ⊎ IsAgain tables section other
-      → (IsPlaced tables other (one ∷ []) around → StandsFrom tables (top tables other around) groups)
-      → IsPlaced tables section (first ∷ taken) around
-      → StandsFrom tables (top tables section around) (group section (first ∷ taken) ∷ groups)
-  opens_placed section first taken None other one groups opens (inl later) rest is =
-      let after = opened_after tables later.keyword (following tables section) other later.opened later.passes_none in
-      stands_before tables sound section other (first ∷ taken) groups is.begun is.listed after
-      (rest (placed_alone other one (next_listed tables sound section other is.listed after) opens))
-  opens_placed section first taken None other one groups opens (inr once_more) rest is =
-      let named = once_more.same_name in
-      stands_again tables sound section (first ∷ taken) groups is.begun once_more.repeats
-      (subst (λ (s : S). StandsFrom tables s groups) named
-      (rest (placed_alone other one (subst (λ (s : S). IsListed tables s) (sym named) is.listed) opens)))
-  opens_placed section first taken (Some outer) other one groups opens (inl later) rest is =
+  -- the next section, which stands inside no other
+  pub opens_alone : (section : S) (taken : List (Taken V)) (around : Option (Group S V)) (other : S)
+      → IsLater tables section other ⊎ IsAgain tables section other → IsPlaced tables section taken around
+      → around ≡ None
+  opens_alone section taken None other follows is = refl
+  opens_alone section taken (Some outer) other (inl later) is =
       let is_inner = sound.inner outer.section section is.around_is.inner in
       absurd (none_opens later.keyword (following tables section) is_inner.apart later.opened)
     where
       none_opens : (keyword : Keyword) (list : List S) → list ≡ [] → opened_by tables keyword list ≡ Some other → ⊥
       none_opens keyword [] none e = absurd (cc (e))
       none_opens keyword (s ∷ list) none e = absurd (cc (none))
-  opens_placed section first taken (Some outer) other one groups opens (inr once_more) rest is =
+  opens_alone section taken (Some outer) other (inr once_more) is =
       let is_inner = sound.inner outer.section section is.around_is.inner in
       absurd (cc (is_inner.again, once_more.repeats))
 
-  -- a section inside it
-  enters_placed : (across : X) (section : S) (first : Taken V) (taken : List (Taken V)) (around : Option (Group S V))
-      (inside : S) (item : Item) (one : Taken V) (groups : List (Group S V))
-      → IsEntering tables across section (first ∷ taken) inside item one
-      → (IsPlaced tables inside (one ∷ []) (Some (group section (first ∷ (taken ++ one ∷ []))))
-      → StandsFrom tables section groups)
-      → IsPlaced tables section (first ∷ taken) around → StandsFrom tables (top tables section around) groups
-  enters_placed across section first taken None inside item one groups entering rest is =
+  -- it is one of the document's
+  opens_listed : (section other : S) → IsListed tables section
+      → IsLater tables section other ⊎ IsAgain tables section other → IsListed tables other
+  opens_listed section other listed (inl later) =
+      next_listed tables sound section other listed
+      (opened_after tables later.keyword (following tables section) other later.opened later.passes_none)
+  opens_listed section other listed (inr once_more) =
+      subst (λ (s : S). IsListed tables s) (sym once_more.same_name) listed
+
+  pub opens_placed : (section : S) (first : Taken V) (taken : List (Taken V)) (around : Option (Group S V)) (other : S)
+      (one : Taken V) → same (opener tables other) one.keyword ≡ true
+      → IsLater tables section other ⊎ IsAgain tables section other → IsPlaced tables section (first ∷ taken) around
+      → IsPlaced tables other (one ∷ []) around
+  opens_placed section first taken None other one opens follows is =
+      placed_alone other one (opens_listed section other is.listed follows) opens
+  opens_placed section first taken (Some outer) other one opens follows is =
+      absurd (none-some outer (sym (opens_alone section (first ∷ taken) (Some outer) other follows is)))
+
+  opens_stands : (section : S) (first : Taken V) (taken : List (Taken V)) (around : Option (Group S V)) (other : S)
+      (groups : List (Group S V)) → IsLater tables section other ⊎ IsAgain tables section other
+      → IsPlaced tables section (first ∷ taken) around → StandsFrom tables (top tables other around) groups
+      → StandsFrom tables (top tables section around) (group section (first ∷ taken) ∷ groups)
+  opens_stands section first taken None other groups (inl later) is rest =
+      stands_before tables sound section other (first ∷ taken) groups is.begun is.listed
+      (opened_after tables later.keyword (following tables section) other later.opened later.passes_none) rest
+  opens_stands section first taken None other groups (inr once_more) is rest =
+      stands_again tables sound section (first ∷ taken) groups is.begun once_more.repeats
+      (subst (λ (s : S). StandsFrom tables s groups) once_more.same_name rest)
+  opens_stands section first taken (Some outer) other groups follows is rest =
+      absurd (none-some outer (sym (opens_alone section (first ∷ taken) (Some outer) other follows is)))
+
+  -- a section inside another, which stands inside no other
+  pub enters_alone : (across : X) (section : S) (taken : List (Taken V)) (around : Option (Group S V)) (inside : S)
+      (item : Item) (one : Taken V) → IsEntering tables across section taken inside item one
+      → IsPlaced tables section taken around → around ≡ None
+  enters_alone across section taken None inside item one entering is = refl
+  enters_alone across section taken (Some outer) inside item one entering is =
       let parts = opens_inside tables one.keyword ((tables.shape section).inner) inside entering.begins in
-      rest (record {
+      let is_inner = sound.inner outer.section section is.around_is.inner in
+      absurd (cc (is_inner.plain, parts.0))
+
+  pub enters_placed : (across : X) (section : S) (first : Taken V) (taken : List (Taken V)) (inside : S) (item : Item)
+      (one : Taken V) → IsEntering tables across section (first ∷ taken) inside item one
+      → IsPlaced tables section (first ∷ taken) None
+      → IsPlaced tables inside (one ∷ []) (Some (group section (first ∷ (taken ++ one ∷ []))))
+  enters_placed across section first taken inside item one entering is =
+      let parts = opens_inside tables one.keyword ((tables.shape section).inner) inside entering.begins in
+      record {
         listed = is.listed;
         begun = parts.1;
         around_is = record {
@@ -248,11 +290,27 @@ module _ {S K V X : Type 0} (tables : Tables S K V X) (sound : AreSound tables) 
           inner = parts.0;
           not_ended = not_ended_first inside one (sound.inner section inside parts.0) parts.1;
         };
-      })
-  enters_placed across section first taken (Some outer) inside item one groups entering rest is =
-      let parts = opens_inside tables one.keyword ((tables.shape section).inner) inside entering.begins in
-      let is_inner = sound.inner outer.section section is.around_is.inner in
-      absurd (cc (is_inner.plain, parts.0))
+      }
+
+  enters_stands : (across : X) (section : S) (first : Taken V) (taken : List (Taken V)) (around : Option (Group S V))
+      (inside : S) (item : Item) (one : Taken V) (groups : List (Group S V))
+      → IsEntering tables across section (first ∷ taken) inside item one
+      → (IsPlaced tables inside (one ∷ []) (Some (group section (first ∷ (taken ++ one ∷ []))))
+      → StandsFrom tables section groups)
+      → IsPlaced tables section (first ∷ taken) around → StandsFrom tables (top tables section around) groups
+  enters_stands across section first taken None inside item one groups entering rest is =
+      rest (enters_placed across section first taken inside item one entering is)
+  enters_stands across section first taken (Some outer) inside item one groups entering rest is =
+      absurd (none-some outer (sym (enters_alone across section (first ∷ taken) (Some outer) inside item one entering is)))
+
+  -- the section around goes on
+  pub leaves_placed : (section : S) (taken : List (Taken V)) (outer : Group S V)
+      → IsPlaced tables section taken (Some outer) → IsPlaced tables outer.section outer.taken None
+  leaves_placed section taken outer is = record {
+    listed = is.listed;
+    begun = begun_of tables outer.section outer.taken is.around_is.begun;
+    around_is = tt;
+  }
 
   -- ---- all of it
 
@@ -267,17 +325,14 @@ module _ {S K V X : Type 0} (tables : Tables S K V X) (sound : AreSound tables) 
     adds = λ across next section first taken around item items document one may note rest is.
         rest (adds_placed across section first taken around item one may is);
     opens = λ across next section first taken around other item items document one may note rest is.
-        opens_placed section first taken around other one document.groups may.opens may.follows rest is;
+        opens_stands section first taken around other document.groups may.follows is
+        (rest (opens_placed section first taken around other one may.opens may.follows is));
     enters = λ across next section first taken around inside item items document one may note rest is.
-        enters_placed across section first taken around inside item one document.groups may rest is;
+        enters_stands across section first taken around inside item one document.groups may rest is;
     leaves = λ across next section first taken outer item items document one may note rest is.
         stands_inside tables sound outer.section section (first ∷ (taken ++ one ∷ [])) document.groups is.begun
         is.around_is.inner
-        (rest (record {
-          listed = is.listed;
-          begun = begun_of tables outer.section outer.taken is.around_is.begun;
-          around_is = tt;
-        }));
+        (rest (leaves_placed section (first ∷ taken) outer is));
     ends = λ across next section first taken item items one may note is.
         ends_placed across section first taken item one may is;
     stops = λ across section first taken around item items may is. stops_placed section first taken around may is;

@@ -1,5 +1,5 @@
 pub mod Items
-pub mod Passing
 pub mod Counts
 pub mod Sound
 pub mod Order
+pub mod Passing

@@ -1,0 +1,330 @@
+-- Each item of the input up to a document's end stands in it, or may be passed over.
+use Rattle.std.proofs.Common.{◌≡◌, ℕ, ◌+◌, ◌<◌, zero, suc, length, List, [], ◌∷◌, ◌++◌, Option, Some, None, refl, sym, ap}
+use Rattle.std.proofs.Common.{◌∙◌, arith, subst, inl, inr, append-nil, append_assoc}
+use Rattle.std.specs.Prelude.{◌⊎◌, All, Any}
+use Rattle.std.proofs.lemmas.List.Elements.{All-cons, All-nil}
+use Rattle.std.proofs.lemmas.Option.{none-some}
+use Rattle.item_terms.specs.Items.{Contents, Item}
+use Rattle.frame_terms.specs.declared.document.Group.{Group}
+use Rattle.frame_terms.specs.declared.document.Open.{Open}
+use Rattle.frame_terms.specs.declared.document.Taken.{Taken}
+use Rattle.frame_terms.specs.Documents.{Document, group}
+use Rattle.frame_terms.specs.Order.{following, must_open, opener}
+use Rattle.frame_terms.specs.Sections.{lacking}
+use Rattle.frame_terms.specs.Tables.{Tables}
+use Rattle.frame_laws.proofs.Steps.{opening}
+use Rattle.table_laws.specs.Items.{IsItemIn}
+use Rattle.table_laws.specs.Passing.{EndsBefore, EndsWith, EndsWithInput, IsOfItems, IsPassedOver, OthersArePassedOver}
+use Rattle.table_laws.specs.Passing.{StandsIn}
+use Rattle.table_laws.specs.Sound.{AreSound}
+use Rattle.table_laws.proofs.Makes.{neither}
+use Rattle.table_laws.proofs.Ordering.{IsPlaced, adds_placed, closes_alone, enters_alone, enters_placed, leaves_placed}
+use Rattle.table_laws.proofs.Ordering.{opens_placed, placed_alone, stops_alone}
+use Rattle.table_laws.proofs.Parts.{first_listed}
+use Rattle.table_laws.proofs.Rules.{Rules, alone, behind, holds}
+use Rattle.table_laws.proofs.Ways.{IsEntering, LacksOpener}
+
+-- ---- some of a list
+
+module _ {A : Type 0} where
+  any_here : (P : A → Type 0) (a : A) (list : List A) → P a → Any P (a ∷ list)
+  any_here P a list is = (0, a, omega arith, refl, is)
+
+  any_there : (P : A → Type 0) (a : A) (list : List A) → Any P list → Any P (a ∷ list)
+  any_there P a list (k, b, below, e, is) = (suc k, b, omega (arith, below), e, is)
+
+  any_as : (P Q : A → Type 0) (list : List A) → ((a : A) → P a → Q a) → Any P list → Any Q list
+  any_as P Q list turns (k, b, below, e, is) = (k, b, below, e, turns b is)
+
+  -- one between others
+  any_between : (P : A → Type 0) (front : List A) (a : A) (back : List A) → P a → Any P ((front ++ a ∷ []) ++ back)
+  any_between P [] a back is = any_here P a back is
+  any_between P (other ∷ front) a back is =
+      any_there P other ((front ++ a ∷ []) ++ back) (any_between P front a back is)
+
+-- ---- what stands in a document
+
+-- a section of this name that begins with these
+record Keeps {S V : Type 0} (section : S) (taken : List (Taken V)) (whole : Group S V) : Type 0 where
+  pub named : whole.section ≡ section
+  pub more : List (Taken V)
+  pub has : whole.taken ≡ taken ++ more
+
+module _ {S V : Type 0} where
+  -- one of these sections has this name and begins with these
+  abbrev HasGroup : S → List (Taken V) → List (Group S V) → Type 0
+  HasGroup section taken groups = Any (λ whole. Keeps section taken whole) groups
+
+  abbrev HasAround : Option (Group S V) → List (Group S V) → Type 0
+  HasAround None groups = Unit {0}
+  HasAround (Some outer) groups = HasGroup outer.section outer.taken groups
+
+  has_first : (section : S) (taken more : List (Taken V)) (groups : List (Group S V))
+      → HasGroup section taken (group section (taken ++ more) ∷ groups)
+  has_first section taken more groups =
+      any_here (λ whole. Keeps section taken whole) (group section (taken ++ more)) groups
+      (record { named = refl; more = more; has = refl })
+
+  has_whole : (section : S) (taken : List (Taken V)) (groups : List (Group S V))
+      → HasGroup section taken (group section taken ∷ groups)
+  has_whole section taken groups =
+      any_here (λ whole. Keeps section taken whole) (group section taken) groups
+      (record { named = refl; more = []; has = sym (append-nil taken) })
+
+  has_behind : (section : S) (taken : List (Taken V)) (first : Group S V) (groups : List (Group S V))
+      → HasGroup section taken groups → HasGroup section taken (first ∷ groups)
+  has_behind section taken first groups has = any_there (λ whole. Keeps section taken whole) first groups has
+
+  around_behind : (around : Option (Group S V)) (first : Group S V) (groups : List (Group S V)) → HasAround around groups
+      → HasAround around (first ∷ groups)
+  around_behind None first groups has = tt
+  around_behind (Some outer) first groups has = has_behind outer.section outer.taken first groups has
+
+  -- what begins with one more begins with the others
+  has_fewer : (section : S) (taken more : List (Taken V)) (groups : List (Group S V))
+      → HasGroup section (taken ++ more) groups → HasGroup section taken groups
+  has_fewer section taken more groups has =
+      any_as (λ whole. Keeps section (taken ++ more) whole) (λ whole. Keeps section taken whole) groups
+      (λ whole keeps. record {
+        named = keeps.named;
+        more = more ++ keeps.more;
+        has = keeps.has ∙ append_assoc taken more keeps.more;
+      }) has
+
+module _ {S K V X : Type 0} (tables : Tables S K V X) where
+  -- an item that was taken into a section stands in it
+  item_stands : (section : S) (taken : List (Taken V)) (item : Item) (one : Taken V) (groups : List (Group S V))
+      → IsItemIn tables section item one → HasGroup section (taken ++ one ∷ []) groups → StandsIn tables groups item
+  item_stands section taken item one groups is has =
+      any_as (λ whole. Keeps section (taken ++ one ∷ []) whole)
+      (λ (whole : Group S V). Any (λ other. IsItemIn tables whole.section item other) whole.taken) groups
+      (λ whole keeps.
+      subst (λ (l : List (Taken V)). Any (λ other. IsItemIn tables whole.section item other) l) (sym keeps.has)
+      (any_between (λ other. IsItemIn tables whole.section item other) taken one keeps.more
+      (subst (λ (s : S). IsItemIn tables s item one) (sym keeps.named) is)))
+      has
+
+  -- one more item in front
+  further_item : (length : ℕ) (item : Item) (items : List Item) (document : Document S V)
+      → StandsIn tables document.groups item ⊎ IsPassedOver tables item → IsOfItems tables length items document
+      → IsOfItems tables length (item ∷ items) document
+  further_item length item items document is of = record {
+    own = item ∷ of.own;
+    left = of.left;
+    parts = ap (λ (l : List Item). item ∷ l) of.parts;
+    each = All-cons (λ other. StandsIn tables document.groups other ⊎ IsPassedOver tables other) item of.own is of.each;
+    ends = further_end of.ends;
+  }
+    where
+      further_end : EndsWith of.own document.used ⊎ EndsBefore of.left document.used
+          ⊎ EndsWithInput length of.left document.used
+          → EndsWith (item ∷ of.own) document.used ⊎ EndsBefore of.left document.used
+          ⊎ EndsWithInput length of.left document.used
+      further_end (inl ending) = inl (record {
+        before = item ∷ ending.before;
+        last = ending.last;
+        parts = ap (λ (l : List Item). item ∷ l) ending.parts;
+        ends = ending.ends;
+      })
+      further_end (inr other) = inr other
+
+  -- one more section in front
+  of_behind : (length : ℕ) (items : List Item) (first : Group S V) (document : Document S V)
+      → IsOfItems tables length items document → IsOfItems tables length items (behind first document)
+  of_behind length items first document of = record {
+    own = of.own;
+    left = of.left;
+    parts = of.parts;
+    each = λ k other below. either (of.each k other below);
+    ends = of.ends;
+  }
+    where
+      either : {item : Item} → StandsIn tables document.groups item ⊎ IsPassedOver tables item
+          → StandsIn tables (first ∷ document.groups) item ⊎ IsPassedOver tables item
+      either {item = item} (inl is) =
+          inl (any_there (λ (whole : Group S V). Any (λ one. IsItemIn tables whole.section item one) whole.taken) first
+          document.groups is)
+      either {item = item} (inr is) = inr is
+
+  -- what is shown of the rest of a document
+  record IsReadFrom (length : ℕ) (open_ : Open S V) (items : List Item) (document : Document S V) : Type 0 where
+    pub here : HasGroup open_.section open_.taken document.groups
+    pub around : HasAround open_.around document.groups
+    pub of : IsOfItems tables length items document
+
+  abbrev Rest : ℕ → X → Open S V → List Item → Document S V → Type 0
+  Rest length across open_ items document =
+      IsPlaced tables open_.section open_.taken open_.around → IsReadFrom length open_ items document
+
+-- ---- the items
+
+module _ {S K V X : Type 0} (tables : Tables S K V X) (sound : AreSound tables) (length : ℕ) where
+  -- each section has its opener
+  none_lacks : LacksOpener tables → ⊥
+  none_lacks lacks =
+      let once = sound.opener_once lacks.section in none-some once.row (sym lacks.has_none ∙ once.has_row)
+
+  passed : {item : Item} → IsPassedOver tables item ⊎ LacksOpener tables → IsPassedOver tables item
+  passed (inl is) = is
+  passed (inr lacks) = absurd (none_lacks lacks)
+
+  -- the document ends with the input
+  closes_read : (across : X) (section : S) (taken : List (Taken V)) (around : Option (Group S V))
+      → lacking (tables.rows section) taken ≡ None → IsPlaced tables section taken around
+      → IsReadFrom tables length (opening section taken around) [] (alone (group section taken) length)
+  closes_read across section taken around whole is = record {
+    here = has_whole section taken [];
+    around = subst (λ (a : Option (Group S V)). HasAround a (group section taken ∷ []))
+        (sym (closes_alone tables sound section taken around whole is)) tt;
+    of = record {
+      own = [];
+      left = [];
+      parts = refl;
+      each = All-nil (λ item. StandsIn tables (group section taken ∷ []) item ⊎ IsPassedOver tables item);
+      ends = inr (inr (record { none_left = refl; ends = refl }));
+    };
+  }
+
+  -- one more item of the section that is open
+  adds_read : (section : S) (taken : List (Taken V)) (around : Option (Group S V)) (item : Item) (items : List Item)
+      (document : Document S V) (one : Taken V) → IsItemIn tables section item one
+      → IsReadFrom tables length (opening section (taken ++ one ∷ []) around) items document
+      → IsReadFrom tables length (opening section taken around) (item ∷ items) document
+  adds_read section taken around item items document one is from = record {
+    here = has_fewer section taken (one ∷ []) document.groups from.here;
+    around = from.around;
+    of = further_item tables length item items document
+        (inl (item_stands tables section taken item one document.groups is from.here)) from.of;
+  }
+
+  -- the next section
+  opens_read : (section : S) (taken : List (Taken V)) (around : Option (Group S V)) (other : S) (item : Item)
+      (items : List Item) (document : Document S V) (one : Taken V) → IsItemIn tables other item one
+      → IsReadFrom tables length (opening other (one ∷ []) around) items document
+      → IsReadFrom tables length (opening section taken around) (item ∷ items) (behind (group section taken) document)
+  opens_read section taken around other item items document one is from =
+      let first = group section taken in
+      let all = behind first document in
+      record {
+        here = has_whole section taken document.groups;
+        around = around_behind around first document.groups from.around;
+        of = further_item tables length item items all
+            (inl (item_stands tables other [] item one all.groups is
+            (has_behind other (one ∷ []) first document.groups from.here)))
+            (of_behind tables length items first document from.of);
+      }
+
+  -- a section inside it
+  enters_read : (across : X) (section : S) (first : Taken V) (taken : List (Taken V)) (around : Option (Group S V))
+      (inside : S) (item : Item) (items : List Item) (document : Document S V) (one : Taken V)
+      → IsEntering tables across section (first ∷ taken) inside item one
+      → (IsPlaced tables inside (one ∷ []) (Some (group section (first ∷ (taken ++ one ∷ []))))
+      → IsReadFrom tables length (opening inside (one ∷ []) (Some (group section (first ∷ (taken ++ one ∷ [])))))
+      items document)
+      → IsPlaced tables section (first ∷ taken) around
+      → IsReadFrom tables length (opening section (first ∷ taken) around) (item ∷ items) document
+  enters_read across section first taken None inside item items document one entering rest is =
+      let from = rest (enters_placed tables sound across section first taken inside item one entering is) in
+      record {
+        here = has_fewer section (first ∷ taken) (one ∷ []) document.groups from.around;
+        around = tt;
+        of = further_item tables length item items document
+            (inl (item_stands tables section (first ∷ taken) item one document.groups
+            (inl entering.added.accepted.taken) from.around)) from.of;
+      }
+  enters_read across section first taken (Some outer) inside item items document one entering rest is =
+      absurd (none-some outer (sym
+      (enters_alone tables sound across section (first ∷ taken) (Some outer) inside item one entering is)))
+
+  -- the last item of it
+  leaves_read : (section : S) (taken : List (Taken V)) (outer : Group S V) (item : Item) (items : List Item)
+      (document : Document S V) (one : Taken V) → IsItemIn tables section item one
+      → IsReadFrom tables length (opening outer.section outer.taken None) items document
+      → IsReadFrom tables length (opening section taken (Some outer)) (item ∷ items)
+      (behind (group section (taken ++ one ∷ [])) document)
+  leaves_read section taken outer item items document one is from =
+      let first = group section (taken ++ one ∷ []) in
+      let all = behind first document in
+      record {
+        here = has_first section taken (one ∷ []) document.groups;
+        around = has_behind outer.section outer.taken first document.groups from.here;
+        of = further_item tables length item items all
+            (inl (item_stands tables section taken item one all.groups is
+            (has_whole section (taken ++ one ∷ []) document.groups)))
+            (of_behind tables length items first document from.of);
+      }
+
+  -- the document's last item
+  ends_read : (section : S) (taken : List (Taken V)) (item : Item) (items : List Item) (one : Taken V)
+      → IsItemIn tables section item one
+      → IsReadFrom tables length (opening section taken None) (item ∷ items)
+      (alone (group section (taken ++ one ∷ [])) item.after)
+  ends_read section taken item items one is =
+      let groups = group section (taken ++ one ∷ []) ∷ [] in
+      record {
+        here = has_first section taken (one ∷ []) [];
+        around = tt;
+        of = record {
+          own = item ∷ [];
+          left = items;
+          parts = refl;
+          each = All-cons (λ other. StandsIn tables groups other ⊎ IsPassedOver tables other) item []
+              (inl (item_stands tables section taken item one groups is (has_whole section (taken ++ one ∷ []) [])))
+              (All-nil (λ other. StandsIn tables groups other ⊎ IsPassedOver tables other));
+          ends = inl (record { before = []; last = item; parts = refl; ends = refl });
+        };
+      }
+
+  -- the next document's first item
+  stops_read : (section : S) (taken : List (Taken V)) (around : Option (Group S V)) (item : Item) (items : List Item)
+      → around ≡ None
+      → IsReadFrom tables length (opening section taken around) (item ∷ items) (alone (group section taken) item.place)
+  stops_read section taken around item items none = record {
+    here = has_whole section taken [];
+    around = subst (λ (a : Option (Group S V)). HasAround a (group section taken ∷ [])) (sym none) tt;
+    of = record {
+      own = [];
+      left = item ∷ items;
+      parts = refl;
+      each = All-nil (λ other. StandsIn tables (group section taken ∷ []) other ⊎ IsPassedOver tables other);
+      ends = inr (inl refl);
+    };
+  }
+
+  others_pass : Rules tables length (Rest tables length)
+  others_pass = record {
+    closes = λ across section taken around missing is.
+        closes_read across section taken around
+        (neither (lacking (tables.rows section) taken) (must_open tables (following tables section)) missing).0 is;
+    passes = λ across open_ item items document may rest is.
+        let from = rest is in
+        record {
+          here = from.here;
+          around = from.around;
+          of = further_item tables length item items document (inr (passed may)) from.of;
+        };
+    starts = λ across next item items document one may note rest is.
+        adds_read tables.first [] None item items document one (inl may.accepted.taken)
+        (rest (placed_alone tables sound tables.first one is.listed may.opens));
+    adds = λ across next section first taken around item items document one may note rest is.
+        adds_read section (first ∷ taken) around item items document one (inl may.accepted.taken)
+        (rest (adds_placed tables sound across section first taken around item one may is));
+    opens = λ across next section first taken around other item items document one may note rest is.
+        opens_read section (first ∷ taken) around other item items document one (inl may.accepted.taken)
+        (rest (opens_placed tables sound section first taken around other one may.opens may.follows is));
+    enters = λ across next section first taken around inside item items document one may note rest is.
+        enters_read across section first taken around inside item items document one may rest is;
+    leaves = λ across next section first taken outer item items document one may note rest is.
+        leaves_read section (first ∷ taken) outer item items document one (inl may.accepted.taken)
+        (rest (leaves_placed tables sound section (first ∷ taken) outer is));
+    ends = λ across next section first taken item items one may note is.
+        ends_read section (first ∷ taken) item items one (inl may.accepted.taken);
+    stops = λ across section first taken around item items may is.
+        stops_read section (first ∷ taken) around item items
+        (stops_alone tables sound section (first ∷ taken) around may is);
+  }
+
+pub pass_others : {S K V X : Type 0} (tables : Tables S K V X) → OthersArePassedOver tables
+pass_others tables sound length contents document e =
+    (holds tables length (Rest tables length) (others_pass tables sound length) contents document e
+    (record { listed = first_listed tables sound; begun = tt; around_is = tt })).of
