@@ -8,3 +8,4 @@ pub mod Lists
 pub mod Parts
 pub mod Ordering
 pub mod Others
+pub mod SoundKinds

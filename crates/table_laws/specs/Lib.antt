@@ -3,3 +3,4 @@ pub mod Counts
 pub mod Sound
 pub mod Order
 pub mod Passing
+pub mod Kinds

@@ -2,6 +2,7 @@
 ghost use Rattle.frame_terms.specs.Tables.{Tables};
 ghost use Rattle.table_laws.specs.Counts.{RowsStandAsOften};
 ghost use Rattle.table_laws.specs.Items.{ItemsAreSaid};
+ghost use Rattle.table_laws.specs.Kinds.{KindsAreSound};
 ghost use Rattle.table_laws.specs.Order.{SectionsStandInOrder};
 ghost use Rattle.table_laws.specs.Passing.{OthersArePassedOver};
 
@@ -24,4 +25,9 @@ pub fn sections_stand_in_order<S, K, V, X>()
 /// ignores, where its tables are sound.
 pub fn others_are_passed_over<S, K, V, X>()
     ensures { (tables : Tables S K V X) → OthersArePassedOver tables }
+{}
+
+/// A law: the tables of certificates, votes, consensuses of either flavour and server descriptors are sound.
+pub fn kinds_are_sound()
+    ensures { KindsAreSound }
 {}
