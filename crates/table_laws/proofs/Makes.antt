@@ -74,12 +74,10 @@ module _ {S K V X : Type 0} (tables : Tables S K V X) (across : X) (item : Item)
           row = row;
           known = known;
           has_row = has_row;
-          remembered = across;
           value = value;
           says = says;
           stands = refl;
         };
-        now = refl;
         once = once;
       }) refl
 

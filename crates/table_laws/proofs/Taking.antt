@@ -24,21 +24,23 @@ module _ {S K V X : Type 0} (tables : Tables S K V X) where
     are.2 ++ more,
     ap (λ (l : List Item). l ++ more) are.3 ∙ append_assoc are.0 (are.1 ∷ are.2) more,
     are.4,
-    items_of_more section are.2 more taken are.5,
+    are.5,
+    items_of_more section are.2 more taken are.6,
   )
 
   -- and with one more
-  one_more_item : (section : S) (items : List Item) (item : Item) (taken : List (Taken V)) (one : Taken V)
-      → AreItemsIn tables section items taken → IsItemIn tables section item one
+  one_more_item : (remembered : X) (section : S) (items : List Item) (item : Item) (taken : List (Taken V)) (one : Taken V)
+      → AreItemsIn tables section items taken → IsItemIn tables remembered section item one
       → AreItemsIn tables section (items ++ item ∷ []) (taken ++ one ∷ [])
-  one_more_item section items item [] one are is = (items, item, [], refl, is, tt)
-  one_more_item section items item (other ∷ taken) one are is = (
+  one_more_item remembered section items item [] one are is = (items, item, [], refl, remembered, is, tt)
+  one_more_item remembered section items item (other ∷ taken) one are is = (
     are.0,
     are.1,
     are.2 ++ item ∷ [],
     ap (λ (l : List Item). l ++ item ∷ []) are.3 ∙ append_assoc are.0 (are.1 ∷ are.2) (item ∷ []),
     are.4,
-    one_more_item section are.2 item taken one are.5 is,
+    are.5,
+    one_more_item remembered section are.2 item taken one are.6 is,
   )
 
   -- what stands in the section around
@@ -90,9 +92,9 @@ module _ {S K V X : Type 0} (tables : Tables S K V X) where
       (All-nil (λ (group : Group S V). AreItemsIn tables group.section all group.taken))
 
   -- an item that begins a section
-  first_here : (section : S) (before : List Item) (item : Item) (one : Taken V) → IsItemIn tables section item one
+  first_here : (remembered : X) (section : S) (before : List Item) (item : Item) (one : Taken V) → IsItemIn tables remembered section item one
       → AreItemsIn tables section (before ++ item ∷ []) (one ∷ [])
-  first_here section before item one is = one_more_item section before item [] one tt is
+  first_here remembered section before item one is = one_more_item remembered section before item [] one tt is
 
   items_stand : (length : ℕ) (all : List Item) → Rules tables length (Rest all)
   items_stand length all = record {
@@ -105,13 +107,13 @@ module _ {S K V X : Type 0} (tables : Tables S K V X) where
     });
     starts = λ across next item items document one may note rest before are. rest (before ++ item ∷ []) (record {
       parts = further all before item items are.parts;
-      here = first_here tables.first before item one (inl may.accepted.taken);
+      here = first_here across tables.first before item one (inl may.accepted.taken);
       around = tt;
     });
     adds = λ across next section first taken around item items document one may note rest before are.
         rest (before ++ item ∷ []) (record {
           parts = further all before item items are.parts;
-          here = one_more_item section before item (first ∷ taken) one are.here (inl may.accepted.taken);
+          here = one_more_item across section before item (first ∷ taken) one are.here (inl may.accepted.taken);
           around = around_more before item around are.around;
         });
     opens = λ across next section first taken around other item items document one may note rest before are.
@@ -119,21 +121,21 @@ module _ {S K V X : Type 0} (tables : Tables S K V X) where
         (in_all section all before (item ∷ items) (first ∷ taken) are.parts are.here)
         (rest (before ++ item ∷ []) (record {
           parts = further all before item items are.parts;
-          here = first_here other before item one (inl may.accepted.taken);
+          here = first_here across other before item one (inl may.accepted.taken);
           around = around_more before item around are.around;
         }));
     enters = λ across next section first taken around inside item items document one may note rest before are.
         rest (before ++ item ∷ []) (record {
           parts = further all before item items are.parts;
-          here = first_here inside before item one
+          here = first_here across inside before item one
               (inr (record { around = section; begins = may.begins; taken = may.added.accepted.taken }));
-          around = one_more_item section before item (first ∷ taken) one are.here (inl may.added.accepted.taken);
+          around = one_more_item across section before item (first ∷ taken) one are.here (inl may.added.accepted.taken);
         });
     leaves = λ across next section first taken outer item items document one may note rest before are.
         in_front all section (first ∷ (taken ++ one ∷ [])) document.groups
         (in_all section all (before ++ item ∷ []) items (first ∷ (taken ++ one ∷ []))
         (further all before item items are.parts)
-        (one_more_item section before item (first ∷ taken) one are.here (inl may.accepted.taken)))
+        (one_more_item across section before item (first ∷ taken) one are.here (inl may.accepted.taken)))
         (rest (before ++ item ∷ []) (record {
           parts = further all before item items are.parts;
           here = items_of_more outer.section before (item ∷ []) outer.taken are.around;
@@ -143,7 +145,7 @@ module _ {S K V X : Type 0} (tables : Tables S K V X) where
         in_alone all section (first ∷ (taken ++ one ∷ []))
         (in_all section all (before ++ item ∷ []) items (first ∷ (taken ++ one ∷ []))
         (further all before item items are.parts)
-        (one_more_item section before item (first ∷ taken) one are.here (inl may.accepted.taken)));
+        (one_more_item across section before item (first ∷ taken) one are.here (inl may.accepted.taken)));
     stops = λ across section first taken around item items may before are.
         in_alone all section (first ∷ taken)
         (in_all section all before (item ∷ items) (first ∷ taken) are.parts are.here);

@@ -20,8 +20,7 @@ use Rattle.table_laws.specs.Passing.{IsPassedOver}
 -- an item that its section takes behind these
 pub record IsAccepted {S K V X : Type 0} (tables : Tables S K V X) (across : X) (section : S) (before : List (Taken V))
     (item : Item) (one : Taken V) : Type 0 where
-  pub taken : IsItemOf tables section item one
-  pub now : taken.remembered ≡ across
+  pub taken : IsItemOf tables across section item one
   pub once : (not (is_many taken.row.count) && stands taken.row.keyword before) ≡ false
 
 -- the first item of a document
