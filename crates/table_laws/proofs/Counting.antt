@@ -3,7 +3,7 @@ use Rattle.std.proofs.Common.{◌≡◌, ℕ, ◌+◌, ◌≤◌, Bool, true, fa
 use Rattle.std.proofs.Common.{◌∙◌, arith, subst}
 use Rattle.std.specs.Prelude.{All, not, ◌&&◌}
 use Rattle.std.proofs.lemmas.List.Elements.{All-cons, All-nil}
-use Rattle.item_terms.specs.Items.{Contents, Item}
+use Rattle.item_terms.specs.Items.{Item}
 use Rattle.frame_terms.specs.declared.document.Group.{Group}
 use Rattle.frame_terms.specs.declared.document.Open.{Open}
 use Rattle.frame_terms.specs.declared.document.Taken.{Taken}
@@ -13,13 +13,13 @@ use Rattle.frame_terms.specs.Documents.{Document, group}
 use Rattle.frame_terms.specs.Keywords.{same}
 use Rattle.frame_terms.specs.Order.{following, must_open}
 use Rattle.frame_terms.specs.Rows.{is_many, is_one}
-use Rattle.frame_terms.specs.Sections.{lacking, lacking_but, row_of, stands}
+use Rattle.frame_terms.specs.Sections.{lacking, row_of, stands}
 use Rattle.frame_terms.specs.Tables.{Tables}
 use Rattle.frame_laws.proofs.KnownWords.{same-sym, same-through}
-use Rattle.frame_laws.proofs.Steps.{opening}
 use Rattle.table_laws.specs.Counts.{RowsStand, RowsStandAsOften, times}
-use Rattle.table_laws.proofs.Makes.{neither, row_of-one, row_of-same}
-use Rattle.table_laws.proofs.Rules.{Rules, alone, behind, holds}
+use Rattle.table_laws.proofs.Makes.{neither}
+use Rattle.table_laws.proofs.Openers.{row_of-one, row_of-same}
+use Rattle.table_laws.proofs.Rules.{Rules, holds}
 use Rattle.table_laws.proofs.Times.{is_count, none_stands, once, row_fails, some_stands, times-more, times-same}
 use Rattle.table_laws.proofs.Ways.{IsAccepted, IsEnding}
 

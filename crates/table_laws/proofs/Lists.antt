@@ -1,7 +1,7 @@
 -- The sections of a table that follow one another.
-use Rattle.std.proofs.Common.{◌≡◌, ℕ, ◌+◌, Bool, true, false, List, [], ◌∷◌, ◌++◌, Option, Some, None, refl, suc, sym, ap, subst}
-use Rattle.std.proofs.Common.{◌∙◌, arith, append_assoc}
-use Rattle.std.specs.Prelude.{cond, drop, map, not, replicate, if◌then◌else◌}
+use Rattle.std.proofs.Common.{◌≡◌, ℕ, ◌+◌, Bool, true, false, List, [], ◌∷◌, ◌++◌, Some, None, refl, suc, ap, subst}
+use Rattle.std.proofs.Common.{◌∙◌, arith}
+use Rattle.std.specs.Prelude.{cond, drop, map, not, if◌then◌else◌}
 use Rattle.std.specs.List.{AllByRecursion, IsDistinct}
 use Rattle.frame_terms.specs.declared.keyword.Keyword.{Keyword}
 use Rattle.frame_terms.specs.declared.section.Again.{Again}
@@ -102,9 +102,13 @@ module _ {S K V X : Type 0} (tables : Tables S K V X) where
   pub in_order_skipped : (skipped table standing : List S) → AllRepeat skipped → AreInOrder tables table standing
       → AreInOrder tables (skipped ++ table) standing
   in_order_skipped [] table standing repeat in_order = in_order
-  in_order_skipped (section ∷ skipped) table standing repeat in_order =
-      (0, standing, refl, may_none ((tables.shape section).again) repeat.0,
-      in_order_skipped skipped table standing repeat.1 in_order)
+  in_order_skipped (section ∷ skipped) table standing repeat in_order = (
+    0,
+    standing,
+    refl,
+    may_none ((tables.shape section).again) repeat.0,
+    in_order_skipped skipped table standing repeat.1 in_order,
+  )
 
   -- nothing stands of sections that need not
   pub in_order_none : (table : List S) → must_open tables table ≡ None → AreInOrder tables table []

@@ -1,22 +1,21 @@
 -- What an item makes is one of the ways in which it may stand.
-use Rattle.std.proofs.Common.{◌≡◌, ℕ, Bool, true, false, List, [], ◌∷◌, Option, Some, None, Result, Ok, Err, refl, sym, ap}
+use Rattle.std.proofs.Common.{◌≡◌, ℕ, Bool, true, false, List, [], Option, Some, None, Result, Ok, Err, refl, sym, ap}
 use Rattle.std.proofs.Common.{◌∙◌, inl, inr, subst}
-use Rattle.std.specs.Prelude.{◌⊎◌, IfSome, not, ◌&&◌, if◌then◌else◌}
+use Rattle.std.specs.Prelude.{IfSome, not, ◌&&◌, if◌then◌else◌}
 use Rattle.item_terms.specs.Items.{Item}
 use Rattle.frame_terms.specs.declared.document.Group.{Group}
 use Rattle.frame_terms.specs.declared.document.Made.{Made}
-use Rattle.frame_terms.specs.declared.document.Made.TheVariants.{Passes, Pushes, Opens, Enters, Leaves, Ends, Stops}
+use Rattle.frame_terms.specs.declared.document.Made.TheVariants.{Passes, Pushes, Opens}
 use Rattle.frame_terms.specs.declared.document.Open.{Open}
 use Rattle.frame_terms.specs.declared.document.Taken.{Taken}
 use Rattle.frame_terms.specs.declared.fault.FrameFault.{FrameFault}
-use Rattle.frame_terms.specs.declared.fault.FrameReason.{FrameReason}
-use Rattle.frame_terms.specs.declared.fault.FrameReason.TheVariants.{Missing, Order, Twice}
+use Rattle.frame_terms.specs.declared.fault.FrameReason.TheVariants.{Missing, Twice}
 use Rattle.frame_terms.specs.declared.fault.ReadRefusal.{ReadRefusal}
 use Rattle.frame_terms.specs.declared.keyword.Keyword.{Keyword}
 use Rattle.frame_terms.specs.declared.row.Row.{Row}
 use Rattle.frame_terms.specs.declared.section.Again.{Again}
 use Rattle.frame_terms.specs.declared.section.Again.TheVariants as again
-use Rattle.frame_terms.specs.Decisions.{beginning_reason, beyond_inner, first_item, made_by, made_first, made_later}
+use Rattle.frame_terms.specs.Decisions.{beyond_inner, first_item, made_first, made_later}
 use Rattle.frame_terms.specs.Decisions.{unless_fault, unless_refused}
 use Rattle.frame_terms.specs.Keywords.{same, word_of}
 use Rattle.frame_terms.specs.Order.{begins_document, first_of, following, inner, is_keyword, knows, opened_by, opener}
@@ -30,6 +29,7 @@ use Rattle.frame_terms.specs.Tables.{Tables}
 use Rattle.frame_laws.proofs.KnownWords.{same-sym, same-through}
 use Rattle.frame_laws.proofs.Steps.{opening}
 use Rattle.table_laws.proofs.Ways.{FirstMay, IsAccepted, IsAdded, IsEnding, LacksOpener, LaterMay}
+use Rattle.table_laws.proofs.Openers.{opened_same, row_of-one, row_of-same}
 
 -- ---- of an answer
 
@@ -96,44 +96,6 @@ module _ {S K V X : Type 0} (tables : Tables S K V X) (across : X) (item : Item)
       by_test false once =
           makes_of_value section before keyword row make (tables.value_of across row.kind item) known has_row once refl
           may
-
--- ---- the sections that a keyword opens
-
-module _ {S K V X : Type 0} (tables : Tables S K V X) where
-  -- of a list of sections the one that a keyword opens has it as its opener
-  opened_same : (keyword : Keyword) (list : List S) (section : S) → opened_by tables keyword list ≡ Some section
-      → same (opener tables section) keyword ≡ true
-  opened_same keyword [] section e = absurd (cc (e))
-  opened_same keyword (other ∷ list) section e =
-      by_test (same (opener tables other) keyword) refl (opened_same keyword list section) e
-    where
-      by_test : (test : Bool) → same (opener tables other) keyword ≡ test
-          → (opened_by tables keyword list ≡ Some section → same (opener tables section) keyword ≡ true)
-          → (if test then Some other else opened_by tables keyword list) ≡ Some section
-          → same (opener tables section) keyword ≡ true
-      by_test true is others e = cc (is, e)
-      by_test false is others e = others e
-
--- the row of a keyword has that keyword
-pub row_of-same : {K : Type 0} (rows : List (Row K)) (keyword : Keyword) (row : Row K) → row_of rows keyword ≡ Some row
-    → same row.keyword keyword ≡ true
-row_of-same [] keyword row e = absurd (cc (e))
-row_of-same (other ∷ rows) keyword row e =
-    by_test (same other.keyword keyword) refl (row_of-same rows keyword row) e
-  where
-    by_test : (test : Bool) → same other.keyword keyword ≡ test
-        → (row_of rows keyword ≡ Some row → same row.keyword keyword ≡ true)
-        → (if test then Some other else row_of rows keyword) ≡ Some row → same row.keyword keyword ≡ true
-    by_test true is others e = cc (is, e)
-    by_test false is others e = others e
-
--- keywords that are one have one row
-pub row_of-one : {K : Type 0} (rows : List (Row K)) (a b : Keyword) → same a b ≡ true → row_of rows a ≡ row_of rows b
-row_of-one [] a b is = refl
-row_of-one (row ∷ rows) a b is =
-    let one : same row.keyword a ≡ same row.keyword b = same-sym row.keyword a ∙ same-through a b row.keyword is ∙ same-sym b row.keyword in
-    ap (λ (t : Bool). if t then Some row else row_of rows a) one
-    ∙ ap (λ (r : Option (Row _)). if same row.keyword b then Some row else r) (row_of-one rows a b is)
 
 -- ---- the first item
 

@@ -1,15 +1,14 @@
 -- Each item of the input up to a document's end stands in it, or may be passed over.
-use Rattle.std.proofs.Common.{◌≡◌, ℕ, ◌+◌, ◌<◌, zero, suc, length, List, [], ◌∷◌, ◌++◌, Option, Some, None, Ok, refl, sym, ap}
-use Rattle.std.proofs.Common.{◌∙◌, arith, subst, inl, inr, append-nil, append_assoc}
-use Rattle.std.specs.Prelude.{◌⊎◌, All, Any}
-use Rattle.std.proofs.lemmas.List.Elements.{All-cons, All-nil}
+use Rattle.std.proofs.Common.{◌≡◌, ℕ, length, List, [], ◌∷◌, ◌++◌, Option, Some, None, Ok, refl, sym, ap}
+use Rattle.std.proofs.Common.{◌∙◌, subst, inl, inr}
+use Rattle.std.specs.Prelude.{◌⊎◌, Any}
 use Rattle.std.proofs.lemmas.Option.{none-some}
-use Rattle.item_terms.specs.Items.{Contents, Item}
+use Rattle.item_terms.specs.Items.{Item}
 use Rattle.frame_terms.specs.declared.document.Group.{Group}
 use Rattle.frame_terms.specs.declared.document.Open.{Open}
 use Rattle.frame_terms.specs.declared.document.Taken.{Taken}
 use Rattle.frame_terms.specs.Documents.{Document, group}
-use Rattle.frame_terms.specs.Order.{following, must_open, opener}
+use Rattle.frame_terms.specs.Order.{following, must_open}
 use Rattle.frame_terms.specs.Sections.{lacking}
 use Rattle.frame_terms.specs.Tables.{Tables}
 use Rattle.frame_laws.proofs.Steps.{opening}
@@ -18,78 +17,13 @@ use Rattle.table_laws.specs.Passing.{EachStandsOrPasses, EndsBefore, EndsWith, E
 use Rattle.table_laws.specs.Passing.{OthersArePassedOver, StandsIn}
 use Rattle.table_laws.specs.Sound.{AreSound}
 use Rattle.table_laws.proofs.Makes.{neither}
-use Rattle.table_laws.proofs.Ordering.{IsPlaced, adds_placed, closes_alone, enters_alone, enters_placed, leaves_placed}
-use Rattle.table_laws.proofs.Ordering.{opens_placed, placed_alone, stops_alone}
+use Rattle.table_laws.proofs.Placing.{IsPlaced, adds_placed, closes_alone, enters_alone, enters_placed, leaves_placed}
+use Rattle.table_laws.proofs.Placing.{opens_placed, placed_alone, stops_alone}
 use Rattle.table_laws.proofs.Parts.{first_listed}
 use Rattle.table_laws.proofs.Rules.{Rules, alone, behind, holds}
 use Rattle.table_laws.proofs.Ways.{IsEntering, LacksOpener}
-
--- ---- some of a list
-
-module _ {A : Type 0} where
-  any_here : (P : A → Type 0) (a : A) (list : List A) → P a → Any P (a ∷ list)
-  any_here P a list is = (0, a, omega arith, refl, is)
-
-  any_there : (P : A → Type 0) (a : A) (list : List A) → Any P list → Any P (a ∷ list)
-  any_there P a list (k, b, below, e, is) = (suc k, b, omega (arith, below), e, is)
-
-  any_as : (P Q : A → Type 0) (list : List A) → ((a : A) → P a → Q a) → Any P list → Any Q list
-  any_as P Q list turns (k, b, below, e, is) = (k, b, below, e, turns b is)
-
-  -- one between others
-  any_between : (P : A → Type 0) (front : List A) (a : A) (back : List A) → P a → Any P ((front ++ a ∷ []) ++ back)
-  any_between P [] a back is = any_here P a back is
-  any_between P (other ∷ front) a back is =
-      any_there P other ((front ++ a ∷ []) ++ back) (any_between P front a back is)
-
--- ---- what stands in a document
-
--- a section of this name that begins with these
-record Keeps {S V : Type 0} (section : S) (taken : List (Taken V)) (whole : Group S V) : Type 0 where
-  pub named : whole.section ≡ section
-  pub more : List (Taken V)
-  pub has : whole.taken ≡ taken ++ more
-
-module _ {S V : Type 0} where
-  -- one of these sections has this name and begins with these
-  abbrev HasGroup : S → List (Taken V) → List (Group S V) → Type 0
-  HasGroup section taken groups = Any (λ whole. Keeps section taken whole) groups
-
-  abbrev HasAround : Option (Group S V) → List (Group S V) → Type 0
-  HasAround None groups = Unit {0}
-  HasAround (Some outer) groups = HasGroup outer.section outer.taken groups
-
-  has_first : (section : S) (taken more : List (Taken V)) (groups : List (Group S V))
-      → HasGroup section taken (group section (taken ++ more) ∷ groups)
-  has_first section taken more groups =
-      any_here (λ whole. Keeps section taken whole) (group section (taken ++ more)) groups
-      (record { named = refl; more = more; has = refl })
-
-  has_whole : (section : S) (taken : List (Taken V)) (groups : List (Group S V))
-      → HasGroup section taken (group section taken ∷ groups)
-  has_whole section taken groups =
-      any_here (λ whole. Keeps section taken whole) (group section taken) groups
-      (record { named = refl; more = []; has = sym (append-nil taken) })
-
-  has_behind : (section : S) (taken : List (Taken V)) (first : Group S V) (groups : List (Group S V))
-      → HasGroup section taken groups → HasGroup section taken (first ∷ groups)
-  has_behind section taken first groups has = any_there (λ whole. Keeps section taken whole) first groups has
-
-  around_behind : (around : Option (Group S V)) (first : Group S V) (groups : List (Group S V)) → HasAround around groups
-      → HasAround around (first ∷ groups)
-  around_behind None first groups has = tt
-  around_behind (Some outer) first groups has = has_behind outer.section outer.taken first groups has
-
-  -- what begins with one more begins with the others
-  has_fewer : (section : S) (taken more : List (Taken V)) (groups : List (Group S V))
-      → HasGroup section (taken ++ more) groups → HasGroup section taken groups
-  has_fewer section taken more groups has =
-      any_as (λ whole. Keeps section (taken ++ more) whole) (λ whole. Keeps section taken whole) groups
-      (λ whole keeps. record {
-        named = keeps.named;
-        more = more ++ keeps.more;
-        has = keeps.has ∙ append_assoc taken more keeps.more;
-      }) has
+use Rattle.table_laws.proofs.Kept.{HasAround, HasGroup, Keeps, any_as, any_between, any_there, around_behind, has_behind}
+use Rattle.table_laws.proofs.Kept.{has_fewer, has_first, has_whole}
 
 module _ {S K V X : Type 0} (tables : Tables S K V X) where
   -- an item that was taken into a section stands in it
@@ -113,11 +47,13 @@ module _ {S K V X : Type 0} (tables : Tables S K V X) where
   each_behind first groups across [] each = tt
   each_behind first groups across (item ∷ items) (inl (is, each)) = inl (is, each_behind first groups across items each)
   each_behind first groups across (item ∷ items) (inr (next, is, each)) =
-      inr (next,
-      any_there (λ (whole : Group S V).
-      Any (λ one. IsItemIn tables across whole.section item one × (tables.note across one ≡ Ok next)) whole.taken) first
-      groups is,
-      each_behind first groups next items each)
+      inr (
+        next,
+        any_there (λ (whole : Group S V).
+            Any (λ one. IsItemIn tables across whole.section item one × (tables.note across one ≡ Ok next)) whole.taken) first
+            groups is,
+        each_behind first groups next items each,
+      )
 
   -- an item of which this is so, in front of others
   abbrev IsFurther : X → X → Item → List (Group S V) → Type 0
@@ -291,9 +227,12 @@ module _ {S K V X : Type 0} (tables : Tables S K V X) (sound : AreSound tables) 
           own = item ∷ [];
           left = items;
           parts = refl;
-          each = inr (next,
-              item_stands tables across next section taken item one groups is note
-              (has_whole section (taken ++ one ∷ []) []), tt);
+          each = inr (
+            next,
+            item_stands tables across next section taken item one groups is note
+                (has_whole section (taken ++ one ∷ []) []),
+            tt,
+          );
           ends = inl (record { before = []; last = item; parts = refl; ends = refl });
         };
       }

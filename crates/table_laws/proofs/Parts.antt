@@ -1,16 +1,14 @@
 -- A document from a section that is open on, and how one more section changes it.
-use Rattle.std.proofs.Common.{◌≡◌, ℕ, zero, suc, true, List, [], ◌∷◌, ◌++◌, Option, Some, None, refl, sym, ap, subst}
+use Rattle.std.proofs.Common.{◌≡◌, ℕ, suc, List, [], ◌∷◌, ◌++◌, Some, refl, sym, ap, subst}
 use Rattle.std.proofs.Common.{◌∙◌, append_assoc}
 use Rattle.std.specs.Prelude.{All, map, replicate}
-use Rattle.std.specs.List.{IsDistinct}
 use Rattle.std.proofs.lemmas.List.Elements.{All-cons, All-head, All-nil, All-tail}
 use Rattle.frame_terms.specs.declared.document.Group.{Group}
 use Rattle.frame_terms.specs.declared.document.Taken.{Taken}
 use Rattle.frame_terms.specs.declared.section.Again.{Again}
 use Rattle.frame_terms.specs.declared.section.Again.TheVariants as again
 use Rattle.frame_terms.specs.Documents.{group}
-use Rattle.frame_terms.specs.Keywords.{same}
-use Rattle.frame_terms.specs.Order.{following, opener}
+use Rattle.frame_terms.specs.Order.{following}
 use Rattle.frame_terms.specs.Tables.{Tables}
 use Rattle.table_laws.specs.Order.{AreInOrder, BeginsWithOpener, HasInside, IsInOrder, MayStand, Part, sections_of}
 use Rattle.table_laws.specs.Sound.{AreSound}
@@ -39,18 +37,18 @@ module _ {S V : Type 0} where
 
 -- a document's sections from one that is open on: that one, more of its name, and those that follow it
 pub record StandsFrom {S K V X : Type 0} (tables : Tables S K V X) (section : S) (groups : List (Group S V)) : Type 0
-    where
-  pub part : Part S V
-  pub parts : List (Part S V)
-  pub named : part.whole.section ≡ section
-  pub are : groups ≡ sections_of (part ∷ parts)
-  pub number : ℕ
-  pub others : List S
-  pub standing : names parts ≡ replicate number section ++ others
-  pub may : MayMore ((tables.shape section).again) number
-  pub in_order : AreInOrder tables (following tables section) others
-  pub inside : All (HasInside tables) (part ∷ parts)
-  pub begin : All (λ (group : Group S V). BeginsWithOpener tables group.section group.taken) groups
+  where
+    pub part : Part S V
+    pub parts : List (Part S V)
+    pub named : part.whole.section ≡ section
+    pub are : groups ≡ sections_of (part ∷ parts)
+    pub number : ℕ
+    pub others : List S
+    pub standing : names parts ≡ replicate number section ++ others
+    pub may : MayMore ((tables.shape section).again) number
+    pub in_order : AreInOrder tables (following tables section) others
+    pub inside : All (HasInside tables) (part ∷ parts)
+    pub begin : All (λ (group : Group S V). BeginsWithOpener tables group.section group.taken) groups
 
 -- a section is one of those of a document
 pub record IsListed {S K V X : Type 0} (tables : Tables S K V X) (section : S) : Type 0 where

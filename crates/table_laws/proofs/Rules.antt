@@ -1,6 +1,6 @@
 -- What is shown of a document item by item holds of what `document_of` gives.
 use Rattle.std.proofs.Common.{◌≡◌, ℕ, List, [], ◌∷◌, ◌++◌, Option, Some, None, Result, Ok, Err, refl, sym, subst}
-use Rattle.std.proofs.Common.{inl, inr}
+use Rattle.std.proofs.Common.{inr}
 use Rattle.std.specs.Prelude.{◌⊎◌}
 use Rattle.item_terms.specs.Items.{Contents, Item}
 use Rattle.item_terms.specs.declared.fault.DocFault.{DocFault}
@@ -12,9 +12,9 @@ use Rattle.frame_terms.specs.declared.document.Taken.{Taken}
 use Rattle.frame_terms.specs.declared.fault.FrameFault.{FrameFault}
 use Rattle.frame_terms.specs.declared.fault.ReadRefusal.{ReadRefusal}
 use Rattle.frame_terms.specs.declared.keyword.Keyword.{Keyword}
-use Rattle.frame_terms.specs.Decisions.{made_by, made_first, made_later}
+use Rattle.frame_terms.specs.Decisions.{made_first, made_later}
 use Rattle.frame_terms.specs.Documents.{Document, after_made, after_noted, at_end, closed_at, document_of, go_on, group}
-use Rattle.frame_terms.specs.Documents.{missing_at_end, note_of_made, onto, read_items, start}
+use Rattle.frame_terms.specs.Documents.{missing_at_end, onto, read_items, start}
 use Rattle.frame_terms.specs.Keywords.{word_of}
 use Rattle.frame_terms.specs.Tables.{Tables}
 use Rattle.frame_laws.proofs.Steps.{opening}

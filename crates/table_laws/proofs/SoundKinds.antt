@@ -1,5 +1,5 @@
 -- The tables of each kind of document are sound.
-use Rattle.std.proofs.Common.{◌≡◌, true, false, List, [], ◌∷◌, Option, Some, None, refl, sym, ap, subst}
+use Rattle.std.proofs.Common.{◌≡◌, true, [], ◌∷◌, Option, Some, None, refl, ap, subst}
 use Rattle.std.proofs.lemmas.Bool.{false≢true}
 use Rattle.std.proofs.lemmas.Option.{none-some}
 use Rattle.std.specs.List.{IsDistinct}
@@ -8,7 +8,6 @@ use Rattle.frame_terms.specs.declared.row.Count.TheVariants.{One}
 use Rattle.frame_terms.specs.Keywords.{same}
 use Rattle.frame_terms.specs.Order.{following, opener}
 use Rattle.frame_terms.specs.Rows.{row}
-use Rattle.frame_terms.specs.Tables.{Tables}
 use Rattle.authority_certs.specs.Tables.{cert_tables}
 use Rattle.authority_certs.specs.declared.frame.CertKind.TheVariants as cert
 use Rattle.consensus_frame.specs.declared.rows.ConsensusKind.TheVariants as kind

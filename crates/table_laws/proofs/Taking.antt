@@ -1,17 +1,16 @@
 -- Each item of each section of a document is one of the input's, in its order.
 use Rattle.std.proofs.Common.{◌≡◌, ℕ, List, [], ◌∷◌, ◌++◌, Option, Some, None, refl, sym, ap, subst}
 use Rattle.std.proofs.Common.{◌∙◌, append_assoc, inl, inr}
-use Rattle.std.specs.Prelude.{◌⊎◌, All}
+use Rattle.std.specs.Prelude.{All}
 use Rattle.std.proofs.lemmas.List.Elements.{All-cons, All-nil}
-use Rattle.item_terms.specs.Items.{Contents, Item}
+use Rattle.item_terms.specs.Items.{Item}
 use Rattle.frame_terms.specs.declared.document.Group.{Group}
 use Rattle.frame_terms.specs.declared.document.Open.{Open}
 use Rattle.frame_terms.specs.declared.document.Taken.{Taken}
 use Rattle.frame_terms.specs.Documents.{Document, group}
 use Rattle.frame_terms.specs.Tables.{Tables}
-use Rattle.frame_laws.proofs.Steps.{opening}
-use Rattle.table_laws.specs.Items.{AreItemsIn, IsItemAround, IsItemIn, ItemsAreSaid}
-use Rattle.table_laws.proofs.Rules.{Rules, alone, behind, holds}
+use Rattle.table_laws.specs.Items.{AreItemsIn, IsItemIn, ItemsAreSaid}
+use Rattle.table_laws.proofs.Rules.{Rules, holds}
 
 module _ {S K V X : Type 0} (tables : Tables S K V X) where
   -- items are items of more

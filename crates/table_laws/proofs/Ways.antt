@@ -1,5 +1,5 @@
 -- The ways in which an item may stand in a document: what it may make, and why.
-use Rattle.std.proofs.Common.{◌≡◌, Bool, true, false, List, [], Option, Some, None}
+use Rattle.std.proofs.Common.{◌≡◌, true, false, List, [], Some, None}
 use Rattle.std.specs.Prelude.{◌⊎◌, not, ◌&&◌}
 use Rattle.item_terms.specs.Items.{Item}
 use Rattle.frame_terms.specs.declared.document.Group.{Group}
@@ -25,9 +25,9 @@ pub record IsAccepted {S K V X : Type 0} (tables : Tables S K V X) (across : X) 
 
 -- the first item of a document
 pub record IsBeginning {S K V X : Type 0} (tables : Tables S K V X) (across : X) (item : Item) (one : Taken V) : Type 0
-    where
-  pub accepted : IsAccepted tables across tables.first [] item one
-  pub opens : same (opener tables tables.first) one.keyword ≡ true
+  where
+    pub accepted : IsAccepted tables across tables.first [] item one
+    pub opens : same (opener tables tables.first) one.keyword ≡ true
 
 -- one more item of the section that is open, which does not end it
 pub record IsAdded {S K V X : Type 0} (tables : Tables S K V X) (across : X) (section : S) (before : List (Taken V))
@@ -69,9 +69,9 @@ pub record IsEntering {S K V X : Type 0} (tables : Tables S K V X) (across : X) 
 
 -- the next document begins, where all rows of the section that is open stand
 pub record IsStopping {S K V X : Type 0} (tables : Tables S K V X) (section : S) (before : List (Taken V)) : Type 0
-    where
-  pub whole : lacking (tables.rows section) before ≡ None
-  pub stops : (tables.shape section).again ≡ again.Document
+  where
+    pub whole : lacking (tables.rows section) before ≡ None
+    pub stops : (tables.shape section).again ≡ again.Document
 
 -- a section whose opener has no row there
 pub record LacksOpener {S K V X : Type 0} (tables : Tables S K V X) : Type 0 where

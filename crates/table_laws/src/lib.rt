@@ -4,4 +4,7 @@
 
 mod laws;
 
-pub use laws::{items_are_said, kinds_are_sound, others_are_passed_over, rows_stand_as_often, sections_stand_in_order};
+pub use laws::{
+    items_are_said, kinds_are_sound, others_are_passed_over, rows_stand_as_often,
+    sections_stand_in_order,
+};
