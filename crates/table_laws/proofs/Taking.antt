@@ -14,7 +14,7 @@ use Rattle.table_laws.proofs.Rules.{Rules, holds}
 
 module _ {S K V X : Type 0} (tables : Tables S K V X) where
   -- items are items of more
-  items_of_more : (section : S) (items more : List Item) (taken : List (Taken V)) → AreItemsIn tables section items taken
+  pub items_of_more : (section : S) (items more : List Item) (taken : List (Taken V)) → AreItemsIn tables section items taken
       → AreItemsIn tables section (items ++ more) taken
   items_of_more section items more [] are = tt
   items_of_more section items more (one ∷ taken) are = (
@@ -28,7 +28,7 @@ module _ {S K V X : Type 0} (tables : Tables S K V X) where
   )
 
   -- and with one more
-  one_more_item : (remembered : X) (section : S) (items : List Item) (item : Item) (taken : List (Taken V)) (one : Taken V)
+  pub one_more_item : (remembered : X) (section : S) (items : List Item) (item : Item) (taken : List (Taken V)) (one : Taken V)
       → AreItemsIn tables section items taken → IsItemIn tables remembered section item one
       → AreItemsIn tables section (items ++ item ∷ []) (taken ++ one ∷ [])
   one_more_item remembered section items item [] one are is = (items, item, [], refl, remembered, is, tt)
@@ -43,11 +43,11 @@ module _ {S K V X : Type 0} (tables : Tables S K V X) where
   )
 
   -- what stands in the section around
-  abbrev AroundIs : List Item → Option (Group S V) → Type 0
+  abbrev pub AroundIs : List Item → Option (Group S V) → Type 0
   AroundIs before None = Unit {0}
   AroundIs before (Some outer) = AreItemsIn tables outer.section before outer.taken
 
-  around_more : (before : List Item) (item : Item) (around : Option (Group S V)) → AroundIs before around
+  pub around_more : (before : List Item) (item : Item) (around : Option (Group S V)) → AroundIs before around
       → AroundIs (before ++ item ∷ []) around
   around_more before item None is = tt
   around_more before item (Some outer) is = items_of_more outer.section before (item ∷ []) outer.taken is
@@ -91,7 +91,7 @@ module _ {S K V X : Type 0} (tables : Tables S K V X) where
       (All-nil (λ (group : Group S V). AreItemsIn tables group.section all group.taken))
 
   -- an item that begins a section
-  first_here : (remembered : X) (section : S) (before : List Item) (item : Item) (one : Taken V) → IsItemIn tables remembered section item one
+  pub first_here : (remembered : X) (section : S) (before : List Item) (item : Item) (one : Taken V) → IsItemIn tables remembered section item one
       → AreItemsIn tables section (before ++ item ∷ []) (one ∷ [])
   first_here remembered section before item one is = one_more_item remembered section before item [] one tt is
 
