@@ -1,0 +1,14 @@
+pub mod Ways
+pub mod Openers
+pub mod Makes
+pub mod Rules
+pub mod Taking
+pub mod Times
+pub mod Counting
+pub mod Lists
+pub mod Parts
+pub mod Placing
+pub mod Ordering
+pub mod Kept
+pub mod Others
+pub mod SoundKinds

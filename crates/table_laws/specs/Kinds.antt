@@ -1,0 +1,14 @@
+-- The kinds of documents that this project reads.
+use Rattle.authority_certs.specs.Tables.{cert_tables}
+use Rattle.consensus_frame.specs.Tables.{consensus_tables}
+use Rattle.consensus_terms.specs.declared.flavour.Flavour.{Flavour}
+use Rattle.descriptor_frame.specs.Tables.{descriptor_tables}
+use Rattle.vote_frame.specs.Tables.{vote_tables}
+use Rattle.table_laws.specs.Sound.{AreSound}
+
+-- the tables of each kind are sound
+pub record KindsAreSound : Type 0 where
+  pub certificates : AreSound cert_tables
+  pub votes : AreSound vote_tables
+  pub consensuses : (flavour : Flavour) → AreSound (consensus_tables flavour)
+  pub descriptors : AreSound descriptor_tables

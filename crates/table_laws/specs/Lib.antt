@@ -1,0 +1,6 @@
+pub mod Items
+pub mod Counts
+pub mod Sound
+pub mod Order
+pub mod Passing
+pub mod Kinds
