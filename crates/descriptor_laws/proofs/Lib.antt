@@ -1,0 +1,2 @@
+pub mod WrittenLines
+pub mod WrittenPolicies
