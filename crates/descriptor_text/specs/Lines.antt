@@ -5,6 +5,7 @@ use Rattle.std.specs.List.{join_with_byte}
 use Rattle.item_terms.specs.Bytes.{space}
 use Rattle.dir_bytes.specs.FieldTexts.{address_text, base64_text, hex_text}
 use Rattle.dir_values.specs.declared.digest.Fingerprint.{Fingerprint}
+pub use Rattle.relay_family.specs.Families.{family_text}
 use Rattle.descriptor_frame.specs.declared.said.BandwidthLine.{BandwidthLine}
 use Rattle.descriptor_doc.specs.declared.descriptor.EdSignature.{EdSignature}
 use Rattle.descriptor_doc.specs.declared.descriptor.Router.{Router}
@@ -33,10 +34,6 @@ groups_text identity = join_with_byte space (map hex_text (groups_from 10 identi
 -- whether a relay rests
 abbrev pub hibernating_text : Bool → List ℕ
 hibernating_text rests = if rests then codes "1" else codes "0"
-
--- the relays of a family
-abbrev pub family_text : List (List ℕ) → List ℕ
-family_text relays = join_with_byte space relays
 
 -- an Ed25519 signature
 abbrev pub ed_signature_text : EdSignature → List ℕ

@@ -9,13 +9,14 @@ ghost use Rattle.std.specs.Fmt.{decimal};
 ghost use Rattle.descriptor_text.specs.Lines as lines;
 ghost use Rattle.descriptor_text.specs.Texts as texts;
 
-use crate::lines::{hibernating_text, push_family, push_groups};
+use crate::lines::{hibernating_text, push_groups};
 use descriptor_doc::{EdCert, EdSignature};
 use dir_bytes::{Memory, Seq, Text, push_base64, push_decimal};
 use dir_values::{Fingerprint, PolicyItem, PortSummary};
 use frame_terms::Keyword;
 use frame_values::{push_bare, push_with_object};
 use policy_items::push_item;
+use relay_family::push_names;
 use std::alloc::Global;
 
 /// The item of an object, where there is one.
@@ -177,7 +178,7 @@ pub(crate) fn push_family_if(
         return Ok(());
     };
     rest.clear();
-    push_family(rest, family.as_slice())?;
+    push_names(rest, family.as_slice())?;
     push_bare(out, Keyword::Family, rest)
 }
 

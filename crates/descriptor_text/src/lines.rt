@@ -51,21 +51,6 @@ pub(crate) fn push_groups(rest: &mut Vec<u8>, identity: &Fingerprint) -> Result<
     Ok(())
 }
 
-/// Appends the relays of a family.
-pub(crate) fn push_family(rest: &mut Vec<u8>, relays: &[Text]) -> Result<(), Memory>
-    ensures { OnOk result (rest.new.items ≡ rest.old.items ++ texts.family_text relays.now) }
-{
-    let Some((first, others)) = relays.split_first() else {
-        return Ok(());
-    };
-    rest.extend_from_slice(first.as_bytes())?;
-    'relays: for relay in others {
-        rest.push(b' ')?;
-        rest.extend_from_slice(relay.as_bytes())?;
-    }
-    Ok(())
-}
-
 /// Whether a relay rests, as `0` or `1`.
 pub(crate) fn hibernating_text(rests: bool) -> &'static [u8]
     ensures { result.now ≡ texts.hibernating_text rests }

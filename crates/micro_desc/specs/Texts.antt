@@ -1,10 +1,8 @@
 -- The canonical text of a microdescriptor: its items in the order of the table, with single spaces; and its digest
 -- (dir-spec, "Computing microdescriptors").
 use Rattle.std.specs.Prelude.{ℕ, List, [], ◌∷◌, ◌++◌, Option, Some, None, codes}
-use Rattle.std.specs.List.{join_with_byte}
 use Rattle.std.specs.Option.{option_map}
 use Rattle.sha2.specs.Sha256.{sha256}
-use Rattle.item_terms.specs.Bytes.{space}
 use Rattle.dir_bytes.specs.FieldTexts.{base64_text}
 use Rattle.dir_values.specs.Ports.{Ports, summary_text}
 use Rattle.dir_values.specs.declared.digest.Digest2.{Digest2}
@@ -12,6 +10,7 @@ use Rattle.dirdoc_grammar.specs.Writing.{NewItem, items_text}
 use Rattle.frame_terms.specs.declared.keyword.Keyword.{Keyword}
 use Rattle.frame_terms.specs.declared.keyword.Keyword.TheVariants as the
 use Rattle.frame_values.specs.Items.{bare, with_object, item_if}
+use Rattle.relay_family.specs.Families.{family_text}
 use Rattle.micro_frame.specs.declared.said.MicroId.{MicroId}
 use Rattle.micro_frame.specs.declared.said.MicroId.TheVariants.{Ed25519, Rsa1024}
 use Rattle.micro_desc.specs.declared.micro.Micro.{Micro}
@@ -20,10 +19,6 @@ use Rattle.micro_desc.specs.declared.micro.Micro.{Micro}
 abbrev pub onion_key_item : Option (List ℕ) → NewItem
 onion_key_item None = bare the.OnionKey []
 onion_key_item (Some key) = with_object the.OnionKey [] (codes "RSA PUBLIC KEY") key
-
--- the names of a family, with single spaces between them
-abbrev pub family_text : List (List ℕ) → List ℕ
-family_text names = join_with_byte space names
 
 -- whose microdescriptor it is: the kind of the key, a space, and the key or its SHA-1
 abbrev pub id_text : MicroId → List ℕ

@@ -9,6 +9,7 @@ use dir_values::{Digest2, PortSummary};
 use frame_terms::Keyword;
 use frame_values::{push_bare, push_with_object};
 use micro_frame::MicroId;
+use relay_family::push_names;
 use sha2::{Digest, Sha256};
 use std::alloc::Global;
 
@@ -38,24 +39,6 @@ fn push_ntor_key(out: &mut Vec<u8>, alloc: Global, key: &Option<[u8; 32]>) -> Re
     let mut rest = Vec::new(alloc);
     push_base64(&mut rest, key)?;
     push_bare(out, Keyword::NtorOnionKey, &rest)
-}
-
-/// Appends names, with single spaces between them.
-///
-/// # Errors
-/// `Memory` is want of memory.
-fn push_names(rest: &mut Vec<u8>, names: &[Text]) -> Result<(), Memory>
-    ensures { OnOk result (rest.new.items ≡ rest.old.items ++ texts.family_text names.now) }
-{
-    let Some((first, others)) = names.split_first() else {
-        return Ok(());
-    };
-    rest.extend_from_slice(first.as_bytes())?;
-    for name in others {
-        rest.push(b' ')?;
-        rest.extend_from_slice(name.as_bytes())?;
-    }
-    Ok(())
 }
 
 /// Appends the item of the family, where there is one.

@@ -2,9 +2,10 @@
 -- left out and which are kept is this project's choice.
 use Rattle.std.specs.Prelude.{◌≡◌, ℕ, ◌+◌, ◌==◌, nat_le, Bool, true, false, ◌&&◌, ◌||◌, List, [], ◌∷◌, map, take, drop}
 use Rattle.std.specs.Prelude.{Option, Some, None, if◌then◌else◌, filter_map}
-use Rattle.std.specs.List.{list_any}
+use Rattle.std.specs.List.{join_with_byte, list_any}
 use Rattle.std.specs.Option.{option_map_or}
 use Rattle.std.specs.Str.{bytes_eq}
+use Rattle.item_terms.specs.Bytes.{space}
 use Rattle.dir_values.specs.Digests.{fingerprint, fingerprint_text}
 use Rattle.dir_values.specs.FlagSets.{Ascend, as_set, has_flag}
 use Rattle.dir_values.specs.Names.{is_nickname}
@@ -58,6 +59,10 @@ member_of name = member_with name (fingerprint_in name)
 -- the canonical family that names make: the set of their canonical forms, sorted by bytes
 abbrev pub family_of : List (List ℕ) → List (List ℕ)
 family_of names = as_set (filter_map member_of names)
+
+-- the names of a family as a line has them: with single spaces between them
+abbrev pub family_text : List (List ℕ) → List ℕ
+family_text names = join_with_byte space names
 
 -- whether a text is the canonical form of a name
 abbrev pub is_form_of : List ℕ → List ℕ → Bool

@@ -17,6 +17,8 @@ use Rattle.consensus_frame.specs.Tables.{consensus_tables}
 use Rattle.consensus_terms.specs.declared.flavour.Flavour.{Flavour}
 use Rattle.descriptor_frame.specs.declared.said.DescriptorKind.TheVariants as descriptor
 use Rattle.descriptor_frame.specs.Tables.{descriptor_tables}
+use Rattle.micro_frame.specs.declared.said.MicroKind.TheVariants as micro
+use Rattle.micro_frame.specs.Tables.{micro_tables}
 use Rattle.relay_entries.specs.declared.said.EntryKind.TheVariants as entry
 use Rattle.vote_frame.specs.declared.frame.VoteKind.TheVariants as item
 use Rattle.vote_frame.specs.declared.frame.VoteSection.{VoteSection}
@@ -47,6 +49,17 @@ descriptors = record {
   begins = refl;
   apart = (tt, tt);
   opener_once = λ section. record { row = row the.Router One descriptor.Router; has_row = refl; once = refl };
+  ends_last = λ section ends. refl;
+  inner = λ section inside e. absurd (none-some inside e);
+}
+
+microdescriptors : AreSound micro_tables
+unfolding same IsDistinct
+microdescriptors = record {
+  others = [];
+  begins = refl;
+  apart = (tt, tt);
+  opener_once = λ section. record { row = row the.OnionKey One micro.OnionKey; has_row = refl; once = refl };
   ends_last = λ section ends. refl;
   inner = λ section inside e. absurd (none-some inside e);
 }
@@ -157,4 +170,4 @@ consensuses flavour = record {
 
 pub kinds_are_sound : KindsAreSound
 kinds_are_sound =
-    record { certificates = certificates; votes = votes; consensuses = consensuses; descriptors = descriptors }
+    record { certificates = certificates; votes = votes; consensuses = consensuses; descriptors = descriptors; microdescriptors = microdescriptors }

@@ -3,6 +3,7 @@ use Rattle.authority_certs.specs.Tables.{cert_tables}
 use Rattle.consensus_frame.specs.Tables.{consensus_tables}
 use Rattle.consensus_terms.specs.declared.flavour.Flavour.{Flavour}
 use Rattle.descriptor_frame.specs.Tables.{descriptor_tables}
+use Rattle.micro_frame.specs.Tables.{micro_tables}
 use Rattle.vote_frame.specs.Tables.{vote_tables}
 use Rattle.table_laws.specs.Sound.{AreSound}
 
@@ -12,3 +13,4 @@ pub record KindsAreSound : Type 0 where
   pub votes : AreSound vote_tables
   pub consensuses : (flavour : Flavour) → AreSound (consensus_tables flavour)
   pub descriptors : AreSound descriptor_tables
+  pub microdescriptors : AreSound micro_tables
