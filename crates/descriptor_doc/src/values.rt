@@ -73,7 +73,11 @@ pub fn decode_if(alloc: Global, bytes: &[u8], lines: Option<Span>) -> Result<Opt
 ///
 /// # Errors
 /// `Memory` is want of memory.
-pub fn ports_if(alloc: Global, bytes: &[u8], span: Option<Span>) -> Result<Option<PortSummary>, Memory>
+pub fn ports_if(
+    alloc: Global,
+    bytes: &[u8],
+    span: Option<Span>,
+) -> Result<Option<PortSummary>, Memory>
     ensures { IfOk result (λ found. found ≡ option_and_then (descriptors.ports_in bytes.now) span) }
 {
     let Some(span) = span else {
@@ -106,7 +110,11 @@ fn words_in(alloc: Global, text: &[u8]) -> Result<Seq<Text>, Memory>
 ///
 /// # Errors
 /// `Memory` is want of memory.
-pub fn words_if(alloc: Global, bytes: &[u8], span: Option<Span>) -> Result<Option<Seq<Text>>, Memory>
+pub fn words_if(
+    alloc: Global,
+    bytes: &[u8],
+    span: Option<Span>,
+) -> Result<Option<Seq<Text>>, Memory>
     requires { length bytes.now < 2 ^ 62 }
     ensures { IfOk result (λ words. words ≡ option_map (descriptors.words_in bytes.now) span) }
 {

@@ -4,19 +4,19 @@ use Rattle.dirdoc_grammar.specs.Writing.{item_text, items_text}
 use Rattle.frame_terms.specs.declared.keyword.Keyword.TheVariants as the
 use Rattle.frame_values.proofs.ItemsTexts.{sections}
 use Rattle.micro_desc.specs.declared.micro.Micro.{Micro}
-use Rattle.micro_desc.specs.Texts.{onion_key_item, key_items, family_items, ports_items, id_items, micro_text}
+use Rattle.micro_desc.specs.Texts.{onion_key_item, ntor_key_items, family_items, ports_items, id_items, micro_text}
 
 -- the parts behind the first
 pub parts : (micro : Micro)
     → micro_text micro
     ≡ item_text (onion_key_item micro.onion_key)
-    ++ (items_text (key_items micro.ntor_onion_key)
+    ++ (items_text (ntor_key_items micro.ntor_onion_key)
     ++ (items_text (family_items micro.family)
     ++ (items_text (ports_items the.P micro.p)
     ++ (items_text (ports_items the.P6 micro.p6)
     ++ items_text (id_items micro.id)))))
 parts micro =
-    let key = key_items micro.ntor_onion_key in
+    let key = ntor_key_items micro.ntor_onion_key in
     let family = family_items micro.family in
     let p = ports_items the.P micro.p in
     let p6 = ports_items the.P6 micro.p6 in

@@ -1,6 +1,6 @@
 -- The microdescriptor of a relay with a server descriptor and a summary of its exit policy (dir-spec, "Computing
 -- microdescriptors").
-use Rattle.std.specs.Prelude.{ℕ, ◌==◌, Bool, true, false, not, ◌&&◌, List, [], ◌∷◌, length}
+use Rattle.std.specs.Prelude.{ℕ, ◌==◌, Bool, false, not, ◌&&◌, List, [], ◌∷◌, length}
 use Rattle.std.specs.Prelude.{Option, Some, None, option_and_then, if◌then◌else◌}
 use Rattle.dir_values.specs.Ports.{Ports, last_port}
 use Rattle.dir_values.specs.declared.digest.Fingerprint.{Fingerprint}
@@ -30,13 +30,13 @@ abbrev pub rejects_all : Ports → Bool
 rejects_all ports = not ports.accept && is_every_port ports.ranges
 
 -- a summary, unless it rejects all ports
-abbrev pub ports_if : Ports → Option Ports
-ports_if ports = if rejects_all ports then None else Some ports
+abbrev pub summary_if : Ports → Option Ports
+summary_if ports = if rejects_all ports then None else Some ports
 
 -- whose microdescriptor it is: the signer of the Ed25519 certificate, or else the RSA identity
-abbrev pub id_of : Option EdCert → Fingerprint → MicroId
-id_of None identity = Rsa1024 identity
-id_of (Some certificate) identity = Ed25519 certificate.signer
+abbrev pub made_id : Option EdCert → Fingerprint → MicroId
+made_id None identity = Rsa1024 identity
+made_id (Some certificate) identity = Ed25519 certificate.signer
 
 -- the microdescriptor of a relay with this server descriptor and this summary of its exit policy
 abbrev pub micro_of_descriptor : Descriptor → Ports → Micro
@@ -44,7 +44,7 @@ micro_of_descriptor descriptor summary = record {
   onion_key = descriptor.onion_key;
   ntor_onion_key = descriptor.ntor_onion_key;
   family = option_and_then family_if descriptor.family;
-  p = ports_if summary;
-  p6 = option_and_then ports_if descriptor.ipv6_policy;
-  id = Some (id_of descriptor.identity_ed25519 descriptor.identity);
+  p = summary_if summary;
+  p6 = option_and_then summary_if descriptor.ipv6_policy;
+  id = Some (made_id descriptor.identity_ed25519 descriptor.identity);
 }

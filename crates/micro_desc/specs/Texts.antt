@@ -22,8 +22,8 @@ onion_key_item None = bare the.OnionKey []
 onion_key_item (Some key) = with_object the.OnionKey [] (codes "RSA PUBLIC KEY") key
 
 -- the names of a family, with single spaces between them
-abbrev pub names_text : List (List ℕ) → List ℕ
-names_text names = join_with_byte space names
+abbrev pub family_text : List (List ℕ) → List ℕ
+family_text names = join_with_byte space names
 
 -- whose microdescriptor it is: the kind of the key, a space, and the key or its SHA-1
 abbrev pub id_text : MicroId → List ℕ
@@ -31,12 +31,12 @@ id_text (Ed25519 key) = codes "ed25519 " ++ base64_text key
 id_text (Rsa1024 identity) = codes "rsa1024 " ++ base64_text identity.0
 
 -- the item of the ntor onion key, where there is one
-abbrev pub key_items : Option (List ℕ) → List NewItem
-key_items key = item_if the.NtorOnionKey (option_map base64_text key)
+abbrev pub ntor_key_items : Option (List ℕ) → List NewItem
+ntor_key_items key = item_if the.NtorOnionKey (option_map base64_text key)
 
 -- the item of the family, where there is one
 abbrev pub family_items : Option (List (List ℕ)) → List NewItem
-family_items family = item_if the.Family (option_map names_text family)
+family_items family = item_if the.Family (option_map family_text family)
 
 -- the item of a summary of ports, where there is one
 abbrev pub ports_items : Keyword → Option Ports → List NewItem
@@ -50,7 +50,7 @@ id_items id = item_if the.Id (option_map id_text id)
 abbrev pub micro_items : Micro → List NewItem
 micro_items micro =
     onion_key_item micro.onion_key
-    ∷ (key_items micro.ntor_onion_key
+    ∷ (ntor_key_items micro.ntor_onion_key
     ++ (family_items micro.family
     ++ (ports_items the.P micro.p
     ++ (ports_items the.P6 micro.p6

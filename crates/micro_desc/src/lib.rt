@@ -16,4 +16,6 @@ pub use reading::read;
 pub use writing::{digest, write};
 
 #[cfg(test)]
+mod fixtures;
+#[cfg(test)]
 mod tests;

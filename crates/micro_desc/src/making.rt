@@ -62,8 +62,8 @@ fn rejects_all(ports: &PortSummary) -> bool
 ///
 /// # Errors
 /// `Memory` is want of memory.
-fn ports_if(alloc: Global, ports: &PortSummary) -> Result<Option<PortSummary>, Memory>
-    ensures { IfOk result (λ copy. copy ≡ makings.ports_if ports.now) }
+fn summary_if(alloc: Global, ports: &PortSummary) -> Result<Option<PortSummary>, Memory>
+    ensures { IfOk result (λ copy. copy ≡ makings.summary_if ports.now) }
 {
     if rejects_all(ports) {
         return Ok(None);
@@ -76,18 +76,18 @@ fn ports_if(alloc: Global, ports: &PortSummary) -> Result<Option<PortSummary>, M
 ///
 /// # Errors
 /// `Memory` is want of memory.
-fn ports_of(alloc: Global, ports: &Option<PortSummary>) -> Result<Option<PortSummary>, Memory>
-    ensures { IfOk result (λ copy. copy ≡ option_and_then makings.ports_if ports.now) }
+fn ipv6_summary(alloc: Global, ports: &Option<PortSummary>) -> Result<Option<PortSummary>, Memory>
+    ensures { IfOk result (λ copy. copy ≡ option_and_then makings.summary_if ports.now) }
 {
     match ports {
-        Some(ports) => ports_if(alloc, ports),
+        Some(ports) => summary_if(alloc, ports),
         None => Ok(None),
     }
 }
 
 /// Whose microdescriptor it is: the signer of the Ed25519 certificate, or else the RSA identity.
-fn id_of(certificate: &Option<EdCert>, identity: Fingerprint) -> MicroId
-    ensures { result ≡ makings.id_of certificate.now identity }
+fn made_id(certificate: &Option<EdCert>, identity: Fingerprint) -> MicroId
+    ensures { result ≡ makings.made_id certificate.now identity }
 {
     match certificate {
         Some(certificate) => MicroId::Ed25519(certificate.signer),
@@ -109,8 +109,8 @@ pub fn make(alloc: Global, descriptor: &Descriptor, summary: &PortSummary) -> Re
         onion_key: copy_if(alloc, &descriptor.onion_key)?,
         ntor_onion_key: descriptor.ntor_onion_key,
         family: family_if(alloc, &descriptor.family)?,
-        p: ports_if(alloc, summary)?,
-        p6: ports_of(alloc, &descriptor.ipv6_policy)?,
-        id: Some(id_of(&descriptor.identity_ed25519, descriptor.identity)),
+        p: summary_if(alloc, summary)?,
+        p6: ipv6_summary(alloc, &descriptor.ipv6_policy)?,
+        id: Some(made_id(&descriptor.identity_ed25519, descriptor.identity)),
     })
 }

@@ -29,8 +29,8 @@ fn push_onion_key(out: &mut Vec<u8>, key: &Option<Text>) -> Result<(), Memory>
 ///
 /// # Errors
 /// `Memory` is want of memory.
-fn push_key(out: &mut Vec<u8>, alloc: Global, key: &Option<[u8; 32]>) -> Result<(), Memory>
-    ensures { OnOk result (out.new.items ≡ out.old.items ++ items_text (texts.key_items key.now)) }
+fn push_ntor_key(out: &mut Vec<u8>, alloc: Global, key: &Option<[u8; 32]>) -> Result<(), Memory>
+    ensures { OnOk result (out.new.items ≡ out.old.items ++ items_text (texts.ntor_key_items key.now)) }
 {
     let Some(key) = key else {
         return Ok(());
@@ -45,7 +45,7 @@ fn push_key(out: &mut Vec<u8>, alloc: Global, key: &Option<[u8; 32]>) -> Result<
 /// # Errors
 /// `Memory` is want of memory.
 fn push_names(rest: &mut Vec<u8>, names: &[Text]) -> Result<(), Memory>
-    ensures { OnOk result (rest.new.items ≡ rest.old.items ++ texts.names_text names.now) }
+    ensures { OnOk result (rest.new.items ≡ rest.old.items ++ texts.family_text names.now) }
 {
     let Some((first, others)) = names.split_first() else {
         return Ok(());
@@ -62,11 +62,7 @@ fn push_names(rest: &mut Vec<u8>, names: &[Text]) -> Result<(), Memory>
 ///
 /// # Errors
 /// `Memory` is want of memory.
-fn push_family(
-    out: &mut Vec<u8>,
-    alloc: Global,
-    family: &Option<Seq<Text>>,
-) -> Result<(), Memory>
+fn push_family(out: &mut Vec<u8>, alloc: Global, family: &Option<Seq<Text>>) -> Result<(), Memory>
     ensures { OnOk result (out.new.items ≡ out.old.items ++ items_text (texts.family_items family.now)) }
 {
     let Some(names) = family else {
@@ -141,7 +137,7 @@ pub fn write(alloc: Global, micro: &Micro) -> Result<Vec<u8>, Memory>
 {
     let mut out = Vec::new(alloc);
     push_onion_key(&mut out, &micro.onion_key)?;
-    push_key(&mut out, alloc, &micro.ntor_onion_key)?;
+    push_ntor_key(&mut out, alloc, &micro.ntor_onion_key)?;
     push_family(&mut out, alloc, &micro.family)?;
     push_ports(&mut out, alloc, Keyword::P, &micro.p)?;
     push_ports(&mut out, alloc, Keyword::P6, &micro.p6)?;

@@ -24,7 +24,8 @@ use Rattle.micro_frame.specs.declared.said.MicroValue.TheVariants as own
 abbrev pub onion_key_of : Item → Option Span
 onion_key_of item = result_ok (object_of true item)
 
--- whose microdescriptor it is: `ed25519` and 32 bytes in base64, or `rsa1024` and 20; another kind is wrong at its place
+-- whose microdescriptor it is: `ed25519` and 32 bytes in base64, or `rsa1024` and 20; another kind is wrong at its
+-- place
 abbrev pub id_of : Item → Result MicroId ℕ
 id_of item =
     let kind = front item.place (arguments_of item) in

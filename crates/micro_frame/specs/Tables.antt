@@ -1,5 +1,5 @@
 -- The items of a microdescriptor, which has one section (dir-spec, "Computing microdescriptors").
-use Rattle.std.specs.Prelude.{false, List, [], ◌∷◌, Some, None, Ok}
+use Rattle.std.specs.Prelude.{false, List, [], ◌∷◌, None, Ok}
 use Rattle.frame_terms.specs.declared.keyword.Keyword.TheVariants as the
 use Rattle.frame_terms.specs.declared.row.Count.TheVariants.{One, Optional}
 use Rattle.frame_terms.specs.declared.row.Row.{Row}

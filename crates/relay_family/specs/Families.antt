@@ -1,5 +1,5 @@
--- The canonical form of a relay's family (dir-spec, "Computing microdescriptors", the `family` line). Which names are left
--- out and which are kept is this project's choice.
+-- The canonical form of a relay's family (dir-spec, "Computing microdescriptors", the `family` line). Which names are
+-- left out and which are kept is this project's choice.
 use Rattle.std.specs.Prelude.{◌≡◌, ℕ, ◌+◌, ◌==◌, nat_le, Bool, true, false, ◌&&◌, ◌||◌, List, [], ◌∷◌, map, take, drop}
 use Rattle.std.specs.Prelude.{Option, Some, None, if◌then◌else◌, filter_map}
 use Rattle.std.specs.List.{list_any}
@@ -41,8 +41,8 @@ lower byte = if nat_le 65 byte && nat_le byte 90 then byte + 32 else byte
 abbrev pub behind_dollar : Fingerprint → List ℕ
 behind_dollar identity = dollar ∷ fingerprint_text identity
 
--- the canonical form of a name that spells no fingerprint: a nickname in lower case; none of another that begins with `$`;
--- any other as it is
+-- the canonical form of a name that spells no fingerprint: a nickname in lower case; none of another that begins with
+-- `$`; any other as it is
 abbrev pub other_member : List ℕ → Option (List ℕ)
 other_member name = if is_nickname name then Some (map lower name) else if has_dollar name then None else Some name
 

@@ -35,7 +35,8 @@ fn a_fingerprint_stands_behind_a_dollar(rt: HostRuntime) -> Result<(), Fail> {
         b"a_b",
     ];
     let out = family(rt.alloc(), &names)?;
-    let right = b" $2FD4E1C67A2D28FCED849EE1BB76E7391B93EB12 $84983E441C3BD26EBAAE4AA1F95129E5E54670F1 a_b";
+    let right =
+        b" $2FD4E1C67A2D28FCED849EE1BB76E7391B93EB12 $84983E441C3BD26EBAAE4AA1F95129E5E54670F1 a_b";
     assert_eq!(rt; out.as_slice(), right.as_slice());
     Ok(())
 }

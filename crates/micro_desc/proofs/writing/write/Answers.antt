@@ -2,7 +2,7 @@ use Rattle.std.proofs.Common.{◌∙◌, ◌++◌, List, ℕ, ap, sym}
 use Rattle.dirdoc_grammar.specs.Writing.{item_text, items_text}
 use Rattle.frame_terms.specs.declared.keyword.Keyword.TheVariants as the
 use Rattle.frame_values.proofs.ItemsTexts.{link}
-use Rattle.micro_desc.specs.Texts.{onion_key_item, key_items, family_items, ports_items, id_items}
+use Rattle.micro_desc.specs.Texts.{onion_key_item, ntor_key_items, family_items, ports_items, id_items}
 use Rattle.micro_desc.proofs.MicroTexts.{parts}
 use Rattle.micro_desc.proofs.writing.write.Goals as goal
 
@@ -11,13 +11,13 @@ returns c =
     let micro = c.args.micro.now in
     let start = c.new-out.result.items in
     let text1 : List ℕ = item_text (onion_key_item micro.onion_key) in
-    let text2 : List ℕ = items_text (key_items micro.ntor_onion_key) in
+    let text2 : List ℕ = items_text (ntor_key_items micro.ntor_onion_key) in
     let text3 : List ℕ = items_text (family_items micro.family) in
     let text4 : List ℕ = items_text (ports_items the.P micro.p) in
     let text5 : List ℕ = items_text (ports_items the.P6 micro.p6) in
     let text6 : List ℕ = items_text (id_items micro.id) in
     let at1 = c.push_onion_key.new.out.items in
-    let at2 = c.push_key.new.out.items in
+    let at2 = c.push_ntor_key.new.out.items in
     let at3 = c.push_family.new.out.items in
     let at4 = c.push_ports.new.out.items in
     let at5 = c.push_ports-2.new.out.items in
@@ -29,7 +29,7 @@ returns c =
     let rest1 : List ℕ = text2 ++ rest2 in
     let whole : List ℕ = text1 ++ rest1 in
     link start text1 at1 at6 rest1 c.in_ok-push_onion_key.ensures
-    (link at1 text2 at2 at6 rest2 c.in_ok-push_key.ensures
+    (link at1 text2 at2 at6 rest2 c.in_ok-push_ntor_key.ensures
     (link at2 text3 at3 at6 rest3 c.in_ok-push_family.ensures
     (link at3 text4 at4 at6 rest4 c.in_ok-push_ports.ensures
     (link at4 text5 at5 at6 rest5 c.in_ok-push_ports-2.ensures c.in_ok-push_id.ensures))))
