@@ -1,6 +1,5 @@
 // Runs of `check cert` and `show cert`.
 mod faults;
-mod limits;
 mod spellings;
 
 use run_stage::{assert_fault, assert_gives, whole};

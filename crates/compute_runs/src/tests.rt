@@ -2,31 +2,37 @@
 mod texts;
 
 use run_stage::{
-    FIVE, FOUR, FOUR_LATER, Given, LATER_TIME, ONE, ONE_AGAIN, PLAIN_CONSENSUS, THE_FIVE, THE_FOUR,
-    THE_THREE, THREE, THREE_LATER, TIME, TWO, TWO_LATER, Vote, WITHOUT_THREE, assert_fault,
-    assert_gives, compute_words, input, place_of, whole,
+    FIVE, FOUR, FOUR_LATER, Given, LATER_TIME, ONE, ONE_AGAIN, PLAIN_CONSENSUS, Piece, THE_FIVE,
+    THE_FOUR, THE_THREE, THREE, THREE_LATER, TIME, TWO, TWO_LATER, Vote, WITHOUT_THREE,
+    assert_fault, assert_gives, compute_words, input, place_of, whole, with_pieces,
 };
 use std::alloc::Global;
 use std::test::Fail;
 
-// Asserts that the votes of a roster give this text.
-fn assert_computes(alloc: Global, roster: &str, votes: &[Vote], text: &str) -> Result<(), Fail> {
+// Asserts that the votes of a roster give the plain consensus with other pieces.
+fn assert_computes(
+    alloc: Global,
+    roster: &str,
+    votes: &[Vote],
+    pieces: &[Piece],
+) -> Result<(), Fail> {
+    let text = with_pieces(alloc, PLAIN_CONSENSUS, pieces)?.ok_or("no such piece")?;
     let input = input(alloc, votes)?;
     let words = compute_words(roster);
-    assert_gives(alloc, whole(&words, input.as_bytes()), 0, text, "")
+    assert_gives(alloc, whole(&words, input.as_bytes()), 0, &text, "")
 }
 
 #[test]
 fn votes_give_a_consensus(rt: HostRuntime) -> Result<(), Fail> {
-    let cases: [(&str, &[Vote], &str); 12] = [
-        (THE_THREE, &[ONE, TWO, THREE], PLAIN_CONSENSUS),
-        (THE_THREE, &[ONE, THREE, TWO], PLAIN_CONSENSUS),
-        (THE_THREE, &[TWO, ONE, THREE], PLAIN_CONSENSUS),
-        (THE_THREE, &[TWO, THREE, ONE], PLAIN_CONSENSUS),
-        (THE_THREE, &[THREE, ONE, TWO], PLAIN_CONSENSUS),
-        (THE_THREE, &[THREE, TWO, ONE], PLAIN_CONSENSUS),
-        (THE_THREE, &[ONE, TWO, TWO, THREE], PLAIN_CONSENSUS),
-        (THE_FOUR, &[ONE, TWO, THREE], PLAIN_CONSENSUS),
+    let cases: [(&str, &[Vote], &[Piece]); 12] = [
+        (THE_THREE, &[ONE, TWO, THREE], &[]),
+        (THE_THREE, &[ONE, THREE, TWO], &[]),
+        (THE_THREE, &[TWO, ONE, THREE], &[]),
+        (THE_THREE, &[TWO, THREE, ONE], &[]),
+        (THE_THREE, &[THREE, ONE, TWO], &[]),
+        (THE_THREE, &[THREE, TWO, ONE], &[]),
+        (THE_THREE, &[ONE, TWO, TWO, THREE], &[]),
+        (THE_FOUR, &[ONE, TWO, THREE], &[]),
         (
             THE_FOUR,
             &[ONE, TWO_LATER, THREE_LATER, FOUR_LATER],
@@ -36,8 +42,8 @@ fn votes_give_a_consensus(rt: HostRuntime) -> Result<(), Fail> {
         (THE_THREE, &[ONE_AGAIN, ONE, TWO, THREE], texts::ANOTHER),
         (THE_FIVE, &[FIVE, THREE, FOUR, ONE, TWO], texts::FIVE),
     ];
-    for (roster, votes, text) in cases {
-        assert_computes(rt.alloc(), roster, votes, text)?;
+    for (roster, votes, pieces) in cases {
+        assert_computes(rt.alloc(), roster, votes, pieces)?;
     }
     Ok(())
 }

@@ -1,10 +1,17 @@
-// What is as long as it may be, and what is longer.
-use super::{CHECK, changed};
-use run_stage::{ONE, THE_THREE, assert_gives, compute_words, input, whole};
+// Votes with what is as long as it may be, and what is longer.
+use run_stage::{ONE, assert_gives, text_of, whole, with_pieces};
 use std::alloc::Global;
 use std::test::Fail;
 
+const CHECK: [&str; 2] = ["check", "vote"];
+
 const DELAY: &str = "voting-delay 300 300\n";
+
+// A vote in whose text one piece is another.
+fn changed(alloc: Global, from: &str, to: &str) -> Result<String, Fail> {
+    let vote = text_of(alloc, &ONE)?;
+    Ok(with_pieces(alloc, &vote, &[(from, to)])?.ok_or("no such piece")?)
+}
 
 // Asserts that a vote is one where one piece is another.
 fn assert_ok(alloc: Global, from: &str, to: &str) -> Result<(), Fail> {
@@ -34,7 +41,7 @@ fn objects_and_lines_have_a_limit(rt: HostRuntime) -> Result<(), Fail> {
 fn a_vote_has_a_limit(rt: HostRuntime) -> Result<(), Fail> {
     let alloc = rt.alloc();
     // Fifteen lines of 1,048,576 bytes, one of three bytes and so many, and the vote itself.
-    let most = 1_048_573_usize.saturating_sub(input(alloc, &[ONE])?.len());
+    let most = 1_048_573_usize.saturating_sub(text_of(alloc, &ONE)?.len());
     assert_ok(alloc, "published", &lines(alloc, most)?)?;
     let more = lines(alloc, most.saturating_add(1))?;
     assert_too_long(alloc, "published", &more, "vote 16777216")
@@ -96,20 +103,6 @@ fn a_certificate_has_a_limit(rt: HostRuntime) -> Result<(), Fail> {
     assert_ok(alloc, "fingerprint", &certificate_item(alloc, 0)?)?;
     let more = certificate_item(alloc, 1)?;
     assert_too_long(alloc, "fingerprint", &more, "certificate 65536")
-}
-
-#[test]
-fn an_input_has_a_limit(rt: HostRuntime) -> Result<(), Fail> {
-    let alloc = rt.alloc();
-    let blanks = " ".repeat(alloc, 1_048_575)?;
-    let line = format!(in alloc; "{blanks}\n")?;
-    let mut input = line.repeat(alloc, 256)?;
-    let words = compute_words(THE_THREE);
-    let few = "too few votes: 0 of 3\n";
-    assert_gives(alloc, whole(&words, input.as_bytes()), 7, "", few)?;
-    input.push_str("\n")?;
-    let limit = "limit input 268435456\n";
-    assert_gives(alloc, whole(&words, input.as_bytes()), 9, "", limit)
 }
 
 // An item of a line of three bytes and so many, in front of `published`.

@@ -1,14 +1,25 @@
 // Certificates that are as long as they may be, and longer ones.
-use super::{CHECK, SHOW, assert_none, assert_same, changed};
-use run_stage::{assert_gives, whole};
+use run_stage::{ONE, assert_fault, assert_gives, certificate, whole, with_pieces};
 use std::alloc::Global;
 use std::test::Fail;
 
-// The certificate with one more item, whose line has three bytes and so many.
+const CHECK: [&str; 2] = ["check", "cert"];
+
+const SHOW: [&str; 2] = ["show", "cert"];
+
+// The first authority's certificate with one more item, whose line has three bytes and so many.
 fn long(alloc: Global, count: usize) -> Result<String, Fail> {
     let letters = "a".repeat(alloc, count)?;
     let item = format!(in alloc; "x {letters}\nfingerprint")?;
-    changed(alloc, "fingerprint", &item)
+    let text = certificate(alloc, &ONE)?;
+    Ok(with_pieces(alloc, &text, &[("fingerprint", item.as_str())])?.ok_or("no such piece")?)
+}
+
+// Asserts that a text is one certificate, with the first authority's as its canonical text.
+fn assert_same(alloc: Global, text: &str) -> Result<(), Fail> {
+    let shown = certificate(alloc, &ONE)?;
+    assert_gives(alloc, whole(&CHECK, text.as_bytes()), 0, "ok\n", "")?;
+    assert_gives(alloc, whole(&SHOW, text.as_bytes()), 0, &shown, "")
 }
 
 // Asserts that a text is longer than a certificate may be.
@@ -18,6 +29,12 @@ fn assert_too_long(alloc: Global, text: &str) -> Result<(), Fail> {
         assert_gives(alloc, given, 9, "", "limit certificate 65536\n")?;
     }
     Ok(())
+}
+
+// Asserts that a text is no certificate, with this fault behind 65,536 bytes.
+fn assert_faulty_behind(alloc: Global, text: &str, reason: &str) -> Result<(), Fail> {
+    assert_fault(alloc, whole(&CHECK, text.as_bytes()), 65_536, reason)?;
+    assert_fault(alloc, whole(&SHOW, text.as_bytes()), 65_536, reason)
 }
 
 #[test]
@@ -31,8 +48,7 @@ fn a_certificate_has_65536_bytes_at_most(rt: HostRuntime) -> Result<(), Fail> {
     // Blank lines in front of it count, and none behind it do.
     assert_too_long(alloc, &format!(in alloc; "\n{most}")?)?;
     assert_same(alloc, &format!(in alloc; "{most} \n\n")?)?;
-    let more = format!(in alloc; "{most}x\n")?;
-    assert_none(alloc, more.as_bytes(), (65536, "order"))
+    assert_faulty_behind(alloc, &format!(in alloc; "{most}x\n")?, "order")
 }
 
 #[test]
@@ -40,5 +56,5 @@ fn a_certificate_cut_at_its_limit_is_not_too_long(rt: HostRuntime) -> Result<(),
     let alloc = rt.alloc();
     let text = long(alloc, 64_918)?;
     let front = text.strip_suffix("\n").ok_or("no line end")?;
-    assert_none(alloc, front.as_bytes(), (65536, "unterminated"))
+    assert_faulty_behind(alloc, front, "unterminated")
 }

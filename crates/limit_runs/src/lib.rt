@@ -1,0 +1,5 @@
+//! Whole runs of `check` and `compute` at the limits of what is read: tests alone, of `authority_daemon::run`.
+#![tactic(auto)]
+
+#[cfg(test)]
+mod tests;
