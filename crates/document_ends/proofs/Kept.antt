@@ -40,13 +40,12 @@ ends_as : {S V F D : Type 0} (wrap : Result (F × ℕ) ReadRefusal → Result (D
     → (contents wanted : Contents) (end : ℕ) → contents ≡ wanted → EndsAs (made contents) (Ok end)
     → (document : D) × (wrap (finish with_ facts (made wanted)) ≡ Ok (document, end))
 ends_as wrap value makes with_ facts made contents wanted end is ends =
-    let kept = fold (λ k (group : Group _ _). with_ k group.section group.taken) facts ends.0.groups in
-    (
+    let kept = fold (λ k (group : Group _ _). with_ k group.section group.taken) facts ends.0.groups in (
       value kept,
       ap (λ (c : Contents). wrap (finish with_ facts (made c))) (sym is)
-      ∙ ap (λ (d : Result (Document _ _) ReadRefusal). wrap (finish with_ facts d)) ends.1
-      ∙ makes kept ends.0.used
-      ∙ ap (λ (n : ℕ). Ok (value kept, n)) ends.2,
+          ∙ ap (λ (d : Result (Document _ _) ReadRefusal). wrap (finish with_ facts d)) ends.1
+          ∙ makes kept ends.0.used
+          ∙ ap (λ (n : ℕ). Ok (value kept, n)) ends.2,
     )
 
 pub cert_ends : (bytes : List ℕ) (contents : Contents) (end : ℕ) → contents ≡ items_of max_cert bytes
