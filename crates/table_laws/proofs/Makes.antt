@@ -224,14 +224,16 @@ module _ {S K V X : Type 0} (tables : Tables S K V X) (across : X) (section : S)
       → row_of (tables.rows section) keyword ≡ Some row → Makes May (by_row tables across here item keyword (Some row))
   makes_with_row keyword row known has_row =
       makes_if May (tables.ignores row.kind item) _ _
-      (λ ignored. inl (inr (record {
-        section = section;
-        keyword = keyword;
-        row = row;
-        known = known;
-        has_row = has_row;
-        ignored = ignored;
-      })))
+      (λ ignored. inl (
+        section,
+        inr (record {
+          keyword = keyword;
+          row = row;
+          known = known;
+          has_row = has_row;
+          ignored = ignored;
+        }),
+      ))
       (λ regarded. makes_in keyword row known has_row)
 
   -- an item of no row of it
@@ -240,7 +242,7 @@ module _ {S K V X : Type 0} (tables : Tables S K V X) (across : X) (section : S)
       → Makes May (elsewhere tables across here item keyword other)
   makes_elsewhere keyword None known opened =
       makes_if May (knows tables keyword) _ _ (λ is. tt)
-      (λ is_unknown. inl (inl (subst (λ (w : Option Keyword). IfSome w (λ k. knows tables k ≡ false)) (sym known) is_unknown)))
+      (λ is_unknown. inl (section, inl (subst (λ (w : Option Keyword). IfSome w (λ k. knows tables k ≡ false)) (sym known) is_unknown)))
   makes_elsewhere keyword (Some other) known opened =
       makes_unless May item.place
       (first_of (lacking (tables.rows section) taken) (passed_over tables keyword (following tables section))) _
@@ -267,7 +269,7 @@ module _ {S K V X : Type 0} (tables : Tables S K V X) (across : X) (section : S)
   makes_by_keyword : (word : Option Keyword) → word_of item.keyword ≡ word
       → Makes May (by_keyword tables across here item word)
   makes_by_keyword None known =
-      inl (inl (subst (λ (w : Option Keyword). IfSome w (λ k. knows tables k ≡ false)) (sym known) tt))
+      inl (section, inl (subst (λ (w : Option Keyword). IfSome w (λ k. knows tables k ≡ false)) (sym known) tt))
   makes_by_keyword (Some keyword) known = makes_by_row keyword (row_of (tables.rows section) keyword) known refl
 
   -- a later item of a document

@@ -23,6 +23,7 @@ use Rattle.vote_frame.specs.declared.frame.VoteSection.{VoteSection}
 use Rattle.vote_frame.specs.declared.frame.VoteSection.TheVariants as vote
 use Rattle.vote_frame.specs.Tables.{vote_tables}
 use Rattle.table_laws.specs.Kinds.{KindsAreSound}
+use Rattle.table_laws.specs.OneSection.{HasOneSection}
 use Rattle.table_laws.specs.Sound.{AreSound, IsInner, StandsOnce, ends_document}
 
 certificates : AreSound cert_tables
@@ -40,6 +41,17 @@ certificates = record {
   inner = λ section inside e. absurd (none-some inside e);
 }
 
+one_certificate : HasOneSection cert_tables
+unfolding same
+one_certificate = record {
+  alone = refl;
+  plain = refl;
+  again = refl;
+  last = the.DirKeyCertification;
+  ends = refl;
+  apart = (refl, (refl, (refl, (refl, (refl, (refl, (refl, (refl, (refl, tt)))))))));
+}
+
 descriptors : AreSound descriptor_tables
 unfolding same IsDistinct
 descriptors = record {
@@ -49,6 +61,20 @@ descriptors = record {
   opener_once = λ section. record { row = row the.Router One descriptor.Router; has_row = refl; once = refl };
   ends_last = λ section ends. refl;
   inner = λ section inside e. absurd (none-some inside e);
+}
+
+one_descriptor : HasOneSection descriptor_tables
+unfolding same
+one_descriptor = record {
+  alone = refl;
+  plain = refl;
+  again = refl;
+  last = the.RouterSignature;
+  ends = refl;
+  apart = (
+    refl,
+    (refl, (refl, (refl, (refl, (refl, (refl, (refl, (refl, (refl, (refl, (refl, (refl, (refl, (refl, (refl, (refl, (refl, (refl, (refl, (refl, (refl, tt))))))))))))))))))))),
+  );
 }
 
 -- ---- votes
@@ -156,5 +182,11 @@ consensuses flavour = record {
 }
 
 pub kinds_are_sound : KindsAreSound
-kinds_are_sound =
-    record { certificates = certificates; votes = votes; consensuses = consensuses; descriptors = descriptors }
+kinds_are_sound = record {
+  certificates = certificates;
+  votes = votes;
+  consensuses = consensuses;
+  descriptors = descriptors;
+  one_certificate = one_certificate;
+  one_descriptor = one_descriptor;
+}

@@ -13,8 +13,7 @@ use Rattle.table_laws.specs.Items.{IsItemIn}
 use Rattle.table_laws.specs.Sound.{AreSound}
 
 -- an item of a row of a section that the tables ignore
-pub record IsIgnored {S K V X : Type 0} (tables : Tables S K V X) (item : Item) : Type 0 where
-  pub section : S
+pub record IsIgnored {S K V X : Type 0} (tables : Tables S K V X) (section : S) (item : Item) : Type 0 where
   pub keyword : Keyword
   pub row : Row K
   pub known : word_of item.keyword ≡ Some keyword
@@ -26,9 +25,13 @@ module _ {S K V X : Type 0} where
   abbrev pub IsUnknown : Tables S K V X → Item → Type 0
   IsUnknown tables item = IfSome (word_of item.keyword) (λ keyword. knows tables keyword ≡ false)
 
+  -- an item that a section passes over
+  abbrev pub IsPassedIn : Tables S K V X → S → Item → Type 0
+  IsPassedIn tables section item = IsUnknown tables item ⊎ IsIgnored tables section item
+
   -- an item that may be passed over
   abbrev pub IsPassedOver : Tables S K V X → Item → Type 0
-  IsPassedOver tables item = IsUnknown tables item ⊎ IsIgnored tables item
+  IsPassedOver tables item = (section : S) × IsPassedIn tables section item
 
   -- an item that stands in one of these sections, by what is remembered of those before it, and what is then with it
   abbrev pub StandsIn : Tables S K V X → List (Group S V) → X → Item → X → Type 0
