@@ -180,6 +180,12 @@ module _ {S K V X : Type 0} (tables : Tables S K V X) (across : X) (section : S)
   enters_may None one e added = added
   enters_may (Some other) one e added = record { added = added; begins = e }
 
+  -- one more opener, where it begins the section once more
+  once_more : (row : Row K) → begins_again tables section row ≡ again.Section
+      → (same (opener tables section) row.keyword ≡ true) × ((tables.shape section).again ≡ again.Section)
+  once_more row e = as_again (same (opener tables section) row.keyword) ((tables.shape section).again) e
+
+  -- an item of a row that does not end the section, by what it begins
   makes_on : (keyword : Keyword) (row : Row K) (more : Again) → word_of item.keyword ≡ Some keyword
       → row_of (tables.rows section) keyword ≡ Some row
       → is_keyword ((tables.shape section).last) row.keyword ≡ false
@@ -199,12 +205,15 @@ module _ {S K V X : Type 0} (tables : Tables S K V X) (across : X) (section : S)
       (λ one accepted named. record {
         whole = whole;
         accepted = accepted;
-        opens = ap (λ (k : Keyword). same (opener tables section) k) named ∙ (as_again (same (opener tables section) row.keyword) ((tables.shape section).again) e).0;
-        follows = inr (record { same_name = refl; repeats = (as_again (same (opener tables section) row.keyword) ((tables.shape section).again) e).1 });
+        opens = ap (λ (k : Keyword). same (opener tables section) k) named ∙ (once_more row e).0;
+        follows = inr (record { same_name = refl; repeats = (once_more row e).1 });
       }))
   makes_on keyword row again.Document known has_row not_last e =
       makes_unless May item.place (lacking (tables.rows section) taken) _
-      (λ whole. record { whole = whole; stops = as_next (same (opener tables section) row.keyword) ((tables.shape section).again) e })
+      (λ whole. record {
+        whole = whole;
+        stops = as_next (same (opener tables section) row.keyword) ((tables.shape section).again) e;
+      })
 
   makes_in : (keyword : Keyword) (row : Row K) → word_of item.keyword ≡ Some keyword
       → row_of (tables.rows section) keyword ≡ Some row → Makes May (in_section tables across here item row)
@@ -242,7 +251,11 @@ module _ {S K V X : Type 0} (tables : Tables S K V X) (across : X) (section : S)
       → Makes May (elsewhere tables across here item keyword other)
   makes_elsewhere keyword None known opened =
       makes_if May (knows tables keyword) _ _ (λ is. tt)
-      (λ is_unknown. inl (section, inl (subst (λ (w : Option Keyword). IfSome w (λ k. knows tables k ≡ false)) (sym known) is_unknown)))
+      (λ is_unknown.
+      inl (
+        section,
+        inl (subst (λ (w : Option Keyword). IfSome w (λ k. knows tables k ≡ false)) (sym known) is_unknown),
+      ))
   makes_elsewhere keyword (Some other) known opened =
       makes_unless May item.place
       (first_of (lacking (tables.rows section) taken) (passed_over tables keyword (following tables section))) _

@@ -63,8 +63,14 @@ module _ {S K V X : Type 0} (tables : Tables S K V X) (kind : HasOneSection tabl
           ap (λ (l : List (Taken V)). times k l) parts ∙ times-append k before (one ∷ rest)
           ∙ ap (λ (n : ℕ). times k before + n) (times-first k one rest) in
           let counted : once (same one.keyword k) ≡ 1 = ap once is_one in
-          absurd (too_many (times k before) (once (same one.keyword k)) (times k rest) (times k total) (times said.keyword total)
+          absurd (too_many (times k before) (once (same one.keyword k)) (times k rest) (times k total)
+          (times said.keyword total)
           some few alike sum counted)
+
+  -- whether a row, but that of a last item, lacks its item before that
+  abbrev lacks_so : Taken V → List (Taken V) → Row K → Bool
+  lacks_so one before row =
+      is_one row.count && not (same row.keyword one.keyword) && not (stands row.keyword before)
 
   -- all rows but that of the last item stand before it
   none_lacks : (one : Taken V) (before total : List (Taken V)) → RowsStand tables tables.first total
@@ -90,10 +96,11 @@ module _ {S K V X : Type 0} (tables : Tables S K V X) (kind : HasOneSection tabl
 
       in_rows : (rows : List (Row K))
           → AllByRecursion (λ (row : Row K). row_of (tables.rows tables.first) row.keyword ≡ Some row) rows
-          → find (λ (row : Row K). is_one row.count && not (same row.keyword one.keyword) && not (stands row.keyword before)) rows ≡ None
+          → find (λ (row : Row K). lacks_so one before row) rows ≡ None
       in_rows [] each = refl
       in_rows (row ∷ rows) each =
-          ap (λ (t : Bool). if t then Some row else find (λ (row : Row K). is_one row.count && not (same row.keyword one.keyword) && not (stands row.keyword before)) rows) (fails row each.0)
+          ap (λ (t : Bool). if t then Some row else find (λ (row : Row K). lacks_so one before row) rows)
+          (fails row each.0)
           ∙ in_rows rows each.1
 
   -- ---- the first item

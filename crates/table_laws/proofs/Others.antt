@@ -142,7 +142,8 @@ module _ {S K V X : Type 0} (tables : Tables S K V X) (sound : AreSound tables) 
   }
 
   -- one more item of the section that is open
-  adds_read : (across next : X) (section : S) (taken : List (Taken V)) (around : Option (Group S V)) (item : Item) (items : List Item)
+  adds_read : (across next : X) (section : S) (taken : List (Taken V)) (around : Option (Group S V)) (item : Item)
+      (items : List Item)
       (document : Document S V) (one : Taken V) → IsItemIn tables across section item one
       → tables.note across one ≡ Ok next
       → IsReadFrom tables length next (opening section (taken ++ one ∷ []) around) items document
@@ -155,8 +156,8 @@ module _ {S K V X : Type 0} (tables : Tables S K V X) (sound : AreSound tables) 
   }
 
   -- the next section
-  opens_read : (across next : X) (section : S) (taken : List (Taken V)) (around : Option (Group S V)) (other : S) (item : Item)
-      (items : List Item) (document : Document S V) (one : Taken V) → IsItemIn tables across other item one
+  opens_read : (across next : X) (section : S) (taken : List (Taken V)) (around : Option (Group S V)) (other : S)
+      (item : Item) (items : List Item) (document : Document S V) (one : Taken V) → IsItemIn tables across other item one
       → tables.note across one ≡ Ok next
       → IsReadFrom tables length next (opening other (one ∷ []) around) items document
       → IsReadFrom tables length across (opening section taken around) (item ∷ items) (behind (group section taken) document)
@@ -195,7 +196,8 @@ module _ {S K V X : Type 0} (tables : Tables S K V X) (sound : AreSound tables) 
       (enters_alone tables sound across section (first ∷ taken) (Some outer) inside item one entering is)))
 
   -- the last item of it
-  leaves_read : (across next : X) (section : S) (taken : List (Taken V)) (outer : Group S V) (item : Item) (items : List Item)
+  leaves_read : (across next : X) (section : S) (taken : List (Taken V)) (outer : Group S V) (item : Item)
+      (items : List Item)
       (document : Document S V) (one : Taken V) → IsItemIn tables across section item one
       → tables.note across one ≡ Ok next
       → IsReadFrom tables length next (opening outer.section outer.taken None) items document
@@ -238,9 +240,11 @@ module _ {S K V X : Type 0} (tables : Tables S K V X) (sound : AreSound tables) 
       }
 
   -- the next document's first item
-  stops_read : (across : X) (section : S) (taken : List (Taken V)) (around : Option (Group S V)) (item : Item) (items : List Item)
+  stops_read : (across : X) (section : S) (taken : List (Taken V)) (around : Option (Group S V)) (item : Item)
+      (items : List Item)
       → around ≡ None
-      → IsReadFrom tables length across (opening section taken around) (item ∷ items) (alone (group section taken) item.place)
+      → IsReadFrom tables length across (opening section taken around) (item ∷ items)
+      (alone (group section taken) item.place)
   stops_read across section taken around item items none = record {
     here = has_whole section taken [];
     around = subst (λ (a : Option (Group S V)). HasAround a (group section taken ∷ [])) (sym none) tt;

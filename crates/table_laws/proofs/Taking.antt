@@ -28,7 +28,8 @@ module _ {S K V X : Type 0} (tables : Tables S K V X) where
   )
 
   -- and with one more
-  pub one_more_item : (remembered : X) (section : S) (items : List Item) (item : Item) (taken : List (Taken V)) (one : Taken V)
+  pub one_more_item : (remembered : X) (section : S) (items : List Item) (item : Item) (taken : List (Taken V))
+      (one : Taken V)
       → AreItemsIn tables section items taken → IsItemIn tables remembered section item one
       → AreItemsIn tables section (items ++ item ∷ []) (taken ++ one ∷ [])
   one_more_item remembered section items item [] one are is = (items, item, [], refl, remembered, is, tt)
@@ -91,8 +92,8 @@ module _ {S K V X : Type 0} (tables : Tables S K V X) where
       (All-nil (λ (group : Group S V). AreItemsIn tables group.section all group.taken))
 
   -- an item that begins a section
-  pub first_here : (remembered : X) (section : S) (before : List Item) (item : Item) (one : Taken V) → IsItemIn tables remembered section item one
-      → AreItemsIn tables section (before ++ item ∷ []) (one ∷ [])
+  pub first_here : (remembered : X) (section : S) (before : List Item) (item : Item) (one : Taken V)
+      → IsItemIn tables remembered section item one → AreItemsIn tables section (before ++ item ∷ []) (one ∷ [])
   first_here remembered section before item one is = one_more_item remembered section before item [] one tt is
 
   items_stand : (length : ℕ) (all : List Item) → Rules tables length (Rest all)

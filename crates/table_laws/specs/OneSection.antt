@@ -42,7 +42,7 @@ module _ {S K V X : Type 0} where
       × IsRegarded tables remembered item one next × (same last one.keyword ≡ false)
       × AreInside tables last next items rest after)
 
--- The items of a section: its opener; others, in any order; and its last item. Each row's stand as often as it asks for.
+-- The items of a section: its opener; others, in any order; and its last item. Each row's stand as often as it asks.
 pub record IsOneSection {S K V X : Type 0} (tables : Tables S K V X) (last : Keyword) (items : List Item)
     (taken : List (Taken V)) (used : ℕ) : Type 0 where
   pub first_item : Item
