@@ -49,10 +49,10 @@ module _ {S V : Type 0} where
 
 -- What is to be shown of the rest of a document, by what is remembered and open, the items that are left, and the
 -- document that they make: at its end, and from each item back.
-pub record Rules {S K V X : Type 0} (tables : Tables S K V X) (length : ℕ)
+pub record Rules {S K V X : Type 0} (tables : Tables S K V X) (length : ℕ) (fault : Option DocFault)
     (Rest : X → Open S V → List Item → Document S V → Type 0) : Type 0 where
   pub closes : (across : X) (section : S) (taken : List (Taken V)) (around : Option (Group S V))
-      → missing_at_end tables section taken ≡ None
+      → missing_at_end tables section taken ≡ None → fault ≡ None
       → Rest across (opening section taken around) [] (alone (group section taken) length)
   pub passes : (across : X) (open_ : Open S V) (item : Item) (items : List Item) (document : Document S V)
       → IsPassedOver tables item ⊎ LacksOpener tables → Rest across open_ items document
@@ -119,8 +119,8 @@ module _ {S K V X : Type 0} where
 
 -- ---- an item
 
-module _ {S K V X : Type 0} (tables : Tables S K V X) (length : ℕ)
-    (Rest : X → Open S V → List Item → Document S V → Type 0) (rules : Rules tables length Rest) where
+module _ {S K V X : Type 0} (tables : Tables S K V X) (length : ℕ) (fault : Option DocFault)
+    (Rest : X → Open S V → List Item → Document S V → Type 0) (rules : Rules tables length fault Rest) where
   -- what is shown of what follows, whatever it is
   abbrev Follows : List Item → (X → Open S V → Result (Document S V) ReadRefusal) → Type 0
   Follows items more =
@@ -208,43 +208,48 @@ module _ {S K V X : Type 0} (tables : Tables S K V X) (length : ℕ)
   -- ---- the items
 
   closed : (across : X) (section : S) (taken : List (Taken V)) (around : Option (Group S V)) (missing : Option Keyword)
-      → missing_at_end tables section taken ≡ missing
+      → missing_at_end tables section taken ≡ missing → fault ≡ None
       → Holds (λ document. Rest across (opening section taken around) [] document)
       (closed_at length (opening section taken around) missing)
-  closed across section taken around None e = rules.closes across section taken around e
-  closed across section taken around (Some keyword) e = tt
+  closed across section taken around None e none = rules.closes across section taken around e none
+  closed across section taken around (Some keyword) e none = tt
 
-  ended : (across : X) (section : S) (taken : List (Taken V)) (around : Option (Group S V)) (fault : Option DocFault)
+  ended : (across : X) (section : S) (taken : List (Taken V)) (around : Option (Group S V)) (other : Option DocFault)
+      → fault ≡ other
       → Holds (λ document. Rest across (opening section taken around) [] document)
-      (at_end tables length (opening section taken around) fault)
-  ended across section taken around None = closed across section taken around (missing_at_end tables section taken) refl
-  ended across section taken around (Some fault) = tt
+      (at_end tables length (opening section taken around) other)
+  ended across section taken around None e =
+      closed across section taken around (missing_at_end tables section taken) refl e
+  ended across section taken around (Some other) e = tt
 
   -- what is shown holds of the rest of each document
   rest_holds : (across : X) (section : S) (taken : List (Taken V)) (around : Option (Group S V))
-      (fault : Option DocFault) (items : List Item) → IsStarted tables section taken around
+      (items : List Item) → IsStarted tables section taken around
       → Holds (λ document. Rest across (opening section taken around) items document)
       (read_items tables length across (opening section taken around) fault items)
   unfolding read_items
-  rest_holds across section taken around fault [] started = ended across section taken around fault
-  rest_holds across section [] around fault (item ∷ items) started =
+  rest_holds across section taken around [] started = ended across section taken around fault refl
+  rest_holds across section [] around (item ∷ items) started =
       subst (λ (o : Open S V). Holds (λ document. Rest across o (item ∷ items) document)
       (after_made tables (made_first tables across item (word_of item.keyword)) across o item
       (λ next after. read_items tables length next after fault items)))
       (sym started)
       (first_step across item items (λ next after. read_items tables length next after fault items)
       (made_first tables across item (word_of item.keyword)) (makes_first tables across item)
-      (λ next s t a is. rest_holds next s t a fault items is))
-  rest_holds across section (first ∷ taken) around fault (item ∷ items) started =
+      (λ next s t a is. rest_holds next s t a items is))
+  rest_holds across section (first ∷ taken) around (item ∷ items) started =
       later_step across section first taken around item items
       (λ next after. read_items tables length next after fault items)
       (made_later tables across (opening section (first ∷ taken) around) item (word_of item.keyword))
       (makes_later tables across section (first ∷ taken) around item) started
-      (λ next s t a is. rest_holds next s t a fault items is)
+      (λ next s t a is. rest_holds next s t a items is)
 
-  -- it holds of each document
-  pub holds : (contents : Contents) (document : Document S V) → document_of tables length contents ≡ Ok document
-      → Rest tables.start (start tables) contents.items document
-  holds contents document e =
-      subst (λ (r : Result (Document S V) ReadRefusal). Holds (λ d. Rest tables.start (start tables) contents.items d) r)
-      e (rest_holds tables.start tables.first [] None contents.fault contents.items refl)
+-- it holds of each document
+pub holds : {S K V X : Type 0} (tables : Tables S K V X) (length : ℕ)
+    (Rest : X → Open S V → List Item → Document S V → Type 0) (contents : Contents)
+    → Rules tables length contents.fault Rest → (document : Document S V)
+    → document_of tables length contents ≡ Ok document
+    → Rest tables.start (start tables) contents.items document
+holds tables length Rest contents rules document e =
+    subst (λ r. Holds (λ d. Rest tables.start (start tables) contents.items d) r) e
+    (rest_holds tables length contents.fault Rest rules tables.start tables.first [] None contents.items refl)

@@ -3,6 +3,7 @@ use Rattle.std.proofs.Common.{◌≡◌, ℕ, List, [], ◌∷◌, ◌++◌, Opt
 use Rattle.std.proofs.Common.{◌∙◌, append_assoc, inl, inr}
 use Rattle.std.specs.Prelude.{All}
 use Rattle.std.proofs.lemmas.List.Elements.{All-cons, All-nil}
+use Rattle.item_terms.specs.declared.fault.DocFault.{DocFault}
 use Rattle.item_terms.specs.Items.{Item}
 use Rattle.frame_terms.specs.declared.document.Group.{Group}
 use Rattle.frame_terms.specs.declared.document.Open.{Open}
@@ -96,9 +97,9 @@ module _ {S K V X : Type 0} (tables : Tables S K V X) where
       → IsItemIn tables remembered section item one → AreItemsIn tables section (before ++ item ∷ []) (one ∷ [])
   first_here remembered section before item one is = one_more_item remembered section before item [] one tt is
 
-  items_stand : (length : ℕ) (all : List Item) → Rules tables length (Rest all)
-  items_stand length all = record {
-    closes = λ across section taken around missing before are.
+  items_stand : (length : ℕ) (fault : Option DocFault) (all : List Item) → Rules tables length fault (Rest all)
+  items_stand length fault all = record {
+    closes = λ across section taken around missing no_fault before are.
         in_alone all section taken (in_all section all before [] taken are.parts are.here);
     passes = λ across open_ item items document may rest before are. rest (before ++ item ∷ []) (record {
       parts = further all before item items are.parts;
@@ -153,5 +154,5 @@ module _ {S K V X : Type 0} (tables : Tables S K V X) where
 
   pub are_said : ItemsAreSaid tables
   are_said length contents document e =
-      holds tables length (Rest contents.items) (items_stand length contents.items) contents document e []
+      holds tables length (Rest contents.items) contents (items_stand length contents.fault contents.items) document e []
       (record { parts = refl; here = tt; around = tt })

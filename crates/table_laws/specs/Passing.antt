@@ -1,5 +1,6 @@
 -- What is passed over, and where a document ends (dir-spec, "Document meta-format").
-use Rattle.std.specs.Prelude.{◌≡◌, ◌⊎◌, ◌++◌, ℕ, true, false, List, [], ◌∷◌, Any, IfSome, Some, Ok}
+use Rattle.std.specs.Prelude.{◌≡◌, ◌⊎◌, ◌++◌, ℕ, true, false, List, [], ◌∷◌, Any, IfSome, Option, Some, None, Ok}
+use Rattle.item_terms.specs.declared.fault.DocFault.{DocFault}
 use Rattle.item_terms.specs.Items.{Item, Contents}
 use Rattle.frame_terms.specs.declared.document.Group.{Group}
 use Rattle.frame_terms.specs.declared.keyword.Keyword.{Keyword}
@@ -59,19 +60,21 @@ abbrev pub EndsBefore : List Item → ℕ → Type 0
 EndsBefore [] place = ⊥
 EndsBefore (next ∷ left) place = place ≡ next.place
 
--- it ends with an input of so many bytes, of which no item is left
-pub record EndsWithInput (length : ℕ) (left : List Item) (place : ℕ) : Type 0 where
+-- it ends with an input of so many bytes, of which no item is left, and in which no line has a fault
+pub record EndsWithInput (length : ℕ) (fault : Option DocFault) (left : List Item) (place : ℕ) : Type 0 where
   pub none_left : left ≡ []
+  pub no_fault : fault ≡ None
   pub ends : place ≡ length
 
 -- A document's items come first, up to its end. Each of them stands in one of its sections, or may be passed over.
-pub record IsOfItems {S K V X : Type 0} (tables : Tables S K V X) (length : ℕ) (remembered : X) (items : List Item)
-    (document : Document S V) : Type 0 where
+pub record IsOfItems {S K V X : Type 0} (tables : Tables S K V X) (length : ℕ) (fault : Option DocFault)
+    (remembered : X) (items : List Item) (document : Document S V) : Type 0 where
   pub own : List Item
   pub left : List Item
   pub parts : items ≡ own ++ left
   pub each : EachStandsOrPasses tables document.groups remembered own
-  pub ends : EndsWith own document.used ⊎ EndsBefore left document.used ⊎ EndsWithInput length left document.used
+  pub ends : EndsWith own document.used ⊎ EndsBefore left document.used
+      ⊎ EndsWithInput length fault left document.used
 
 module _ {S K V X : Type 0} where
   -- Each item of the input, up to where a document ends, stands in one of its sections, or may be passed over: the
@@ -81,4 +84,4 @@ module _ {S K V X : Type 0} where
   OthersArePassedOver tables =
       AreSound tables
       → (length : ℕ) (contents : Contents) (document : Document S V) → document_of tables length contents ≡ Ok document
-      → IsOfItems tables length tables.start contents.items document
+      → IsOfItems tables length contents.fault tables.start contents.items document
