@@ -13,4 +13,5 @@ pub mod Kept
 pub mod Others
 pub mod SectionItems
 pub mod OneSection
+pub mod OneDocument
 pub mod SoundKinds

@@ -24,7 +24,7 @@ use Rattle.frame_laws.proofs.Reading.{read_on}
 use Rattle.frame_laws.proofs.Steps.{opening}
 use Rattle.table_laws.specs.Counts.{RowsStand, times}
 use Rattle.table_laws.specs.Items.{IsItemOf}
-use Rattle.table_laws.specs.OneSection.{AreInside, HasOneSection, IsOneSection, IsRegarded, OneSectionIsRead}
+use Rattle.table_laws.specs.OneSection.{AreInside, HasOneSection, IsOneSection, OneSectionIsRead}
 use Rattle.table_laws.proofs.Openers.{row_of-same}
 use Rattle.table_laws.proofs.SectionItems.{accepted, adds, ends_it, named, passes}
 use Rattle.table_laws.proofs.Times.{few_of, none_stands, once, one_of, some_stands, times-append, times-first, times-more}
@@ -105,11 +105,10 @@ module _ {S K V X : Type 0} (tables : Tables S K V X) (kind : HasOneSection tabl
 
   -- ---- the first item
 
-  begins_it : (next : X) (item : Item) (one : Taken V) (is : IsRegarded tables tables.start item one next)
+  begins_it : (item : Item) (one : Taken V) (said : IsItemOf tables tables.start tables.first item one)
       → same (opener tables tables.first) one.keyword ≡ true
       → made_by tables tables.start (start tables) item ≡ Ok (Pushes one)
-  begins_it next item one is opens =
-      let said = is.said in
+  begins_it item one said opens =
       let row = said.row in
       let row_opens : same (opener tables tables.first) row.keyword ≡ true =
       ap (λ (k : Keyword). same (opener tables tables.first) k) (sym (named tables kind tables.start item one said))
@@ -173,7 +172,7 @@ module _ {S K V X : Type 0} (tables : Tables S K V X) (kind : HasOneSection tabl
       let last : same kind.last is.last_one.keyword ≡ true = is.last_last in
       ap (λ (l : List Item). read_items tables length tables.start (start tables) fault l) is.come
       ∙ read_on tables length tables.start is.with_first (start tables) fault is.first_item behind
-      (Pushes is.first_one) (begins_it is.with_first is.first_item is.first_one is.opens is.opener_first) is.opens.note
+      (Pushes is.first_one) (begins_it is.first_item is.first_one is.opens is.opener_first) is.opens_note
       ∙ between_read length fault is.with_first is.first_one [] is.items_between is.between is.before_last
       (is.last_one ∷ []) taken (is.last_item ∷ is.left) is.counts is.are is.inside
       ∙ read_on tables length is.before_last is.with_last (opening tables.first before None) fault is.last_item is.left

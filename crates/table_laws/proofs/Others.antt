@@ -15,13 +15,13 @@ use Rattle.frame_terms.specs.Tables.{Tables}
 use Rattle.frame_laws.proofs.Steps.{opening}
 use Rattle.table_laws.specs.Items.{IsItemIn}
 use Rattle.table_laws.specs.Passing.{EachStandsOrPasses, EndsBefore, EndsWith, EndsWithInput, IsOfItems, IsPassedOver}
-use Rattle.table_laws.specs.Passing.{OthersArePassedOver, StandsIn}
+use Rattle.table_laws.specs.Passing.{IsPassedIn, OthersArePassedOver, StandsIn}
 use Rattle.table_laws.specs.Sound.{AreSound}
 use Rattle.table_laws.proofs.Makes.{neither}
 use Rattle.table_laws.proofs.Placing.{IsPlaced, adds_placed, closes_alone, enters_alone, enters_placed, leaves_placed}
 use Rattle.table_laws.proofs.Placing.{opens_placed, placed_alone, stops_alone}
 use Rattle.table_laws.proofs.Parts.{first_listed}
-use Rattle.table_laws.proofs.Rules.{Rules, alone, behind, holds}
+use Rattle.table_laws.proofs.Rules.{HasSome, Rules, alone, behind, holds}
 use Rattle.table_laws.proofs.Ways.{IsEntering, LacksOpener}
 use Rattle.table_laws.proofs.Kept.{HasAround, HasGroup, Keeps, any_as, any_between, any_there, around_behind, has_behind}
 use Rattle.table_laws.proofs.Kept.{has_fewer, has_first, has_whole}
@@ -121,9 +121,10 @@ module _ {S K V X : Type 0} (tables : Tables S K V X) (sound : AreSound tables) 
   none_lacks lacks =
       let once = sound.opener_once lacks.section in none-some once.row (sym lacks.has_none ∙ once.has_row)
 
-  passed : {item : Item} → IsPassedOver tables item ⊎ LacksOpener tables → IsPassedOver tables item
-  passed (inl is) = is
-  passed (inr lacks) = absurd (none_lacks lacks)
+  passed : (section : S) (taken : List (Taken V)) (item : Item)
+      → (IsPassedIn tables section item × HasSome taken) ⊎ LacksOpener tables → IsPassedOver tables item
+  passed section taken item (inl is) = (section, is.0)
+  passed section taken item (inr lacks) = absurd (none_lacks lacks)
 
   -- the document ends with the input
   closes_read : (across : X) (section : S) (taken : List (Taken V)) (around : Option (Group S V))
@@ -268,7 +269,7 @@ module _ {S K V X : Type 0} (tables : Tables S K V X) (sound : AreSound tables) 
         record {
           here = from.here;
           around = from.around;
-          of = further_item tables length fault across across item items document (inl (passed may, refl)) from.of;
+          of = further_item tables length fault across across item items document (inl (passed open_.section open_.taken item may, refl)) from.of;
         };
     starts = λ across next item items document one may note rest is.
         adds_read across next tables.first [] None item items document one (inl may.accepted.taken) note

@@ -1,5 +1,6 @@
 -- What is shown of a document item by item holds of what `document_of` gives.
 use Rattle.std.proofs.Common.{◌≡◌, ℕ, List, [], ◌∷◌, ◌++◌, Option, Some, None, Result, Ok, Err, refl, sym, subst}
+use Rattle.std.proofs.Common.{inl}
 use Rattle.std.proofs.Common.{inr}
 use Rattle.std.specs.Prelude.{◌⊎◌}
 use Rattle.item_terms.specs.Items.{Contents, Item}
@@ -18,7 +19,7 @@ use Rattle.frame_terms.specs.Documents.{missing_at_end, onto, read_items, start}
 use Rattle.frame_terms.specs.Keywords.{word_of}
 use Rattle.frame_terms.specs.Tables.{Tables}
 use Rattle.frame_laws.proofs.Steps.{opening}
-use Rattle.table_laws.specs.Passing.{IsPassedOver}
+use Rattle.table_laws.specs.Passing.{IsPassedIn}
 use Rattle.table_laws.proofs.Makes.{Makes, makes_first, makes_later}
 use Rattle.table_laws.proofs.Ways.{FirstMay, IsAdded, IsBeginning, IsEnding, IsEntering, IsOpening, IsStopping, LacksOpener}
 use Rattle.table_laws.proofs.Ways.{LaterMay}
@@ -47,6 +48,12 @@ module _ {S V : Type 0} where
   holds_onto P Q first (Ok document) turns is = turns document is
   holds_onto P Q first (Err refusal) turns is = tt
 
+module _ {V : Type 0} where
+  -- some item stands
+  abbrev pub HasSome : List (Taken V) → Type 0
+  HasSome [] = ⊥
+  HasSome (one ∷ taken) = Unit {0}
+
 -- What is to be shown of the rest of a document, by what is remembered and open, the items that are left, and the
 -- document that they make: at its end, and from each item back.
 pub record Rules {S K V X : Type 0} (tables : Tables S K V X) (length : ℕ) (fault : Option DocFault)
@@ -55,7 +62,8 @@ pub record Rules {S K V X : Type 0} (tables : Tables S K V X) (length : ℕ) (fa
       → missing_at_end tables section taken ≡ None → fault ≡ None
       → Rest across (opening section taken around) [] (alone (group section taken) length)
   pub passes : (across : X) (open_ : Open S V) (item : Item) (items : List Item) (document : Document S V)
-      → IsPassedOver tables item ⊎ LacksOpener tables → Rest across open_ items document
+      → (IsPassedIn tables open_.section item × HasSome open_.taken) ⊎ LacksOpener tables
+      → Rest across open_ items document
       → Rest across open_ (item ∷ items) document
   pub starts : (across next : X) (item : Item) (items : List Item) (document : Document S V) (one : Taken V)
       → IsBeginning tables across item one → tables.note across one ≡ Ok next
@@ -92,12 +100,6 @@ pub record Rules {S K V X : Type 0} (tables : Tables S K V X) (length : ℕ) (fa
       (item : Item) (items : List Item) → IsStopping tables section (first ∷ taken)
       → Rest across (opening section (first ∷ taken) around) (item ∷ items)
       (alone (group section (first ∷ taken)) item.place)
-
-module _ {V : Type 0} where
-  -- some item stands
-  abbrev HasSome : List (Taken V) → Type 0
-  HasSome [] = ⊥
-  HasSome (one ∷ taken) = Unit {0}
 
 module _ {S V : Type 0} where
   -- in the section around stands the item that began the one inside it
@@ -159,6 +161,13 @@ module _ {S K V X : Type 0} (tables : Tables S K V X) (length : ℕ) (fault : Op
   first_step across item items more (Ok (Ends one)) may follows = absurd may
   first_step across item items more (Ok Stops) may follows = absurd may
 
+  -- an item that is passed over, where some stand
+  passed : (section : S) (first : Taken V) (taken : List (Taken V)) (item : Item)
+      → IsPassedIn tables section item ⊎ LacksOpener tables
+      → (IsPassedIn tables section item × HasSome (first ∷ taken)) ⊎ LacksOpener tables
+  passed section first taken item (inl is) = inl (is, tt)
+  passed section first taken item (inr lacks) = inr lacks
+
   -- a later one
   later_step : (across : X) (section : S) (first : Taken V) (taken : List (Taken V)) (around : Option (Group S V))
       (item : Item) (items : List Item) (more : X → Open S V → Result (Document S V) ReadRefusal)
@@ -170,7 +179,8 @@ module _ {S K V X : Type 0} (tables : Tables S K V X) (length : ℕ) (fault : Op
   later_step across section first taken around item items more (Err refusal) may some follows = tt
   later_step across section first taken around item items more (Ok Passes) may some follows =
       holds_as _ _ (more across (opening section (first ∷ taken) around))
-      (λ document rest. rules.passes across (opening section (first ∷ taken) around) item items document may rest)
+      (λ document rest. rules.passes across (opening section (first ∷ taken) around) item items document
+      (passed section first taken item may) rest)
       (follows across section (first ∷ taken) around some)
   later_step across section first taken around item items more (Ok (Pushes one)) may some follows =
       noted _ (Pushes one) (opening section (first ∷ taken) around) item more one across (tables.note across one) refl

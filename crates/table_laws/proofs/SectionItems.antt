@@ -32,14 +32,14 @@ use Rattle.table_laws.specs.Passing.{IsPassedIn}
 
 module _ {S K V X : Type 0} (tables : Tables S K V X) (kind : HasOneSection tables) where
   -- none follows the one section
-  none_follows : following tables tables.first ≡ []
+  pub none_follows : following tables tables.first ≡ []
   none_follows =
       ap (λ (list : List S). after tables tables.first list) kind.alone
       ∙ ap (λ (t : Bool). drop (cond (not t) (1 + 0) 0 + 1) (tables.first ∷ []))
       (same-refl (opener tables tables.first))
 
   -- none begins inside it
-  none_inside : (keyword : Keyword) → inner tables tables.first keyword ≡ None
+  pub none_inside : (keyword : Keyword) → inner tables tables.first keyword ≡ None
   none_inside keyword = ap (λ (s : Option S). section_if tables keyword s) kind.plain
 
   -- no item is beyond a limit

@@ -49,6 +49,8 @@ one_certificate = record {
   again = refl;
   last = the.DirKeyCertification;
   ends = refl;
+  last_once = record { row = row the.DirKeyCertification One cert.Certification; has_row = refl; once = refl };
+  later = refl;
   apart = (refl, (refl, (refl, (refl, (refl, (refl, (refl, (refl, (refl, tt)))))))));
 }
 
@@ -71,6 +73,8 @@ one_descriptor = record {
   again = refl;
   last = the.RouterSignature;
   ends = refl;
+  last_once = record { row = row the.RouterSignature One descriptor.Signature; has_row = refl; once = refl };
+  later = refl;
   apart = (
     refl,
     (refl, (refl, (refl, (refl, (refl, (refl, (refl, (refl, (refl, (refl, (refl, (refl, (refl, (refl, (refl, (refl, (refl, (refl, (refl, (refl, (refl, tt))))))))))))))))))))),

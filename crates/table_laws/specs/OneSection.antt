@@ -6,7 +6,7 @@ use Rattle.frame_terms.specs.declared.document.Taken.{Taken}
 use Rattle.frame_terms.specs.declared.keyword.Keyword.{Keyword}
 use Rattle.frame_terms.specs.declared.row.Row.{Row}
 use Rattle.frame_terms.specs.declared.section.Again.TheVariants.{Nothing}
-use Rattle.frame_terms.specs.Documents.{document_of, group}
+use Rattle.frame_terms.specs.Documents.{Document, document_of, group}
 use Rattle.frame_terms.specs.Keywords.{same}
 use Rattle.frame_terms.specs.Order.{opener}
 use Rattle.frame_terms.specs.Sections.{row_of}
@@ -14,6 +14,7 @@ use Rattle.frame_terms.specs.Tables.{Tables}
 use Rattle.table_laws.specs.Counts.{RowsStand}
 use Rattle.table_laws.specs.Items.{IsItemOf}
 use Rattle.table_laws.specs.Passing.{IsPassedIn}
+use Rattle.table_laws.specs.Sound.{AreSound, StandsOnce}
 
 -- a document of one section, which has none inside it and ends with an item of its own; no two rows have one keyword
 pub record HasOneSection {S K V X : Type 0} (tables : Tables S K V X) : Type 0 where
@@ -22,6 +23,8 @@ pub record HasOneSection {S K V X : Type 0} (tables : Tables S K V X) : Type 0 w
   pub again : (tables.shape tables.first).again ≡ Nothing
   pub last : Keyword
   pub ends : (tables.shape tables.first).last ≡ Some last
+  pub last_once : StandsOnce tables tables.first last
+  pub later : same last (opener tables tables.first) ≡ false
   pub apart : AllByRecursion (λ (row : Row K). row_of (tables.rows tables.first) row.keyword ≡ Some row)
       (tables.rows tables.first)
 
@@ -57,7 +60,8 @@ pub record IsOneSection {S K V X : Type 0} (tables : Tables S K V X) (last : Key
   pub with_first : X
   pub before_last : X
   pub with_last : X
-  pub opens : IsRegarded tables tables.start first_item first_one with_first
+  pub opens : IsItemOf tables tables.start tables.first first_item first_one
+  pub opens_note : tables.note tables.start first_one ≡ Ok with_first
   pub opener_first : same (opener tables tables.first) first_one.keyword ≡ true
   pub inside : AreInside tables last with_first items_between between before_last
   pub ends : IsRegarded tables before_last last_item last_one with_last
@@ -72,3 +76,12 @@ module _ {S K V X : Type 0} where
       (kind : HasOneSection tables) (length : ℕ) (contents : Contents) (taken : List (Taken V)) (used : ℕ)
       → IsOneSection tables kind.last contents.items taken used
       → document_of tables length contents ≡ Ok (record { groups = group tables.first taken ∷ []; used = used })
+
+  -- A document of one section is such items: no others are read as one.
+  abbrev pub OneSectionIsAll : Tables S K V X → Type 0
+  OneSectionIsAll tables =
+      AreSound tables → (kind : HasOneSection tables) (length : ℕ) (contents : Contents) (document : Document S V)
+      → document_of tables length contents ≡ Ok document
+      → (taken : List (Taken V)) × (used : ℕ)
+      × (document ≡ record { groups = group tables.first taken ∷ []; used = used })
+      × IsOneSection tables kind.last contents.items taken used

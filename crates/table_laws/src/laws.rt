@@ -3,7 +3,7 @@ ghost use Rattle.frame_terms.specs.Tables.{Tables};
 ghost use Rattle.table_laws.specs.Counts.{RowsStandAsOften};
 ghost use Rattle.table_laws.specs.Items.{ItemsAreSaid};
 ghost use Rattle.table_laws.specs.Kinds.{KindsAreSound};
-ghost use Rattle.table_laws.specs.OneSection.{OneSectionIsRead};
+ghost use Rattle.table_laws.specs.OneSection.{OneSectionIsAll, OneSectionIsRead};
 ghost use Rattle.table_laws.specs.Order.{SectionsStandInOrder};
 ghost use Rattle.table_laws.specs.Passing.{OthersArePassedOver};
 
@@ -32,6 +32,11 @@ pub fn others_are_passed_over<S, K, V, X>()
 /// document has no other, which ends with an item of its own.
 pub fn one_section_is_read<S, K, V, X>()
     ensures { (tables : Tables S K V X) → OneSectionIsRead tables }
+{}
+
+/// A law: no others are read as such a document, where its tables are sound.
+pub fn one_section_is_all<S, K, V, X>()
+    ensures { (tables : Tables S K V X) → OneSectionIsAll tables }
 {}
 
 /// A law: the tables of certificates, votes, consensuses of either flavour and server descriptors are sound, and
