@@ -3,6 +3,7 @@ use Rattle.std.proofs.Common.{◌≡◌, ℕ, ◌+◌, ◌≤◌, Bool, true, fa
 use Rattle.std.proofs.Common.{◌∙◌, arith, subst}
 use Rattle.std.specs.Prelude.{All, not, ◌&&◌}
 use Rattle.std.proofs.lemmas.List.Elements.{All-cons, All-nil}
+use Rattle.item_terms.specs.declared.fault.DocFault.{DocFault}
 use Rattle.item_terms.specs.Items.{Item}
 use Rattle.frame_terms.specs.declared.document.Group.{Group}
 use Rattle.frame_terms.specs.declared.document.Open.{Open}
@@ -167,9 +168,9 @@ module _ {S K V X : Type 0} (tables : Tables S K V X) where
       rows_stand section (taken ++ one ∷ []) (few_more across section taken item one ending.accepted few)
       (there_last across section taken item one ending)
 
-  counts_stand : (length : ℕ) → Rules tables length Rest
-  counts_stand length = record {
-    closes = λ across section taken around missing is.
+  counts_stand : (length : ℕ) (fault : Option DocFault) → Rules tables length fault Rest
+  counts_stand length fault = record {
+    closes = λ across section taken around missing no_fault is.
         in_alone section taken (whole_rows section taken is.here
         (neither (lacking (tables.rows section) taken) (must_open tables (following tables section)) missing).0);
     passes = λ across open_ item items document may rest is. rest is;
@@ -205,5 +206,5 @@ module _ {S K V X : Type 0} (tables : Tables S K V X) where
 
   pub stand_as_often : RowsStandAsOften tables
   stand_as_often length contents document e =
-      holds tables length Rest (counts_stand length) contents document e
+      holds tables length Rest contents (counts_stand length contents.fault) document e
       (record { here = few_none tables.first; around = tt })

@@ -11,4 +11,7 @@ pub mod Placing
 pub mod Ordering
 pub mod Kept
 pub mod Others
+pub mod SectionItems
+pub mod OneSection
+pub mod OneDocument
 pub mod SoundKinds

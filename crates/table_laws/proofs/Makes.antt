@@ -63,7 +63,8 @@ module _ {S K V X : Type 0} (tables : Tables S K V X) (across : X) (item : Item)
       → row_of (tables.rows section) keyword ≡ Some row
       → (not (is_many row.count) && stands row.keyword before) ≡ false
       → tables.value_of across row.kind item ≡ value
-      → ((one : Taken V) → IsAccepted tables across section before item one → one.keyword ≡ row.keyword → May (make one))
+      → ((one : Taken V) (accepted : IsAccepted tables across section before item one) → accepted.taken.row ≡ row
+      → one.keyword ≡ row.keyword → May (make one))
       → Makes May (as_made make (taken_as row.keyword item value))
   makes_of_value section before keyword row make (Err fault) known has_row once says may = tt
   makes_of_value section before keyword row make (Ok value) known has_row once says may =
@@ -79,12 +80,13 @@ module _ {S K V X : Type 0} (tables : Tables S K V X) (across : X) (item : Item)
           stands = refl;
         };
         once = once;
-      }) refl
+      }) refl refl
 
   -- an item by its row, unless one stands
   makes_of_row : (section : S) (before : List (Taken V)) (keyword : Keyword) (row : Row K) (make : Taken V → Made S V)
       → word_of item.keyword ≡ Some keyword → row_of (tables.rows section) keyword ≡ Some row
-      → ((one : Taken V) → IsAccepted tables across section before item one → one.keyword ≡ row.keyword → May (make one))
+      → ((one : Taken V) (accepted : IsAccepted tables across section before item one) → accepted.taken.row ≡ row
+      → one.keyword ≡ row.keyword → May (make one))
       → Makes May (as_made make (accept tables across row before item))
   makes_of_row section before keyword row make known has_row may =
       by_test (not (is_many row.count) && stands row.keyword before) refl
@@ -119,7 +121,7 @@ module _ {S K V X : Type 0} (tables : Tables S K V X) (across : X) (item : Item)
       ∙ same-through row.keyword keyword (opener tables section) there
       ∙ same-sym keyword (opener tables section) ∙ opens in
       makes_of_row tables across item May section [] keyword row make known has_row
-      (λ one accepted named. may one accepted (ap (λ (k : Keyword). same (opener tables section) k) named ∙ opens_row))
+      (λ one accepted row_is named. may one accepted (ap (λ (k : Keyword). same (opener tables section) k) named ∙ opens_row))
 
   makes_first_item : (word : Option Keyword) → word_of item.keyword ≡ word → begins_document tables word ≡ true
       → Makes (FirstMay tables across item) (first_item tables across item word)
@@ -180,44 +182,56 @@ module _ {S K V X : Type 0} (tables : Tables S K V X) (across : X) (section : S)
   enters_may None one e added = added
   enters_may (Some other) one e added = record { added = added; begins = e }
 
+  -- one more opener, where it begins the section once more
+  once_more : (row : Row K) → begins_again tables section row ≡ again.Section
+      → (same (opener tables section) row.keyword ≡ true) × ((tables.shape section).again ≡ again.Section)
+  once_more row e = as_again (same (opener tables section) row.keyword) ((tables.shape section).again) e
+
+  -- an item of a row that does not end the section, by what it begins
   makes_on : (keyword : Keyword) (row : Row K) (more : Again) → word_of item.keyword ≡ Some keyword
       → row_of (tables.rows section) keyword ≡ Some row
-      → is_keyword ((tables.shape section).last) row.keyword ≡ false
+      → is_keyword ((tables.shape section).last) row.keyword ≡ false → tables.ignores row.kind item ≡ false
       → begins_again tables section row ≡ more → Makes May (goes_on tables across here item row more)
-  makes_on keyword row again.Nothing known has_row not_last e =
+  makes_on keyword row again.Nothing known has_row not_last regarded e =
       makes_of_row tables across item May section taken keyword row (enters (inner tables section row.keyword)) known
       has_row
-      (λ one accepted named. enters_may (inner tables section row.keyword) one
+      (λ one accepted row_is named. enters_may (inner tables section row.keyword) one
       (ap (λ (k : Keyword). inner tables section k) named)
       (record {
         accepted = accepted;
         goes_on = ap (λ (k : Keyword). is_keyword ((tables.shape section).last) k) named ∙ not_last;
+        regarded = ap (λ (r : Row K). tables.ignores r.kind item) row_is ∙ regarded;
       }))
-  makes_on keyword row again.Section known has_row not_last e =
+  makes_on keyword row again.Section known has_row not_last regarded e =
       makes_unless May item.place (lacking (tables.rows section) taken) _ (λ whole.
       makes_of_row tables across item May section [] keyword row (Opens section) known has_row
-      (λ one accepted named. record {
+      (λ one accepted row_is named. record {
         whole = whole;
         accepted = accepted;
-        opens = ap (λ (k : Keyword). same (opener tables section) k) named ∙ (as_again (same (opener tables section) row.keyword) ((tables.shape section).again) e).0;
-        follows = inr (record { same_name = refl; repeats = (as_again (same (opener tables section) row.keyword) ((tables.shape section).again) e).1 });
+        opens = ap (λ (k : Keyword). same (opener tables section) k) named ∙ (once_more row e).0;
+        follows = inr (record { same_name = refl; repeats = (once_more row e).1 });
       }))
-  makes_on keyword row again.Document known has_row not_last e =
+  makes_on keyword row again.Document known has_row not_last regarded e =
       makes_unless May item.place (lacking (tables.rows section) taken) _
-      (λ whole. record { whole = whole; stops = as_next (same (opener tables section) row.keyword) ((tables.shape section).again) e })
+      (λ whole. record {
+        whole = whole;
+        stops = as_next (same (opener tables section) row.keyword) ((tables.shape section).again) e;
+      })
 
   makes_in : (keyword : Keyword) (row : Row K) → word_of item.keyword ≡ Some keyword
-      → row_of (tables.rows section) keyword ≡ Some row → Makes May (in_section tables across here item row)
-  makes_in keyword row known has_row =
+      → row_of (tables.rows section) keyword ≡ Some row → tables.ignores row.kind item ≡ false
+      → Makes May (in_section tables across here item row)
+  makes_in keyword row known has_row regarded =
       makes_if May (is_keyword ((tables.shape section).last) row.keyword) _ _
       (λ last. makes_unless May item.place (lacking_but (tables.rows section) row.keyword taken) _ (λ whole.
       makes_of_row tables across item May section taken keyword row (ends around) known has_row
-      (λ one accepted named. ends_may around one refl (record {
+      (λ one accepted row_is named. ends_may around one refl (record {
         accepted = accepted;
         ends = ap (λ (k : Keyword). is_keyword ((tables.shape section).last) k) named ∙ last;
         whole = ap (λ (k : Keyword). lacking_but (tables.rows section) k taken) named ∙ whole;
+        regarded = ap (λ (r : Row K). tables.ignores r.kind item) row_is ∙ regarded;
       }))))
-      (λ not_last. makes_on keyword row (begins_again tables section row) known has_row not_last refl)
+      (λ not_last. makes_on keyword row (begins_again tables section row) known has_row not_last regarded refl)
 
   -- an item of a row of the section that is open
   makes_with_row : (keyword : Keyword) (row : Row K) → word_of item.keyword ≡ Some keyword
@@ -225,14 +239,13 @@ module _ {S K V X : Type 0} (tables : Tables S K V X) (across : X) (section : S)
   makes_with_row keyword row known has_row =
       makes_if May (tables.ignores row.kind item) _ _
       (λ ignored. inl (inr (record {
-        section = section;
         keyword = keyword;
         row = row;
         known = known;
         has_row = has_row;
         ignored = ignored;
       })))
-      (λ regarded. makes_in keyword row known has_row)
+      (λ regarded. makes_in keyword row known has_row regarded)
 
   -- an item of no row of it
   makes_elsewhere : (keyword : Keyword) (other : Option S) → word_of item.keyword ≡ Some keyword
@@ -240,7 +253,8 @@ module _ {S K V X : Type 0} (tables : Tables S K V X) (across : X) (section : S)
       → Makes May (elsewhere tables across here item keyword other)
   makes_elsewhere keyword None known opened =
       makes_if May (knows tables keyword) _ _ (λ is. tt)
-      (λ is_unknown. inl (inl (subst (λ (w : Option Keyword). IfSome w (λ k. knows tables k ≡ false)) (sym known) is_unknown)))
+      (λ is_unknown.
+      inl (inl (subst (λ (w : Option Keyword). IfSome w (λ k. knows tables k ≡ false)) (sym known) is_unknown)))
   makes_elsewhere keyword (Some other) known opened =
       makes_unless May item.place
       (first_of (lacking (tables.rows section) taken) (passed_over tables keyword (following tables section))) _

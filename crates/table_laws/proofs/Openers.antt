@@ -42,6 +42,7 @@ row_of-same (other ∷ rows) keyword row e =
 pub row_of-one : {K : Type 0} (rows : List (Row K)) (a b : Keyword) → same a b ≡ true → row_of rows a ≡ row_of rows b
 row_of-one [] a b is = refl
 row_of-one (row ∷ rows) a b is =
-    let one : same row.keyword a ≡ same row.keyword b = same-sym row.keyword a ∙ same-through a b row.keyword is ∙ same-sym b row.keyword in
+    let one : same row.keyword a ≡ same row.keyword b =
+    same-sym row.keyword a ∙ same-through a b row.keyword is ∙ same-sym b row.keyword in
     ap (λ (t : Bool). if t then Some row else row_of rows a) one
     ∙ ap (λ (r : Option (Row _)). if same row.keyword b then Some row else r) (row_of-one rows a b is)

@@ -4,6 +4,7 @@ use Rattle.std.proofs.Common.{arith, subst, inl, inr}
 use Rattle.std.specs.Prelude.{◌⊎◌, ◌||◌, is_some}
 use Rattle.std.proofs.lemmas.Bool.{false≢true}
 use Rattle.std.proofs.lemmas.Option.{none-some}
+use Rattle.item_terms.specs.declared.fault.DocFault.{DocFault}
 use Rattle.item_terms.specs.Items.{Item}
 use Rattle.frame_terms.specs.declared.document.Group.{Group}
 use Rattle.frame_terms.specs.declared.document.Open.{Open}
@@ -132,9 +133,9 @@ module _ {S K V X : Type 0} (tables : Tables S K V X) (sound : AreSound tables) 
 
   -- ---- all of it
 
-  sections_stand : (length : ℕ) → Rules tables length (Rest tables)
-  sections_stand length = record {
-    closes = λ across section taken around missing is run are.
+  sections_stand : (length : ℕ) (fault : Option DocFault) → Rules tables length fault (Rest tables)
+  sections_stand length fault = record {
+    closes = λ across section taken around missing no_fault is run are.
         let none = neither (lacking (tables.rows section) taken) (must_open tables (following tables section)) missing in
         closes_placed section taken around run are.here none.0 none.1 is;
     passes = λ across open_ item items document may rest is run are.
@@ -190,6 +191,6 @@ module _ {S K V X : Type 0} (tables : Tables S K V X) (sound : AreSound tables) 
 pub stand_in_order : {S K V X : Type 0} (tables : Tables S K V X) → SectionsStandInOrder tables
 stand_in_order tables sound length contents document e =
     stands_whole tables sound contents.items document.groups
-    (holds tables length (Rest tables) (sections_stand tables sound length) contents document e
+    (holds tables length (Rest tables) contents (sections_stand tables sound length contents.fault) document e
     (record { listed = first_listed tables sound; begun = tt; around_is = tt }) []
     (record { here = tt; around = tt }))

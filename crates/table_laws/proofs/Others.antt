@@ -3,6 +3,7 @@ use Rattle.std.proofs.Common.{◌≡◌, ℕ, length, List, [], ◌∷◌, ◌++
 use Rattle.std.proofs.Common.{◌∙◌, subst, inl, inr}
 use Rattle.std.specs.Prelude.{◌⊎◌, Any}
 use Rattle.std.proofs.lemmas.Option.{none-some}
+use Rattle.item_terms.specs.declared.fault.DocFault.{DocFault}
 use Rattle.item_terms.specs.Items.{Item}
 use Rattle.frame_terms.specs.declared.document.Group.{Group}
 use Rattle.frame_terms.specs.declared.document.Open.{Open}
@@ -14,13 +15,13 @@ use Rattle.frame_terms.specs.Tables.{Tables}
 use Rattle.frame_laws.proofs.Steps.{opening}
 use Rattle.table_laws.specs.Items.{IsItemIn}
 use Rattle.table_laws.specs.Passing.{EachStandsOrPasses, EndsBefore, EndsWith, EndsWithInput, IsOfItems, IsPassedOver}
-use Rattle.table_laws.specs.Passing.{OthersArePassedOver, StandsIn}
+use Rattle.table_laws.specs.Passing.{IsPassedIn, OthersArePassedOver, StandsIn}
 use Rattle.table_laws.specs.Sound.{AreSound}
 use Rattle.table_laws.proofs.Makes.{neither}
 use Rattle.table_laws.proofs.Placing.{IsPlaced, adds_placed, closes_alone, enters_alone, enters_placed, leaves_placed}
 use Rattle.table_laws.proofs.Placing.{opens_placed, placed_alone, stops_alone}
 use Rattle.table_laws.proofs.Parts.{first_listed}
-use Rattle.table_laws.proofs.Rules.{Rules, alone, behind, holds}
+use Rattle.table_laws.proofs.Rules.{HasSome, Rules, alone, behind, holds}
 use Rattle.table_laws.proofs.Ways.{IsEntering, LacksOpener}
 use Rattle.table_laws.proofs.Kept.{HasAround, HasGroup, Keeps, any_as, any_between, any_there, around_behind, has_behind}
 use Rattle.table_laws.proofs.Kept.{has_fewer, has_first, has_whole}
@@ -68,10 +69,10 @@ module _ {S K V X : Type 0} (tables : Tables S K V X) where
   further_each across next item items groups (inr is) each = inr (next, is, each)
 
   -- one more item in front
-  further_item : (length : ℕ) (across next : X) (item : Item) (items : List Item) (document : Document S V)
-      → IsFurther across next item document.groups → IsOfItems tables length next items document
-      → IsOfItems tables length across (item ∷ items) document
-  further_item length across next item items document is of = record {
+  further_item : (length : ℕ) (fault : Option DocFault) (across next : X) (item : Item) (items : List Item) (document : Document S V)
+      → IsFurther across next item document.groups → IsOfItems tables length fault next items document
+      → IsOfItems tables length fault across (item ∷ items) document
+  further_item length fault across next item items document is of = record {
     own = item ∷ of.own;
     left = of.left;
     parts = ap (λ (l : List Item). item ∷ l) of.parts;
@@ -80,9 +81,9 @@ module _ {S K V X : Type 0} (tables : Tables S K V X) where
   }
     where
       further_end : EndsWith of.own document.used ⊎ EndsBefore of.left document.used
-          ⊎ EndsWithInput length of.left document.used
+          ⊎ EndsWithInput length fault of.left document.used
           → EndsWith (item ∷ of.own) document.used ⊎ EndsBefore of.left document.used
-          ⊎ EndsWithInput length of.left document.used
+          ⊎ EndsWithInput length fault of.left document.used
       further_end (inl ending) = inl (record {
         before = item ∷ ending.before;
         last = ending.last;
@@ -92,9 +93,9 @@ module _ {S K V X : Type 0} (tables : Tables S K V X) where
       further_end (inr other) = inr other
 
   -- one more section in front
-  of_behind : (length : ℕ) (across : X) (items : List Item) (first : Group S V) (document : Document S V)
-      → IsOfItems tables length across items document → IsOfItems tables length across items (behind first document)
-  of_behind length across items first document of = record {
+  of_behind : (length : ℕ) (fault : Option DocFault) (across : X) (items : List Item) (first : Group S V) (document : Document S V)
+      → IsOfItems tables length fault across items document → IsOfItems tables length fault across items (behind first document)
+  of_behind length fault across items first document of = record {
     own = of.own;
     left = of.left;
     parts = of.parts;
@@ -103,32 +104,33 @@ module _ {S K V X : Type 0} (tables : Tables S K V X) where
   }
 
   -- what is shown of the rest of a document
-  record IsReadFrom (length : ℕ) (across : X) (open_ : Open S V) (items : List Item) (document : Document S V) : Type 0 where
+  record IsReadFrom (length : ℕ) (fault : Option DocFault) (across : X) (open_ : Open S V) (items : List Item) (document : Document S V) : Type 0 where
     pub here : HasGroup open_.section open_.taken document.groups
     pub around : HasAround open_.around document.groups
-    pub of : IsOfItems tables length across items document
+    pub of : IsOfItems tables length fault across items document
 
-  abbrev Rest : ℕ → X → Open S V → List Item → Document S V → Type 0
-  Rest length across open_ items document =
-      IsPlaced tables open_.section open_.taken open_.around → IsReadFrom length across open_ items document
+  abbrev Rest : ℕ → Option DocFault → X → Open S V → List Item → Document S V → Type 0
+  Rest length fault across open_ items document =
+      IsPlaced tables open_.section open_.taken open_.around → IsReadFrom length fault across open_ items document
 
 -- ---- the items
 
-module _ {S K V X : Type 0} (tables : Tables S K V X) (sound : AreSound tables) (length : ℕ) where
+module _ {S K V X : Type 0} (tables : Tables S K V X) (sound : AreSound tables) (length : ℕ) (fault : Option DocFault) where
   -- each section has its opener
   none_lacks : LacksOpener tables → ⊥
   none_lacks lacks =
       let once = sound.opener_once lacks.section in none-some once.row (sym lacks.has_none ∙ once.has_row)
 
-  passed : {item : Item} → IsPassedOver tables item ⊎ LacksOpener tables → IsPassedOver tables item
-  passed (inl is) = is
-  passed (inr lacks) = absurd (none_lacks lacks)
+  passed : (section : S) (taken : List (Taken V)) (item : Item)
+      → (IsPassedIn tables section item × HasSome taken) ⊎ LacksOpener tables → IsPassedOver tables item
+  passed section taken item (inl is) = (section, is.0)
+  passed section taken item (inr lacks) = absurd (none_lacks lacks)
 
   -- the document ends with the input
   closes_read : (across : X) (section : S) (taken : List (Taken V)) (around : Option (Group S V))
-      → lacking (tables.rows section) taken ≡ None → IsPlaced tables section taken around
-      → IsReadFrom tables length across (opening section taken around) [] (alone (group section taken) length)
-  closes_read across section taken around whole is = record {
+      → lacking (tables.rows section) taken ≡ None → fault ≡ None → IsPlaced tables section taken around
+      → IsReadFrom tables length fault across (opening section taken around) [] (alone (group section taken) length)
+  closes_read across section taken around whole no_fault is = record {
     here = has_whole section taken [];
     around = subst (λ (a : Option (Group S V)). HasAround a (group section taken ∷ []))
         (sym (closes_alone tables sound section taken around whole is)) tt;
@@ -137,39 +139,40 @@ module _ {S K V X : Type 0} (tables : Tables S K V X) (sound : AreSound tables) 
       left = [];
       parts = refl;
       each = tt;
-      ends = inr (inr (record { none_left = refl; ends = refl }));
+      ends = inr (inr (record { none_left = refl; no_fault = no_fault; ends = refl }));
     };
   }
 
   -- one more item of the section that is open
-  adds_read : (across next : X) (section : S) (taken : List (Taken V)) (around : Option (Group S V)) (item : Item) (items : List Item)
+  adds_read : (across next : X) (section : S) (taken : List (Taken V)) (around : Option (Group S V)) (item : Item)
+      (items : List Item)
       (document : Document S V) (one : Taken V) → IsItemIn tables across section item one
       → tables.note across one ≡ Ok next
-      → IsReadFrom tables length next (opening section (taken ++ one ∷ []) around) items document
-      → IsReadFrom tables length across (opening section taken around) (item ∷ items) document
+      → IsReadFrom tables length fault next (opening section (taken ++ one ∷ []) around) items document
+      → IsReadFrom tables length fault across (opening section taken around) (item ∷ items) document
   adds_read across next section taken around item items document one is note from = record {
     here = has_fewer section taken (one ∷ []) document.groups from.here;
     around = from.around;
-    of = further_item tables length across next item items document
+    of = further_item tables length fault across next item items document
         (inr (item_stands tables across next section taken item one document.groups is note from.here)) from.of;
   }
 
   -- the next section
-  opens_read : (across next : X) (section : S) (taken : List (Taken V)) (around : Option (Group S V)) (other : S) (item : Item)
-      (items : List Item) (document : Document S V) (one : Taken V) → IsItemIn tables across other item one
+  opens_read : (across next : X) (section : S) (taken : List (Taken V)) (around : Option (Group S V)) (other : S)
+      (item : Item) (items : List Item) (document : Document S V) (one : Taken V) → IsItemIn tables across other item one
       → tables.note across one ≡ Ok next
-      → IsReadFrom tables length next (opening other (one ∷ []) around) items document
-      → IsReadFrom tables length across (opening section taken around) (item ∷ items) (behind (group section taken) document)
+      → IsReadFrom tables length fault next (opening other (one ∷ []) around) items document
+      → IsReadFrom tables length fault across (opening section taken around) (item ∷ items) (behind (group section taken) document)
   opens_read across next section taken around other item items document one is note from =
       let first = group section taken in
       let all = behind first document in
       record {
         here = has_whole section taken document.groups;
         around = around_behind around first document.groups from.around;
-        of = further_item tables length across next item items all
+        of = further_item tables length fault across next item items all
             (inr (item_stands tables across next other [] item one all.groups is note
             (has_behind other (one ∷ []) first document.groups from.here)))
-            (of_behind tables length next items first document from.of);
+            (of_behind tables length fault next items first document from.of);
       }
 
   -- a section inside it
@@ -177,16 +180,16 @@ module _ {S K V X : Type 0} (tables : Tables S K V X) (sound : AreSound tables) 
       (inside : S) (item : Item) (items : List Item) (document : Document S V) (one : Taken V)
       → IsEntering tables across section (first ∷ taken) inside item one → tables.note across one ≡ Ok next
       → (IsPlaced tables inside (one ∷ []) (Some (group section (first ∷ (taken ++ one ∷ []))))
-      → IsReadFrom tables length next (opening inside (one ∷ []) (Some (group section (first ∷ (taken ++ one ∷ [])))))
+      → IsReadFrom tables length fault next (opening inside (one ∷ []) (Some (group section (first ∷ (taken ++ one ∷ [])))))
       items document)
       → IsPlaced tables section (first ∷ taken) around
-      → IsReadFrom tables length across (opening section (first ∷ taken) around) (item ∷ items) document
+      → IsReadFrom tables length fault across (opening section (first ∷ taken) around) (item ∷ items) document
   enters_read across next section first taken None inside item items document one entering note rest is =
       let from = rest (enters_placed tables sound across section first taken inside item one entering is) in
       record {
         here = has_fewer section (first ∷ taken) (one ∷ []) document.groups from.around;
         around = tt;
-        of = further_item tables length across next item items document
+        of = further_item tables length fault across next item items document
             (inr (item_stands tables across next section (first ∷ taken) item one document.groups
             (inl entering.added.accepted.taken) note from.around)) from.of;
       }
@@ -195,11 +198,12 @@ module _ {S K V X : Type 0} (tables : Tables S K V X) (sound : AreSound tables) 
       (enters_alone tables sound across section (first ∷ taken) (Some outer) inside item one entering is)))
 
   -- the last item of it
-  leaves_read : (across next : X) (section : S) (taken : List (Taken V)) (outer : Group S V) (item : Item) (items : List Item)
+  leaves_read : (across next : X) (section : S) (taken : List (Taken V)) (outer : Group S V) (item : Item)
+      (items : List Item)
       (document : Document S V) (one : Taken V) → IsItemIn tables across section item one
       → tables.note across one ≡ Ok next
-      → IsReadFrom tables length next (opening outer.section outer.taken None) items document
-      → IsReadFrom tables length across (opening section taken (Some outer)) (item ∷ items)
+      → IsReadFrom tables length fault next (opening outer.section outer.taken None) items document
+      → IsReadFrom tables length fault across (opening section taken (Some outer)) (item ∷ items)
       (behind (group section (taken ++ one ∷ [])) document)
   leaves_read across next section taken outer item items document one is note from =
       let first = group section (taken ++ one ∷ []) in
@@ -207,16 +211,16 @@ module _ {S K V X : Type 0} (tables : Tables S K V X) (sound : AreSound tables) 
       record {
         here = has_first section taken (one ∷ []) document.groups;
         around = has_behind outer.section outer.taken first document.groups from.here;
-        of = further_item tables length across next item items all
+        of = further_item tables length fault across next item items all
             (inr (item_stands tables across next section taken item one all.groups is note
             (has_whole section (taken ++ one ∷ []) document.groups)))
-            (of_behind tables length next items first document from.of);
+            (of_behind tables length fault next items first document from.of);
       }
 
   -- the document's last item
   ends_read : (across next : X) (section : S) (taken : List (Taken V)) (item : Item) (items : List Item) (one : Taken V)
       → IsItemIn tables across section item one → tables.note across one ≡ Ok next
-      → IsReadFrom tables length across (opening section taken None) (item ∷ items)
+      → IsReadFrom tables length fault across (opening section taken None) (item ∷ items)
       (alone (group section (taken ++ one ∷ [])) item.after)
   ends_read across next section taken item items one is note =
       let groups = group section (taken ++ one ∷ []) ∷ [] in
@@ -238,9 +242,11 @@ module _ {S K V X : Type 0} (tables : Tables S K V X) (sound : AreSound tables) 
       }
 
   -- the next document's first item
-  stops_read : (across : X) (section : S) (taken : List (Taken V)) (around : Option (Group S V)) (item : Item) (items : List Item)
+  stops_read : (across : X) (section : S) (taken : List (Taken V)) (around : Option (Group S V)) (item : Item)
+      (items : List Item)
       → around ≡ None
-      → IsReadFrom tables length across (opening section taken around) (item ∷ items) (alone (group section taken) item.place)
+      → IsReadFrom tables length fault across (opening section taken around) (item ∷ items)
+      (alone (group section taken) item.place)
   stops_read across section taken around item items none = record {
     here = has_whole section taken [];
     around = subst (λ (a : Option (Group S V)). HasAround a (group section taken ∷ [])) (sym none) tt;
@@ -253,17 +259,17 @@ module _ {S K V X : Type 0} (tables : Tables S K V X) (sound : AreSound tables) 
     };
   }
 
-  others_pass : Rules tables length (Rest tables length)
+  others_pass : Rules tables length fault (Rest tables length fault)
   others_pass = record {
-    closes = λ across section taken around missing is.
+    closes = λ across section taken around missing no_fault is.
         closes_read across section taken around
-        (neither (lacking (tables.rows section) taken) (must_open tables (following tables section)) missing).0 is;
+        (neither (lacking (tables.rows section) taken) (must_open tables (following tables section)) missing).0 no_fault is;
     passes = λ across open_ item items document may rest is.
         let from = rest is in
         record {
           here = from.here;
           around = from.around;
-          of = further_item tables length across across item items document (inl (passed may, refl)) from.of;
+          of = further_item tables length fault across across item items document (inl (passed open_.section open_.taken item may, refl)) from.of;
         };
     starts = λ across next item items document one may note rest is.
         adds_read across next tables.first [] None item items document one (inl may.accepted.taken) note
@@ -288,5 +294,5 @@ module _ {S K V X : Type 0} (tables : Tables S K V X) (sound : AreSound tables) 
 
 pub pass_others : {S K V X : Type 0} (tables : Tables S K V X) → OthersArePassedOver tables
 pass_others tables sound length contents document e =
-    (holds tables length (Rest tables length) (others_pass tables sound length) contents document e
+    (holds tables length (Rest tables length contents.fault) contents (others_pass tables sound length contents.fault) document e
     (record { listed = first_listed tables sound; begun = tt; around_is = tt })).of

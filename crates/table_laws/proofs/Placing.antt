@@ -18,7 +18,7 @@ use Rattle.frame_terms.specs.Tables.{Tables}
 use Rattle.frame_laws.proofs.KnownWords.{same-sym, same-through}
 use Rattle.table_laws.specs.Counts.{times}
 use Rattle.table_laws.specs.Order.{BeginsWithOpener}
-use Rattle.table_laws.specs.Sound.{AreSound, IsInner, StandsOnce}
+use Rattle.table_laws.specs.Sound.{AreSound, StandsOnce}
 use Rattle.table_laws.proofs.Counting.{there_all}
 use Rattle.table_laws.proofs.Lists.{opened_after}
 use Rattle.table_laws.proofs.Parts.{IsListed, next_listed}
@@ -90,7 +90,7 @@ module _ {S K V X : Type 0} (tables : Tables S K V X) where
   not_last (Some other) one keyword no_ e = same-sym one keyword ∙ cc (no_, e)
 
   -- with one item more that does not end it
-  not_ended_more : (across : X) (section : S) (taken : List (Taken V)) (item : Item) (one : Taken V)
+  pub not_ended_more : (across : X) (section : S) (taken : List (Taken V)) (item : Item) (one : Taken V)
       → IsAdded tables across section taken item one → IsNotEnded section taken
       → IsNotEnded section (taken ++ one ∷ [])
   not_ended_more across section taken item one added not_ended keyword last =
@@ -99,17 +99,18 @@ module _ {S K V X : Type 0} (tables : Tables S K V X) where
       ∙ ap (λ (t : Bool). t || false)
       (not_last ((tables.shape section).last) one.keyword keyword added.goes_on last)
 
-module _ {S K V X : Type 0} (tables : Tables S K V X) (sound : AreSound tables) where
-  -- the first item of a section inside another does not end it
-  not_ended_first : (inside : S) (one : Taken V) → IsInner tables inside
-      → same (opener tables inside) one.keyword ≡ true → IsNotEnded tables inside (one ∷ [])
-  not_ended_first inside one is opens keyword last =
-      let it : keyword ≡ is.last = cc (last, is.ends) in
-      let differs : same one.keyword is.last ≡ false =
-      sym (same-through (opener tables inside) one.keyword is.last opens)
-      ∙ same-sym (opener tables inside) is.last ∙ is.later in
+  -- the opener of a section that ends with another item does not end it
+  pub not_ended_opener : (section : S) (ends : Keyword) (one : Taken V) → (tables.shape section).last ≡ Some ends
+      → same ends (opener tables section) ≡ false → same (opener tables section) one.keyword ≡ true
+      → IsNotEnded section (one ∷ [])
+  not_ended_opener section ends one ends_is later opens keyword last =
+      let it : keyword ≡ ends = cc (last, ends_is) in
+      let differs : same one.keyword ends ≡ false =
+      sym (same-through (opener tables section) one.keyword ends opens)
+      ∙ same-sym (opener tables section) ends ∙ later in
       ap (λ (k : Keyword). same one.keyword k || false) it ∙ ap (λ (t : Bool). t || false) differs
 
+module _ {S K V X : Type 0} (tables : Tables S K V X) (sound : AreSound tables) where
   -- ---- the end of a document
 
   -- where nothing is lacking, no section is open inside another
@@ -214,7 +215,9 @@ module _ {S K V X : Type 0} (tables : Tables S K V X) (sound : AreSound tables) 
         around_is = record {
           begun = is.begun;
           inner = parts.0;
-          not_ended = not_ended_first inside one (sound.inner section inside parts.0) parts.1;
+          not_ended =
+              let is_inner = sound.inner section inside parts.0 in
+              not_ended_opener tables inside is_inner.last one is_inner.ends is_inner.later parts.1;
         };
       }
 

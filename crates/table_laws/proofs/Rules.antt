@@ -1,5 +1,6 @@
 -- What is shown of a document item by item holds of what `document_of` gives.
 use Rattle.std.proofs.Common.{◌≡◌, ℕ, List, [], ◌∷◌, ◌++◌, Option, Some, None, Result, Ok, Err, refl, sym, subst}
+use Rattle.std.proofs.Common.{inl}
 use Rattle.std.proofs.Common.{inr}
 use Rattle.std.specs.Prelude.{◌⊎◌}
 use Rattle.item_terms.specs.Items.{Contents, Item}
@@ -18,7 +19,7 @@ use Rattle.frame_terms.specs.Documents.{missing_at_end, onto, read_items, start}
 use Rattle.frame_terms.specs.Keywords.{word_of}
 use Rattle.frame_terms.specs.Tables.{Tables}
 use Rattle.frame_laws.proofs.Steps.{opening}
-use Rattle.table_laws.specs.Passing.{IsPassedOver}
+use Rattle.table_laws.specs.Passing.{IsPassedIn}
 use Rattle.table_laws.proofs.Makes.{Makes, makes_first, makes_later}
 use Rattle.table_laws.proofs.Ways.{FirstMay, IsAdded, IsBeginning, IsEnding, IsEntering, IsOpening, IsStopping, LacksOpener}
 use Rattle.table_laws.proofs.Ways.{LaterMay}
@@ -47,15 +48,22 @@ module _ {S V : Type 0} where
   holds_onto P Q first (Ok document) turns is = turns document is
   holds_onto P Q first (Err refusal) turns is = tt
 
+module _ {V : Type 0} where
+  -- some item stands
+  abbrev pub HasSome : List (Taken V) → Type 0
+  HasSome [] = ⊥
+  HasSome (one ∷ taken) = Unit {0}
+
 -- What is to be shown of the rest of a document, by what is remembered and open, the items that are left, and the
 -- document that they make: at its end, and from each item back.
-pub record Rules {S K V X : Type 0} (tables : Tables S K V X) (length : ℕ)
+pub record Rules {S K V X : Type 0} (tables : Tables S K V X) (length : ℕ) (fault : Option DocFault)
     (Rest : X → Open S V → List Item → Document S V → Type 0) : Type 0 where
   pub closes : (across : X) (section : S) (taken : List (Taken V)) (around : Option (Group S V))
-      → missing_at_end tables section taken ≡ None
+      → missing_at_end tables section taken ≡ None → fault ≡ None
       → Rest across (opening section taken around) [] (alone (group section taken) length)
   pub passes : (across : X) (open_ : Open S V) (item : Item) (items : List Item) (document : Document S V)
-      → IsPassedOver tables item ⊎ LacksOpener tables → Rest across open_ items document
+      → (IsPassedIn tables open_.section item × HasSome open_.taken) ⊎ LacksOpener tables
+      → Rest across open_ items document
       → Rest across open_ (item ∷ items) document
   pub starts : (across next : X) (item : Item) (items : List Item) (document : Document S V) (one : Taken V)
       → IsBeginning tables across item one → tables.note across one ≡ Ok next
@@ -93,12 +101,6 @@ pub record Rules {S K V X : Type 0} (tables : Tables S K V X) (length : ℕ)
       → Rest across (opening section (first ∷ taken) around) (item ∷ items)
       (alone (group section (first ∷ taken)) item.place)
 
-module _ {V : Type 0} where
-  -- some item stands
-  abbrev HasSome : List (Taken V) → Type 0
-  HasSome [] = ⊥
-  HasSome (one ∷ taken) = Unit {0}
-
 module _ {S V : Type 0} where
   -- in the section around stands the item that began the one inside it
   abbrev AroundHasSome : Option (Group S V) → Type 0
@@ -119,8 +121,8 @@ module _ {S K V X : Type 0} where
 
 -- ---- an item
 
-module _ {S K V X : Type 0} (tables : Tables S K V X) (length : ℕ)
-    (Rest : X → Open S V → List Item → Document S V → Type 0) (rules : Rules tables length Rest) where
+module _ {S K V X : Type 0} (tables : Tables S K V X) (length : ℕ) (fault : Option DocFault)
+    (Rest : X → Open S V → List Item → Document S V → Type 0) (rules : Rules tables length fault Rest) where
   -- what is shown of what follows, whatever it is
   abbrev Follows : List Item → (X → Open S V → Result (Document S V) ReadRefusal) → Type 0
   Follows items more =
@@ -159,6 +161,13 @@ module _ {S K V X : Type 0} (tables : Tables S K V X) (length : ℕ)
   first_step across item items more (Ok (Ends one)) may follows = absurd may
   first_step across item items more (Ok Stops) may follows = absurd may
 
+  -- an item that is passed over, where some stand
+  passed : (section : S) (first : Taken V) (taken : List (Taken V)) (item : Item)
+      → IsPassedIn tables section item ⊎ LacksOpener tables
+      → (IsPassedIn tables section item × HasSome (first ∷ taken)) ⊎ LacksOpener tables
+  passed section first taken item (inl is) = inl (is, tt)
+  passed section first taken item (inr lacks) = inr lacks
+
   -- a later one
   later_step : (across : X) (section : S) (first : Taken V) (taken : List (Taken V)) (around : Option (Group S V))
       (item : Item) (items : List Item) (more : X → Open S V → Result (Document S V) ReadRefusal)
@@ -170,7 +179,8 @@ module _ {S K V X : Type 0} (tables : Tables S K V X) (length : ℕ)
   later_step across section first taken around item items more (Err refusal) may some follows = tt
   later_step across section first taken around item items more (Ok Passes) may some follows =
       holds_as _ _ (more across (opening section (first ∷ taken) around))
-      (λ document rest. rules.passes across (opening section (first ∷ taken) around) item items document may rest)
+      (λ document rest. rules.passes across (opening section (first ∷ taken) around) item items document
+      (passed section first taken item may) rest)
       (follows across section (first ∷ taken) around some)
   later_step across section first taken around item items more (Ok (Pushes one)) may some follows =
       noted _ (Pushes one) (opening section (first ∷ taken) around) item more one across (tables.note across one) refl
@@ -208,43 +218,48 @@ module _ {S K V X : Type 0} (tables : Tables S K V X) (length : ℕ)
   -- ---- the items
 
   closed : (across : X) (section : S) (taken : List (Taken V)) (around : Option (Group S V)) (missing : Option Keyword)
-      → missing_at_end tables section taken ≡ missing
+      → missing_at_end tables section taken ≡ missing → fault ≡ None
       → Holds (λ document. Rest across (opening section taken around) [] document)
       (closed_at length (opening section taken around) missing)
-  closed across section taken around None e = rules.closes across section taken around e
-  closed across section taken around (Some keyword) e = tt
+  closed across section taken around None e none = rules.closes across section taken around e none
+  closed across section taken around (Some keyword) e none = tt
 
-  ended : (across : X) (section : S) (taken : List (Taken V)) (around : Option (Group S V)) (fault : Option DocFault)
+  ended : (across : X) (section : S) (taken : List (Taken V)) (around : Option (Group S V)) (other : Option DocFault)
+      → fault ≡ other
       → Holds (λ document. Rest across (opening section taken around) [] document)
-      (at_end tables length (opening section taken around) fault)
-  ended across section taken around None = closed across section taken around (missing_at_end tables section taken) refl
-  ended across section taken around (Some fault) = tt
+      (at_end tables length (opening section taken around) other)
+  ended across section taken around None e =
+      closed across section taken around (missing_at_end tables section taken) refl e
+  ended across section taken around (Some other) e = tt
 
   -- what is shown holds of the rest of each document
   rest_holds : (across : X) (section : S) (taken : List (Taken V)) (around : Option (Group S V))
-      (fault : Option DocFault) (items : List Item) → IsStarted tables section taken around
+      (items : List Item) → IsStarted tables section taken around
       → Holds (λ document. Rest across (opening section taken around) items document)
       (read_items tables length across (opening section taken around) fault items)
   unfolding read_items
-  rest_holds across section taken around fault [] started = ended across section taken around fault
-  rest_holds across section [] around fault (item ∷ items) started =
+  rest_holds across section taken around [] started = ended across section taken around fault refl
+  rest_holds across section [] around (item ∷ items) started =
       subst (λ (o : Open S V). Holds (λ document. Rest across o (item ∷ items) document)
       (after_made tables (made_first tables across item (word_of item.keyword)) across o item
       (λ next after. read_items tables length next after fault items)))
       (sym started)
       (first_step across item items (λ next after. read_items tables length next after fault items)
       (made_first tables across item (word_of item.keyword)) (makes_first tables across item)
-      (λ next s t a is. rest_holds next s t a fault items is))
-  rest_holds across section (first ∷ taken) around fault (item ∷ items) started =
+      (λ next s t a is. rest_holds next s t a items is))
+  rest_holds across section (first ∷ taken) around (item ∷ items) started =
       later_step across section first taken around item items
       (λ next after. read_items tables length next after fault items)
       (made_later tables across (opening section (first ∷ taken) around) item (word_of item.keyword))
       (makes_later tables across section (first ∷ taken) around item) started
-      (λ next s t a is. rest_holds next s t a fault items is)
+      (λ next s t a is. rest_holds next s t a items is)
 
-  -- it holds of each document
-  pub holds : (contents : Contents) (document : Document S V) → document_of tables length contents ≡ Ok document
-      → Rest tables.start (start tables) contents.items document
-  holds contents document e =
-      subst (λ (r : Result (Document S V) ReadRefusal). Holds (λ d. Rest tables.start (start tables) contents.items d) r)
-      e (rest_holds tables.start tables.first [] None contents.fault contents.items refl)
+-- it holds of each document
+pub holds : {S K V X : Type 0} (tables : Tables S K V X) (length : ℕ)
+    (Rest : X → Open S V → List Item → Document S V → Type 0) (contents : Contents)
+    → Rules tables length contents.fault Rest → (document : Document S V)
+    → document_of tables length contents ≡ Ok document
+    → Rest tables.start (start tables) contents.items document
+holds tables length Rest contents rules document e =
+    subst (λ r. Holds (λ d. Rest tables.start (start tables) contents.items d) r) e
+    (rest_holds tables length contents.fault Rest rules tables.start tables.first [] None contents.items refl)

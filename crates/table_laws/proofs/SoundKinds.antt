@@ -25,6 +25,7 @@ use Rattle.vote_frame.specs.declared.frame.VoteSection.{VoteSection}
 use Rattle.vote_frame.specs.declared.frame.VoteSection.TheVariants as vote
 use Rattle.vote_frame.specs.Tables.{vote_tables}
 use Rattle.table_laws.specs.Kinds.{KindsAreSound}
+use Rattle.table_laws.specs.OneSection.{HasOneSection}
 use Rattle.table_laws.specs.Sound.{AreSound, IsInner, StandsOnce, ends_document}
 
 certificates : AreSound cert_tables
@@ -42,6 +43,19 @@ certificates = record {
   inner = λ section inside e. absurd (none-some inside e);
 }
 
+one_certificate : HasOneSection cert_tables
+unfolding same
+one_certificate = record {
+  alone = refl;
+  plain = refl;
+  again = refl;
+  last = the.DirKeyCertification;
+  ends = refl;
+  last_once = record { row = row the.DirKeyCertification One cert.Certification; has_row = refl; once = refl };
+  later = refl;
+  apart = (refl, (refl, (refl, (refl, (refl, (refl, (refl, (refl, (refl, tt)))))))));
+}
+
 descriptors : AreSound descriptor_tables
 unfolding same IsDistinct
 descriptors = record {
@@ -53,6 +67,7 @@ descriptors = record {
   inner = λ section inside e. absurd (none-some inside e);
 }
 
+<<<<<<< HEAD
 microdescriptors : AreSound micro_tables
 unfolding same IsDistinct
 microdescriptors = record {
@@ -62,6 +77,22 @@ microdescriptors = record {
   opener_once = λ section. record { row = row the.OnionKey One micro.OnionKey; has_row = refl; once = refl };
   ends_last = λ section ends. refl;
   inner = λ section inside e. absurd (none-some inside e);
+=======
+one_descriptor : HasOneSection descriptor_tables
+unfolding same
+one_descriptor = record {
+  alone = refl;
+  plain = refl;
+  again = refl;
+  last = the.RouterSignature;
+  ends = refl;
+  last_once = record { row = row the.RouterSignature One descriptor.Signature; has_row = refl; once = refl };
+  later = refl;
+  apart = (
+    refl,
+    (refl, (refl, (refl, (refl, (refl, (refl, (refl, (refl, (refl, (refl, (refl, (refl, (refl, (refl, (refl, (refl, (refl, (refl, (refl, (refl, (refl, tt))))))))))))))))))))),
+  );
+>>>>>>> 0f39e4445e6a443b308a676c9c4db6b539324e28
 }
 
 -- ---- votes
@@ -169,5 +200,16 @@ consensuses flavour = record {
 }
 
 pub kinds_are_sound : KindsAreSound
+<<<<<<< HEAD
 kinds_are_sound =
     record { certificates = certificates; votes = votes; consensuses = consensuses; descriptors = descriptors; microdescriptors = microdescriptors }
+=======
+kinds_are_sound = record {
+  certificates = certificates;
+  votes = votes;
+  consensuses = consensuses;
+  descriptors = descriptors;
+  one_certificate = one_certificate;
+  one_descriptor = one_descriptor;
+}
+>>>>>>> 0f39e4445e6a443b308a676c9c4db6b539324e28

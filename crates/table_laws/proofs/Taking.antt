@@ -3,6 +3,7 @@ use Rattle.std.proofs.Common.{◌≡◌, ℕ, List, [], ◌∷◌, ◌++◌, Opt
 use Rattle.std.proofs.Common.{◌∙◌, append_assoc, inl, inr}
 use Rattle.std.specs.Prelude.{All}
 use Rattle.std.proofs.lemmas.List.Elements.{All-cons, All-nil}
+use Rattle.item_terms.specs.declared.fault.DocFault.{DocFault}
 use Rattle.item_terms.specs.Items.{Item}
 use Rattle.frame_terms.specs.declared.document.Group.{Group}
 use Rattle.frame_terms.specs.declared.document.Open.{Open}
@@ -28,7 +29,8 @@ module _ {S K V X : Type 0} (tables : Tables S K V X) where
   )
 
   -- and with one more
-  pub one_more_item : (remembered : X) (section : S) (items : List Item) (item : Item) (taken : List (Taken V)) (one : Taken V)
+  pub one_more_item : (remembered : X) (section : S) (items : List Item) (item : Item) (taken : List (Taken V))
+      (one : Taken V)
       → AreItemsIn tables section items taken → IsItemIn tables remembered section item one
       → AreItemsIn tables section (items ++ item ∷ []) (taken ++ one ∷ [])
   one_more_item remembered section items item [] one are is = (items, item, [], refl, remembered, is, tt)
@@ -91,13 +93,13 @@ module _ {S K V X : Type 0} (tables : Tables S K V X) where
       (All-nil (λ (group : Group S V). AreItemsIn tables group.section all group.taken))
 
   -- an item that begins a section
-  pub first_here : (remembered : X) (section : S) (before : List Item) (item : Item) (one : Taken V) → IsItemIn tables remembered section item one
-      → AreItemsIn tables section (before ++ item ∷ []) (one ∷ [])
+  pub first_here : (remembered : X) (section : S) (before : List Item) (item : Item) (one : Taken V)
+      → IsItemIn tables remembered section item one → AreItemsIn tables section (before ++ item ∷ []) (one ∷ [])
   first_here remembered section before item one is = one_more_item remembered section before item [] one tt is
 
-  items_stand : (length : ℕ) (all : List Item) → Rules tables length (Rest all)
-  items_stand length all = record {
-    closes = λ across section taken around missing before are.
+  items_stand : (length : ℕ) (fault : Option DocFault) (all : List Item) → Rules tables length fault (Rest all)
+  items_stand length fault all = record {
+    closes = λ across section taken around missing no_fault before are.
         in_alone all section taken (in_all section all before [] taken are.parts are.here);
     passes = λ across open_ item items document may rest before are. rest (before ++ item ∷ []) (record {
       parts = further all before item items are.parts;
@@ -152,5 +154,5 @@ module _ {S K V X : Type 0} (tables : Tables S K V X) where
 
   pub are_said : ItemsAreSaid tables
   are_said length contents document e =
-      holds tables length (Rest contents.items) (items_stand length contents.items) contents document e []
+      holds tables length (Rest contents.items) contents (items_stand length contents.fault contents.items) document e []
       (record { parts = refl; here = tt; around = tt })

@@ -22,16 +22,22 @@ abbrev pub once : Bool → ℕ
 once test = cond test 1 0
 
 module _ {V : Type 0} where
-  times-first : (keyword : Keyword) (one : Taken V) (taken : List (Taken V))
+  pub times-first : (keyword : Keyword) (one : Taken V) (taken : List (Taken V))
       → times keyword (one ∷ taken) ≡ once (same one.keyword keyword) + times keyword taken
   times-first keyword one taken =
       sum_by-cons (λ (other : Taken V). once (same other.keyword keyword)) one taken
+
+  -- those of two lists
+  pub times-append : (keyword : Keyword) (front back : List (Taken V))
+      → times keyword (front ++ back) ≡ times keyword front + times keyword back
+  times-append keyword front back =
+      sum_by-append (λ (other : Taken V). once (same other.keyword keyword)) front back
 
   -- with one item more
   pub times-more : (keyword : Keyword) (taken : List (Taken V)) (one : Taken V)
       → times keyword (taken ++ one ∷ []) ≡ times keyword taken + once (same one.keyword keyword)
   times-more keyword taken one =
-      sum_by-append (λ (other : Taken V). once (same other.keyword keyword)) taken (one ∷ [])
+      times-append keyword taken (one ∷ [])
       ∙ ap (λ (n : ℕ). times keyword taken + n) (times-first keyword one [] ∙ last (same one.keyword keyword))
     where
       last : (test : Bool) → once test + 0 ≡ once test
@@ -99,3 +105,14 @@ pub is_count : (count : Count) (number : ℕ) → (is_one count ≡ true → 1 �
 is_count One number some few = let a = some refl in let b = few refl in omega (arith, a, b)
 is_count Optional number some few = few refl
 is_count Many number some few = tt
+
+-- a row that counts 1 is there once, and one that is not many at most once
+pub one_of : (count : Count) (number : ℕ) → IsCount count number → is_one count ≡ true → number ≡ 1
+one_of One number is e = is
+one_of Optional number is e = absurd (cc (e))
+one_of Many number is e = absurd (cc (e))
+
+pub few_of : (count : Count) (number : ℕ) → IsCount count number → is_many count ≡ false → number ≤ 1
+few_of One number is e = omega (arith, is)
+few_of Optional number is e = is
+few_of Many number is e = absurd (cc (e))

@@ -15,7 +15,7 @@ use Rattle.frame_terms.specs.Rows.{is_many}
 use Rattle.frame_terms.specs.Sections.{lacking, lacking_but, row_of, stands}
 use Rattle.frame_terms.specs.Tables.{Tables}
 use Rattle.table_laws.specs.Items.{IsItemOf}
-use Rattle.table_laws.specs.Passing.{IsPassedOver}
+use Rattle.table_laws.specs.Passing.{IsPassedIn}
 
 -- an item that its section takes behind these
 pub record IsAccepted {S K V X : Type 0} (tables : Tables S K V X) (across : X) (section : S) (before : List (Taken V))
@@ -34,6 +34,7 @@ pub record IsAdded {S K V X : Type 0} (tables : Tables S K V X) (across : X) (se
     (item : Item) (one : Taken V) : Type 0 where
   pub accepted : IsAccepted tables across section before item one
   pub goes_on : is_keyword ((tables.shape section).last) one.keyword ≡ false
+  pub regarded : tables.ignores accepted.taken.row.kind item ≡ false
 
 -- its last item, with which all of its rows stand
 pub record IsEnding {S K V X : Type 0} (tables : Tables S K V X) (across : X) (section : S) (before : List (Taken V))
@@ -41,6 +42,7 @@ pub record IsEnding {S K V X : Type 0} (tables : Tables S K V X) (across : X) (s
   pub accepted : IsAccepted tables across section before item one
   pub ends : is_keyword ((tables.shape section).last) one.keyword ≡ true
   pub whole : lacking_but (tables.rows section) one.keyword before ≡ None
+  pub regarded : tables.ignores accepted.taken.row.kind item ≡ false
 
 -- the section that a keyword opens behind another, so that none is left out that has to stand
 pub record IsLater {S K V X : Type 0} (tables : Tables S K V X) (section next : S) : Type 0 where
@@ -91,7 +93,7 @@ module _ {S K V X : Type 0} where
 
   -- what a later one may make
   abbrev pub LaterMay : Tables S K V X → X → Open S V → Item → Made S V → Type 0
-  LaterMay tables across open_ item Passes = IsPassedOver tables item ⊎ LacksOpener tables
+  LaterMay tables across open_ item Passes = IsPassedIn tables open_.section item ⊎ LacksOpener tables
   LaterMay tables across open_ item (Pushes one) = IsAdded tables across open_.section open_.taken item one
   LaterMay tables across open_ item (Opens next one) = IsOpening tables across open_.section open_.taken next item one
   LaterMay tables across open_ item (Enters inside one) =

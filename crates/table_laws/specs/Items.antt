@@ -10,8 +10,8 @@ use Rattle.frame_terms.specs.Order.{inner}
 use Rattle.frame_terms.specs.Sections.{row_of, taken_of}
 use Rattle.frame_terms.specs.Tables.{Tables}
 
--- An item by a row of a section's table: its keyword is the row's, and it says what the row's kind gives where this much
--- is remembered of the items before it.
+-- An item by a row of a section's table: its keyword is the row's, and it says what the row's kind gives where this is
+-- remembered of the items before it.
 pub record IsItemOf {S K V X : Type 0} (tables : Tables S K V X) (remembered : X) (section : S) (item : Item)
     (one : Taken V) : Type 0 where
   pub keyword : Keyword
@@ -42,9 +42,9 @@ module _ {S K V X : Type 0} where
       (before : List Item) × (item : Item) × (after : List Item) × (items ≡ before ++ item ∷ after)
       × (remembered : X) × IsItemIn tables remembered section item one × AreItemsIn tables section after taken
 
-  -- Each item of each section of a document is an item of the input, in its order: by the row that its keyword has in the
-  -- table of that section, with the value that this row's kind gives, and at its places. One that begins a section inside
-  -- another is an item of both, by its row in that other one.
+  -- Each item of each section of a document is an item of the input, in its order: by the row that its keyword has in
+  -- the table of that section, with the value that this row's kind gives, and at its places. One that begins a section
+  -- inside another is an item of both, by its row in that other one.
   abbrev pub ItemsAreSaid : Tables S K V X → Type 0
   ItemsAreSaid tables =
       (length : ℕ) (contents : Contents) (document : Document S V) → document_of tables length contents ≡ Ok document

@@ -3,4 +3,5 @@ pub mod Counts
 pub mod Sound
 pub mod Order
 pub mod Passing
+pub mod OneSection
 pub mod Kinds

@@ -12,7 +12,7 @@ use Rattle.frame_terms.specs.Tables.{Tables}
 use Rattle.table_laws.specs.Items.{AreItemsIn}
 use Rattle.table_laws.specs.Sound.{AreSound}
 
--- a section that stands inside no other, those inside it, which end before it, and the items of the input that make them
+-- a section that stands inside no other, those inside it, which end before it, and the items of the input that they have
 pub record Part (S V : Type 0) : Type 0 where
   pub items : List Item
   pub inside : List (Group S V)
@@ -58,8 +58,8 @@ module _ {S K V X : Type 0} where
       (number : ℕ) × (others : List S) × (standing ≡ replicate number section ++ others)
       × MayStand ((tables.shape section).again) number × AreInOrder tables table others
 
--- A document is parts, in the order of its table; the items of the input come one part behind the other, and then others.
--- Each section begins with its opener.
+-- A document is parts, in the order of its table. The items of the input come one part behind the other, and then those
+-- that are left. Each section begins with its opener.
 pub record IsInOrder {S K V X : Type 0} (tables : Tables S K V X) (items : List Item) (groups : List (Group S V))
     : Type 0 where
   pub parts : List (Part S V)
@@ -72,8 +72,8 @@ pub record IsInOrder {S K V X : Type 0} (tables : Tables S K V X) (items : List 
   pub begin : All (λ group. BeginsWithOpener tables group.section group.taken) groups
 
 module _ {S K V X : Type 0} where
-  -- The sections of a document come in the input in the order of its table, by which some repeat any number of times, each
-  -- with those inside it that the table has there. Each begins with its opener.
+  -- The sections of a document come in the input in the order of its table, by which some repeat any number of times,
+  -- each with those inside it that the table has there. Each begins with its opener.
   abbrev pub SectionsStandInOrder : Tables S K V X → Type 0
   SectionsStandInOrder tables =
       AreSound tables

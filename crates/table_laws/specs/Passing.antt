@@ -1,5 +1,6 @@
 -- What is passed over, and where a document ends (dir-spec, "Document meta-format").
-use Rattle.std.specs.Prelude.{◌≡◌, ◌⊎◌, ◌++◌, ℕ, true, false, List, [], ◌∷◌, Any, IfSome, Some, Ok}
+use Rattle.std.specs.Prelude.{◌≡◌, ◌⊎◌, ◌++◌, ℕ, true, false, List, [], ◌∷◌, Any, IfSome, Option, Some, None, Ok}
+use Rattle.item_terms.specs.declared.fault.DocFault.{DocFault}
 use Rattle.item_terms.specs.Items.{Item, Contents}
 use Rattle.frame_terms.specs.declared.document.Group.{Group}
 use Rattle.frame_terms.specs.declared.keyword.Keyword.{Keyword}
@@ -13,8 +14,7 @@ use Rattle.table_laws.specs.Items.{IsItemIn}
 use Rattle.table_laws.specs.Sound.{AreSound}
 
 -- an item of a row of a section that the tables ignore
-pub record IsIgnored {S K V X : Type 0} (tables : Tables S K V X) (item : Item) : Type 0 where
-  pub section : S
+pub record IsIgnored {S K V X : Type 0} (tables : Tables S K V X) (section : S) (item : Item) : Type 0 where
   pub keyword : Keyword
   pub row : Row K
   pub known : word_of item.keyword ≡ Some keyword
@@ -26,9 +26,13 @@ module _ {S K V X : Type 0} where
   abbrev pub IsUnknown : Tables S K V X → Item → Type 0
   IsUnknown tables item = IfSome (word_of item.keyword) (λ keyword. knows tables keyword ≡ false)
 
+  -- an item that a section passes over
+  abbrev pub IsPassedIn : Tables S K V X → S → Item → Type 0
+  IsPassedIn tables section item = IsUnknown tables item ⊎ IsIgnored tables section item
+
   -- an item that may be passed over
   abbrev pub IsPassedOver : Tables S K V X → Item → Type 0
-  IsPassedOver tables item = IsUnknown tables item ⊎ IsIgnored tables item
+  IsPassedOver tables item = (section : S) × IsPassedIn tables section item
 
   -- an item that stands in one of these sections, by what is remembered of those before it, and what is then with it
   abbrev pub StandsIn : Tables S K V X → List (Group S V) → X → Item → X → Type 0
@@ -56,19 +60,21 @@ abbrev pub EndsBefore : List Item → ℕ → Type 0
 EndsBefore [] place = ⊥
 EndsBefore (next ∷ left) place = place ≡ next.place
 
--- it ends with an input of so many bytes, of which no item is left
-pub record EndsWithInput (length : ℕ) (left : List Item) (place : ℕ) : Type 0 where
+-- it ends with an input of so many bytes, of which no item is left, and in which no line has a fault
+pub record EndsWithInput (length : ℕ) (fault : Option DocFault) (left : List Item) (place : ℕ) : Type 0 where
   pub none_left : left ≡ []
+  pub no_fault : fault ≡ None
   pub ends : place ≡ length
 
 -- A document's items come first, up to its end. Each of them stands in one of its sections, or may be passed over.
-pub record IsOfItems {S K V X : Type 0} (tables : Tables S K V X) (length : ℕ) (remembered : X) (items : List Item)
-    (document : Document S V) : Type 0 where
+pub record IsOfItems {S K V X : Type 0} (tables : Tables S K V X) (length : ℕ) (fault : Option DocFault)
+    (remembered : X) (items : List Item) (document : Document S V) : Type 0 where
   pub own : List Item
   pub left : List Item
   pub parts : items ≡ own ++ left
   pub each : EachStandsOrPasses tables document.groups remembered own
-  pub ends : EndsWith own document.used ⊎ EndsBefore left document.used ⊎ EndsWithInput length left document.used
+  pub ends : EndsWith own document.used ⊎ EndsBefore left document.used
+      ⊎ EndsWithInput length fault left document.used
 
 module _ {S K V X : Type 0} where
   -- Each item of the input, up to where a document ends, stands in one of its sections, or may be passed over: the
@@ -78,4 +84,4 @@ module _ {S K V X : Type 0} where
   OthersArePassedOver tables =
       AreSound tables
       → (length : ℕ) (contents : Contents) (document : Document S V) → document_of tables length contents ≡ Ok document
-      → IsOfItems tables length tables.start contents.items document
+      → IsOfItems tables length contents.fault tables.start contents.items document

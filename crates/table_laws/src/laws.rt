@@ -3,6 +3,7 @@ ghost use Rattle.frame_terms.specs.Tables.{Tables};
 ghost use Rattle.table_laws.specs.Counts.{RowsStandAsOften};
 ghost use Rattle.table_laws.specs.Items.{ItemsAreSaid};
 ghost use Rattle.table_laws.specs.Kinds.{KindsAreSound};
+ghost use Rattle.table_laws.specs.OneSection.{OneSectionIsAll, OneSectionIsRead};
 ghost use Rattle.table_laws.specs.Order.{SectionsStandInOrder};
 ghost use Rattle.table_laws.specs.Passing.{OthersArePassedOver};
 
@@ -27,7 +28,19 @@ pub fn others_are_passed_over<S, K, V, X>()
     ensures { (tables : Tables S K V X) → OthersArePassedOver tables }
 {}
 
-/// A law: the tables of certificates, votes, consensuses of either flavour and server descriptors are sound.
+/// A law, the other way round: items that are those of a section are read as the document of this section, where the
+/// document has no other, which ends with an item of its own.
+pub fn one_section_is_read<S, K, V, X>()
+    ensures { (tables : Tables S K V X) → OneSectionIsRead tables }
+{}
+
+/// A law: no others are read as such a document, where its tables are sound.
+pub fn one_section_is_all<S, K, V, X>()
+    ensures { (tables : Tables S K V X) → OneSectionIsAll tables }
+{}
+
+/// A law: the tables of certificates, votes, consensuses of either flavour and server descriptors are sound, and
+/// certificates and descriptors have one section.
 pub fn kinds_are_sound()
     ensures { KindsAreSound }
 {}
