@@ -67,7 +67,6 @@ descriptors = record {
   inner = λ section inside e. absurd (none-some inside e);
 }
 
-<<<<<<< HEAD
 microdescriptors : AreSound micro_tables
 unfolding same IsDistinct
 microdescriptors = record {
@@ -77,7 +76,8 @@ microdescriptors = record {
   opener_once = λ section. record { row = row the.OnionKey One micro.OnionKey; has_row = refl; once = refl };
   ends_last = λ section ends. refl;
   inner = λ section inside e. absurd (none-some inside e);
-=======
+}
+
 one_descriptor : HasOneSection descriptor_tables
 unfolding same
 one_descriptor = record {
@@ -92,7 +92,6 @@ one_descriptor = record {
     refl,
     (refl, (refl, (refl, (refl, (refl, (refl, (refl, (refl, (refl, (refl, (refl, (refl, (refl, (refl, (refl, (refl, (refl, (refl, (refl, (refl, (refl, tt))))))))))))))))))))),
   );
->>>>>>> 0f39e4445e6a443b308a676c9c4db6b539324e28
 }
 
 -- ---- votes
@@ -200,16 +199,12 @@ consensuses flavour = record {
 }
 
 pub kinds_are_sound : KindsAreSound
-<<<<<<< HEAD
-kinds_are_sound =
-    record { certificates = certificates; votes = votes; consensuses = consensuses; descriptors = descriptors; microdescriptors = microdescriptors }
-=======
 kinds_are_sound = record {
   certificates = certificates;
   votes = votes;
   consensuses = consensuses;
   descriptors = descriptors;
+  microdescriptors = microdescriptors;
   one_certificate = one_certificate;
   one_descriptor = one_descriptor;
 }
->>>>>>> 0f39e4445e6a443b308a676c9c4db6b539324e28

@@ -14,9 +14,6 @@ pub record KindsAreSound : Type 0 where
   pub votes : AreSound vote_tables
   pub consensuses : (flavour : Flavour) → AreSound (consensus_tables flavour)
   pub descriptors : AreSound descriptor_tables
-<<<<<<< HEAD
   pub microdescriptors : AreSound micro_tables
-=======
   pub one_certificate : HasOneSection cert_tables
   pub one_descriptor : HasOneSection descriptor_tables
->>>>>>> 0f39e4445e6a443b308a676c9c4db6b539324e28
