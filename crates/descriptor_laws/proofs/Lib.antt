@@ -1,2 +1,5 @@
 pub mod WrittenLines
 pub mod WrittenPolicies
+pub mod Mixed
+pub mod DescriptorRows
+pub mod Probe
