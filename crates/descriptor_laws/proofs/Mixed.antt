@@ -66,7 +66,7 @@ module _ {A K V : Type 0} (entry : A → Entry V) (kinds : List (Row K)) where
   abbrev pub OfKinds : Type 0
   OfKinds = (k : Keyword) → lack k kinds ≡ true → (a : A) → same (entry a).keyword k ≡ false
 
-  stands_not : (k : Keyword) (place : ℕ) (values : List A) → ((a : A) → same (entry a).keyword k ≡ false)
+  pub stands_not : (k : Keyword) (place : ℕ) (values : List A) → ((a : A) → same (entry a).keyword k ≡ false)
       → stands k (all_taken place (map entry values)) ≡ false
   stands_not k place [] other = refl
   stands_not k place (a ∷ values) other =

@@ -1,3 +1,3 @@
-use Rattle.descriptor_laws.proofs.Mixed.{mixed_more}
-use Rattle.descriptor_laws.proofs.DescriptorRows.{back_said}
+use Rattle.descriptor_laws.proofs.DescriptorRead.{document_read}
+use Rattle.descriptor_laws.proofs.DescriptorSame.{descriptor_same}
 pub use Rattle.descriptor_laws.proofs.WrittenPolicies.{policy_again}
