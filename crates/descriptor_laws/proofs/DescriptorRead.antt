@@ -142,7 +142,7 @@ policy_many : (accept : Bool) → is_many (policy_row accept).count ≡ true
 policy_many accept = refl
 
 -- an item of its exit policy has one of two keywords
-of_policy : OfKinds policy_entry policy_rows
+pub of_policy : OfKinds policy_entry policy_rows
 of_policy k apart item =
     let parts = and_parts (not (same k the.Accept)) (not (same k the.Reject) && true) apart in
     let other = and_parts (not (same k the.Reject)) true parts.1 in
@@ -154,11 +154,11 @@ of_policy k apart item =
     by false first second = second
 
 -- its first rows are apart, and so are its last ones
-front_apart : (d : Descriptor) → are_apart (rows_of (front_all d)) ≡ true
+pub front_apart : (d : Descriptor) → are_apart (rows_of (front_all d)) ≡ true
 unfolding same
 front_apart d = refl
 
-back_apart : (d : Descriptor) → are_apart (rows_of (back_all d)) ≡ true
+pub back_apart : (d : Descriptor) → are_apart (rows_of (back_all d)) ≡ true
 unfolding same
 back_apart d = refl
 
@@ -211,7 +211,7 @@ module _ (d : Descriptor) (are : SaysInRange d) where
       both (counted_once first_row (router_entry d.router) refl)
       (counted descriptor_tables (front_rows d) (front_said d are))
 
-  back_counted : AreCounted (back_rows d)
+  pub back_counted : AreCounted (back_rows d)
   back_counted = counted descriptor_tables (back_rows d) (back_said d are)
 
   pub back_all_counted : AreCounted (back_all d)
@@ -302,7 +302,7 @@ module _ (d : Descriptor) (are : SaysInRange d) where
       (there the.Bandwidth bandwidth_there) (there the.SigningKey signing_there)
 
   -- no last item stands before it
-  none_of_last : stands the.RouterSignature before_last ≡ false
+  pub none_of_last : stands the.RouterSignature before_last ≡ false
   none_of_last =
       let lacks = middle_lacks d in
       let last : List RowOf = row_none last_row ∷ [] in

@@ -167,25 +167,31 @@ in_order : (x p i f a m q c s : List Written)
     ≡ (x ++ (p ++ (i ++ (f ++ (a ++ (m ++ (q ++ c))))))) ++ s
 in_order x p i f a m q c s = simp (append_assoc, append-nil) refl
 
--- they are those before the signatures, and the signatures
-pub entries_parts : (d : Descriptor)
-    → entries d ≡ (unsigned_entries d ++ ed_entries d) ++ signature_entry d ∷ []
-entries_parts d =
-    ap (λ (l : List Written). l ++ signature_entry d ∷ [])
-    (in_order (entries_of (front_all d)) (policy_entries d) (entries_if ports_entry d.ipv6_policy)
+-- those before the last are those before the signatures, and the first signature
+pub before_same : (d : Descriptor) → router_entry d.router ∷ others d ≡ unsigned_entries d ++ ed_entries d
+before_same d =
+    in_order (entries_of (front_all d)) (policy_entries d) (entries_if ports_entry d.ipv6_policy)
     (entries_if family_entry d.family) (map (text_entry the.OrAddress) d.or_addresses) (marks_if d.tunnelled_dir_server)
-    (text_entry_if the.Proto d.proto) (text_entry_if the.Contact d.contact) (ed_entries d))
+    (text_entry_if the.Proto d.proto) (text_entry_if the.Contact d.contact) (ed_entries d)
+
+pub before_items : (d : Descriptor)
+    → map item_of (router_entry d.router ∷ others d) ≡ unsigned_items d ++ ed_signature_items d
+before_items d =
+    ap (map item_of) (before_same d) ∙ map-append item_of (unsigned_entries d) (ed_entries d)
+    ∙ ap (λ (l : List NewItem). l ++ map item_of (ed_entries d)) (unsigned_same d)
+    ∙ ap (λ (l : List NewItem). unsigned_items d ++ l) (ed_same d)
+
+-- the items of the text
+pub items_parts : (d : Descriptor)
+    → descriptor_items d ≡ (unsigned_items d ++ ed_signature_items d) ++ item_of (signature_entry d) ∷ []
+items_parts d =
+    regroup (front_items d) (exit_items d ++ address_items d ++ service_items d) (ed_signature_items d)
+    (item_of (signature_entry d) ∷ [])
+  where
+    regroup : (f m e l : List NewItem) → f ++ (m ++ (e ++ l)) ≡ ((f ++ m) ++ e) ++ l
+    regroup f m e l = simp append_assoc refl
 
 pub descriptor_same : (d : Descriptor) → map item_of (entries d) ≡ descriptor_items d
 descriptor_same d =
-    let last : List Written = signature_entry d ∷ [] in
-    ap (map item_of) (entries_parts d)
-    ∙ map-append item_of (unsigned_entries d ++ ed_entries d) last
-    ∙ ap (λ (l : List NewItem). l ++ map item_of last)
-    (map-append item_of (unsigned_entries d) (ed_entries d)
-    ∙ ap (λ (l : List NewItem). l ++ map item_of (ed_entries d)) (unsigned_same d)
-    ∙ ap (λ (l : List NewItem). unsigned_items d ++ l) (ed_same d))
-    ∙ regroup (front_items d) (exit_items d ++ address_items d ++ service_items d) (ed_signature_items d) (map item_of last)
-  where
-    regroup : (f m e l : List NewItem) → ((f ++ m) ++ e) ++ l ≡ f ++ (m ++ (e ++ l))
-    regroup f m e l = simp append_assoc refl
+    map-append item_of (router_entry d.router ∷ others d) (signature_entry d ∷ [])
+    ∙ ap (λ (l : List NewItem). l ++ item_of (signature_entry d) ∷ []) (before_items d) ∙ sym (items_parts d)

@@ -4,4 +4,7 @@ pub mod Mixed
 pub mod DescriptorRows
 pub mod DescriptorRead
 pub mod DescriptorSame
+pub mod ValuesSaid
+pub mod DescriptorTexts
+pub mod DescriptorSays
 pub mod Probe

@@ -1,0 +1,157 @@
+-- What is kept of a server descriptor that was written says what the descriptor says.
+use Rattle.std.proofs.Common.{◌≡◌, ℕ, ◌+◌, ◌<◌, true, List, [], ◌∷◌, ◌++◌, length, take, drop, Option, Some, None, refl, sym, ap, ◌∙◌}
+use Rattle.std.proofs.Common.{subst, append_assoc, append-nil, arith, length-append}
+use Rattle.std.specs.Prelude.{filter_map, map, option_map, slice_range}
+use Rattle.std.proofs.lemmas.List.Elements.{filter-append, filter_map-append}
+use Rattle.sha1.specs.Sha1.{sha1}
+use Rattle.sha2.specs.Sha256.{sha256}
+use Rattle.dir_values.specs.declared.policy.PolicyItem.{PolicyItem}
+use Rattle.dirdoc_grammar.specs.Writing.{item_text, items_text}
+use Rattle.frame_terms.specs.Keywords.{same, text_of}
+use Rattle.frame_terms.specs.declared.document.Taken.{Taken}
+use Rattle.frame_terms.specs.declared.keyword.Keyword.{Keyword}
+use Rattle.frame_terms.specs.declared.keyword.Keyword.TheVariants as the
+use Rattle.frame_values.specs.Parts.{bytes_in}
+use Rattle.frame_values.specs.Values.{after_in, item_at, line_end_in, separator_in}
+use Rattle.frame_laws.proofs.Both.{both}
+use Rattle.frame_laws.proofs.Entries.{all_taken, item_of, taken_at}
+use Rattle.frame_laws.proofs.MoreRows.{NoneStand, none_before}
+use Rattle.frame_laws.proofs.Places.{after_all, after_all-append, after_all-same, all_taken-append}
+use Rattle.frame_laws.proofs.ReadRows.{AreRead, Each, IsRead, IsTaken, Stand, all_at, both_stand, each_taken, first_if}
+use Rattle.frame_laws.proofs.ReadRows.{item_at-first, item_of_row, none_at, place_of, row_read}
+use Rattle.frame_laws.proofs.RowCounts.{entries_of-append}
+use Rattle.frame_laws.proofs.RowValues.{moment_said, object_said, text_if_said}
+use Rattle.frame_laws.proofs.SaidRows.{entries_of, items_at, row_once}
+use Rattle.frame_laws.proofs.StandingParts.{between_stands, front_stands}
+use Rattle.frame_laws.proofs.WrittenRows.{from_place}
+use Rattle.descriptor_doc.specs.Descriptors.{descriptor_in, ed_prefix, ed_signature_in, ed_signed_part, signed_part, through_space}
+use Rattle.descriptor_doc.specs.Descriptors.{whole_part}
+use Rattle.descriptor_doc.specs.Heads.{head_of, kept_with, none_kept}
+use Rattle.descriptor_doc.specs.Reading.{max_descriptor}
+use Rattle.descriptor_doc.specs.Saying.{ItemIf, address_if, bandwidth_in, ed_signature_in as ed_said, fingerprint_if}
+use Rattle.descriptor_doc.specs.Saying.{hibernating_in, key_in, policy_if, uptime_in}
+use Rattle.descriptor_doc.specs.declared.descriptor.Descriptor.{Descriptor}
+use Rattle.descriptor_doc.specs.declared.descriptor.EdSignature.{EdSignature}
+use Rattle.descriptor_text.specs.Texts.{descriptor_text}
+use Rattle.descriptor_laws.specs.Again.{as_written, ed_signed_text, signature_as_written, signed_text, unsigned_items}
+use Rattle.descriptor_laws.specs.Ranges.{SaysInRange}
+use Rattle.descriptor_laws.proofs.DescriptorRead.{all_of_it, back_all, back_all_counted, back_apart, back_lacks, back_place}
+use Rattle.descriptor_laws.proofs.DescriptorRead.{before_last, front_all, front_counted, front_each, front_lacks, front_taken}
+use Rattle.descriptor_laws.proofs.DescriptorRead.{last_place, last_taken, none_of_last, of_policy, others, policy_entries}
+use Rattle.descriptor_laws.proofs.DescriptorRead.{policy_place, policy_rows, policy_taken}
+use Rattle.descriptor_laws.proofs.DescriptorRows.{Says, Written, back_rows, certificate_entry, ed_signature_entry, family_entry}
+use Rattle.descriptor_laws.proofs.DescriptorRows.{key_object}
+use Rattle.descriptor_laws.proofs.DescriptorRows.{groups_entry, hibernating_entry, key_entry, last_row, marks_if, policy_entry}
+use Rattle.descriptor_laws.proofs.DescriptorRows.{ports_entry, router_entry, row_maybe, signature_entry, uptime_entry}
+use Rattle.descriptor_laws.proofs.DescriptorSame.{entries, unsigned_entries, unsigned_same}
+use Rattle.descriptor_laws.proofs.DescriptorTexts.{ed_back, ed_front, ed_parts, front_text, last_begins, last_object}
+use Rattle.descriptor_laws.proofs.DescriptorTexts.{signed_length, whole_parts}
+use Rattle.descriptor_laws.proofs.Mixed.{each_stands, none_of_both, none_of_mixed, none_of_others, taken_among}
+use Rattle.descriptor_laws.proofs.ValuesSaid.{EachQuiet, addresses_said, certificate_said, family_said, key_object_said}
+use Rattle.descriptor_laws.proofs.ValuesSaid.{mark_said, policy_said, ports_said, quiet_each, quiet_if, quiet_mark, quiet_rows, quiet_text}
+use Rattle.descriptor_laws.proofs.ValuesSaid.{router_is_said, value_said}
+
+-- ---- what its rows have of it
+
+-- what is taken of the last rows
+abbrev back_taken : Descriptor → List (Taken Says)
+back_taken d = all_taken (back_place d) (entries_of (back_all d))
+
+-- its items, in three parts
+parts_same : (d : Descriptor)
+    → entries d ≡ entries_of (front_all d) ++ (policy_entries d ++ entries_of (back_all d))
+parts_same d =
+    let last : List Written = signature_entry d ∷ [] in
+    let back = entries_of (back_rows d) in
+    append_assoc (entries_of (front_all d)) (policy_entries d ++ back) last
+    ∙ ap (λ (l : List Written). entries_of (front_all d) ++ l) (append_assoc (policy_entries d) back last)
+    ∙ ap (λ (l : List Written). entries_of (front_all d) ++ (policy_entries d ++ l))
+    (sym (entries_of-append (back_rows d) (row_once last_row (signature_entry d) ∷ [])))
+
+-- no row but its own says an item of its exit policy
+front_quiet : (d : Descriptor) → EachQuiet (front_all d)
+front_quiet d =
+    both (both (λ p. refl) tt)
+    (both (quiet_if certificate_entry d.identity_ed25519 (λ a p. refl))
+    (both (quiet_if (key_entry the.MasterKeyEd25519) d.master_key_ed25519 (λ a p. refl))
+    (both (quiet_text the.Platform d.platform)
+    (both (both (λ p. refl) tt)
+    (both (quiet_if groups_entry d.fingerprint (λ a p. refl))
+    (both (quiet_if uptime_entry d.uptime (λ a p. refl))
+    (both (both (λ p. refl) tt)
+    (both (quiet_if hibernating_entry d.hibernating (λ a p. refl))
+    (both (quiet_if (key_object the.OnionKey) d.onion_key (λ a p. refl))
+    (both (both (λ p. refl) tt)
+    (both (quiet_if (key_entry the.NtorOnionKey) d.ntor_onion_key (λ a p. refl)) tt)))))))))))
+
+back_quiet : (d : Descriptor) → EachQuiet (back_all d)
+back_quiet d =
+    both (quiet_if ports_entry d.ipv6_policy (λ a p. refl))
+    (both (quiet_if family_entry d.family (λ a p. refl))
+    (both (quiet_each the.OrAddress d.or_addresses)
+    (both (quiet_mark d.tunnelled_dir_server)
+    (both (quiet_text the.Proto d.proto)
+    (both (quiet_text the.Contact d.contact)
+    (both (quiet_if ed_signature_entry d.router_sig_ed25519 (λ a p. refl))
+    (both (both (λ p. refl) tt) tt)))))))
+
+module _ (d : Descriptor) (are : SaysInRange d) where
+  -- all that is taken
+  abbrev taken : List (Taken Says)
+  taken = all_of_it d are
+
+  taken_parts : taken ≡ front_taken d ++ (policy_taken d ++ back_taken d)
+  taken_parts =
+      sym (all_taken-append 0 (router_entry d.router ∷ others d) (signature_entry d ∷ []))
+      ∙ ap (all_taken 0) (parts_same d)
+      ∙ all_taken-append 0 (entries_of (front_all d)) (policy_entries d ++ entries_of (back_all d))
+      ∙ ap (λ (l : List (Taken Says)). front_taken d ++ l)
+      (all_taken-append (policy_place d) (policy_entries d) (entries_of (back_all d)))
+
+  front_in_it : Each (IsTaken taken) 0 (front_all d)
+  front_in_it =
+      let lacks = front_lacks d in
+      subst (λ (l : List (Taken Says)). Each (IsTaken l) 0 (front_all d)) (sym taken_parts)
+      (taken_among [] (front_taken d) (policy_taken d ++ back_taken d) 0 (front_all d) (front_each d are)
+      (none_before (front_all d))
+      (none_of_both (policy_taken d) (back_taken d) (front_all d)
+      (none_of_mixed policy_entry policy_rows (policy_place d) (front_all d) d.policy of_policy lacks.0)
+      (none_of_others (back_place d) (front_all d) (back_all d) (back_all_counted d are) lacks.1)))
+
+  back_in_it : Each (IsTaken taken) (back_place d) (back_all d)
+  back_in_it =
+      let lacks = back_lacks d in
+      let whole : taken ≡ (front_taken d ++ policy_taken d) ++ (back_taken d ++ []) =
+      taken_parts ∙ sym (append_assoc (front_taken d) (policy_taken d) (back_taken d))
+      ∙ ap (λ (l : List (Taken Says)). (front_taken d ++ policy_taken d) ++ l) (sym (append-nil (back_taken d))) in
+      subst (λ (l : List (Taken Says)). Each (IsTaken l) (back_place d) (back_all d)) (sym whole)
+      (taken_among (front_taken d ++ policy_taken d) (back_taken d) [] (back_place d) (back_all d)
+      (each_taken (back_place d) (back_all d) (back_all_counted d are) (back_apart d))
+      (none_of_both (front_taken d) (policy_taken d) (back_all d)
+      (none_of_others 0 (back_all d) (front_all d) (front_counted d are) lacks.1)
+      (none_of_mixed policy_entry policy_rows (policy_place d) (back_all d) d.policy of_policy lacks.0))
+      (none_before (back_all d)))
+
+  -- its last item
+  pub last_is : item_at taken the.RouterSignature ≡ Some (last_taken d)
+  last_is =
+      let front = before_last d are in
+      let one = last_taken d in
+      item_at-first taken the.RouterSignature
+      ∙ ap first_if (filter-append (λ (other : Taken Says). same other.keyword the.RouterSignature) front (one ∷ [])
+      ∙ ap (λ (l : List (Taken Says)). l ++ items_at (one ∷ []) the.RouterSignature)
+      (none_at the.RouterSignature front (none_of_last d are))
+      ∙ all_at (last_place d) last_row (signature_entry d ∷ []) (both refl tt))
+
+  -- the items of its exit policy
+  pub policy_is : filter_map policy_if taken ≡ d.policy
+  policy_is =
+      ap (filter_map policy_if) taken_parts
+      ∙ filter_map-append policy_if (front_taken d) (policy_taken d ++ back_taken d)
+      ∙ ap (λ (l : List PolicyItem). l ++ filter_map policy_if (policy_taken d ++ back_taken d))
+      (quiet_rows 0 (front_all d) (front_quiet d))
+      ∙ filter_map-append policy_if (policy_taken d) (back_taken d)
+      ∙ ap (λ (l : List PolicyItem). filter_map policy_if (policy_taken d) ++ l)
+      (quiet_rows (back_place d) (back_all d) (back_quiet d))
+      ∙ append-nil (filter_map policy_if (policy_taken d))
+      ∙ policy_said (policy_place d) d.policy are.policy
