@@ -1,21 +1,20 @@
 -- The items of a server descriptor that was written make a document, whatever follows them.
-use Rattle.std.proofs.Common.{◌≡◌, ℕ, ◌≤◌, Bool, true, false, List, [], ◌∷◌, ◌++◌, length, Option, Some, None, Result, Ok}
-use Rattle.std.proofs.Common.{refl, sym, ap, subst, ◌∙◌, append_assoc, arith}
+use Rattle.std.proofs.Common.{◌≡◌, ℕ, Bool, true, false, List, [], ◌∷◌, ◌++◌, length, Option, None, Ok}
+use Rattle.std.proofs.Common.{refl, ap, ◌∙◌, arith}
 use Rattle.std.specs.Prelude.{map, not, ◌&&◌, ◌||◌}
-use Rattle.std.proofs.lemmas.Bool.{and_parts, and_right, not-true, or_from}
+use Rattle.std.proofs.lemmas.Bool.{and_parts, not-true}
 use Rattle.std.proofs.lemmas.List.Folds.{list_any-append}
 use Rattle.item_terms.specs.Items.{Item}
 use Rattle.item_terms.specs.declared.fault.DocFault.{DocFault}
 use Rattle.dir_values.specs.declared.policy.PolicyItem.{PolicyItem}
 use Rattle.dirdoc_grammar.specs.Writing.{all_written, written}
 use Rattle.frame_terms.specs.Decisions.{made_by}
-use Rattle.frame_terms.specs.Documents.{Document, group, read_items, start}
+use Rattle.frame_terms.specs.Documents.{group, read_items, start}
 use Rattle.frame_terms.specs.Keywords.{same}
 use Rattle.frame_terms.specs.Rows.{is_many, row}
 use Rattle.frame_terms.specs.Sections.{lacking_but, stands}
 use Rattle.frame_terms.specs.declared.document.Made.TheVariants.{Ends, Pushes}
 use Rattle.frame_terms.specs.declared.document.Taken.{Taken}
-use Rattle.frame_terms.specs.declared.fault.ReadRefusal.{ReadRefusal}
 use Rattle.frame_terms.specs.declared.keyword.Keyword.{Keyword}
 use Rattle.frame_terms.specs.declared.keyword.Keyword.TheVariants as the
 use Rattle.frame_terms.specs.declared.row.Count.TheVariants.{One}
@@ -33,7 +32,7 @@ use Rattle.frame_laws.proofs.Reading.{AreMore, read_on, takes_more}
 use Rattle.frame_laws.proofs.Remembered.{notes_nothing}
 use Rattle.frame_laws.proofs.RowCounts.{counted_both, counted_once}
 use Rattle.frame_laws.proofs.SaidRows.{AreCounted, are_apart, counted, entries_of, lack, row_none, row_once, rows_of}
-use Rattle.frame_laws.proofs.Steps.{IsInTable, IsLastOf, IsNew, last_of, made_by-later, opening}
+use Rattle.frame_laws.proofs.Steps.{IsInTable, IsLastOf, last_of, made_by-later, opening}
 use Rattle.frame_laws.proofs.TableRows.{are_plain, middle_in_table}
 use Rattle.descriptor_frame.specs.Tables.{descriptor_tables, rows}
 use Rattle.descriptor_frame.specs.declared.said.DescriptorKind.{DescriptorKind}

@@ -1,22 +1,20 @@
 -- A server descriptor, row by row of its table: the items of its exit policy stand in their order between the others.
-use Rattle.std.proofs.Common.{◌≡◌, ℕ, ◌≤◌, Bool, true, false, List, [], ◌∷◌, ◌++◌, Option, Some, None, Result, Ok, refl, ap, ◌∙◌, sym}
+use Rattle.std.proofs.Common.{◌≡◌, ℕ, Bool, true, false, List, [], ◌∷◌, Option, Some, None, Result, Ok, refl, ap, ◌∙◌}
 use Rattle.std.proofs.Common.{arith}
 use Rattle.std.specs.Prelude.{◌<◌, ◌^◌, All, IfSome, IsTrue, codes, decimal, is_some, option_and_then, if◌then◌else◌}
 use Rattle.std.proofs.lemmas.Bool.{both_ways}
 use Rattle.dir_bytes.specs.FieldTexts.{base64_text}
 use Rattle.dir_values.specs.Arguments.{Argument}
-use Rattle.dir_values.specs.Ports.{Ports, are_ranges, port_summary, summary_text}
+use Rattle.dir_values.specs.Ports.{Ports, are_ranges, summary_text}
 use Rattle.dir_values.specs.declared.digest.Fingerprint.{Fingerprint as Identity}
 use Rattle.dir_values.specs.declared.policy.PolicyItem.{PolicyItem}
 use Rattle.dir_values.specs.declared.refusal.ValueRefusal.{ValueRefusal}
 use Rattle.dir_values.proofs.PortsAgain.{ports_again}
-use Rattle.dirdoc_grammar.specs.Bodies.{decoded}
 use Rattle.dirdoc_grammar.specs.Writing.{written}
 use Rattle.dirdoc_laws.proofs.WrittenBytes.{decoded-body_text}
 use Rattle.ed_certs.specs.Certificates.{certificate_of}
 use Rattle.ed_certs.specs.declared.certificate.EdCert.{EdCert}
 use Rattle.item_terms.specs.Items.{Item}
-use Rattle.frame_terms.specs.Keywords.{same}
 use Rattle.frame_terms.specs.Rows.{is_one, row}
 use Rattle.frame_terms.specs.declared.keyword.Keyword.{Keyword}
 use Rattle.frame_terms.specs.declared.keyword.Keyword.TheVariants as the
@@ -40,10 +38,10 @@ use Rattle.frame_laws.proofs.RowValues.{moment_entry, object_entry, own_entry, r
 use Rattle.frame_laws.proofs.RowValues.{text_entry}
 use Rattle.frame_laws.proofs.SaidRows.{AreSaid, IsSaid, RowSays, row_once}
 use Rattle.frame_laws.proofs.Words.{arguments_of_word}
-use Rattle.frame_laws.proofs.WrittenItems.{rest_at, start_of, time-written}
+use Rattle.frame_laws.proofs.WrittenItems.{start_of, time-written}
 use Rattle.policy_items.specs.Texts.{item_text}
 use Rattle.descriptor_frame.specs.Fields.{is_address}
-use Rattle.descriptor_frame.specs.Lines.{address_of, is_certificate, ports_at, ports_of, value_at}
+use Rattle.descriptor_frame.specs.Lines.{address_of, is_certificate, ports_at, value_at}
 use Rattle.descriptor_frame.specs.Tables.{descriptor_tables}
 use Rattle.descriptor_frame.specs.declared.said.BandwidthLine.{BandwidthLine}
 use Rattle.descriptor_frame.specs.declared.said.DescriptorKind.{DescriptorKind}

@@ -4,8 +4,7 @@ use Rattle.std.proofs.Common.{append_assoc, append-nil}
 use Rattle.std.specs.Prelude.{codes, decimal, map, option_map}
 use Rattle.std.proofs.lemmas.List.{map-append}
 use Rattle.dir_bytes.specs.FieldTexts.{base64_text}
-use Rattle.dir_values.specs.Ports.{Ports, summary_text}
-use Rattle.dir_values.specs.declared.digest.Fingerprint.{Fingerprint as Identity}
+use Rattle.dir_values.specs.Ports.{summary_text}
 use Rattle.dir_values.specs.declared.policy.PolicyItem.{PolicyItem}
 use Rattle.dirdoc_grammar.specs.Writing.{NewItem}
 use Rattle.ed_certs.specs.declared.certificate.EdCert.{EdCert}
@@ -17,15 +16,14 @@ use Rattle.frame_laws.proofs.RowValues.{items_if, moment_entry, text_entry, text
 use Rattle.frame_laws.proofs.SaidRows.{entries_of}
 use Rattle.descriptor_frame.specs.declared.said.DescriptorValue.{DescriptorValue}
 use Rattle.descriptor_doc.specs.declared.descriptor.Descriptor.{Descriptor}
-use Rattle.descriptor_doc.specs.declared.descriptor.EdSignature.{EdSignature}
 use Rattle.descriptor_text.specs.Lines.{ed_signature_text, family_text, groups_text, hibernating_text}
 use Rattle.descriptor_text.specs.Texts.{address_items, certificate_bytes, descriptor_items, exit_items, front_items}
-use Rattle.descriptor_text.specs.Texts.{key_items, mark_if, name_items, object_if, origin_items, policy_item, rsa_words}
-use Rattle.descriptor_text.specs.Texts.{service_items, state_items}
+use Rattle.descriptor_text.specs.Texts.{mark_if, object_if, policy_item, rsa_words}
+use Rattle.descriptor_text.specs.Texts.{service_items}
 use Rattle.descriptor_laws.specs.Again.{ed_signature_items, unsigned_items}
 use Rattle.descriptor_laws.proofs.DescriptorRead.{front_all, others, policy_entries}
-use Rattle.descriptor_laws.proofs.DescriptorRows.{Written, back_rows, bandwidth_entry, certificate_entry, ed_signature_entry}
-use Rattle.descriptor_laws.proofs.DescriptorRows.{entries_if, family_entry, front_rows, groups_entry, hibernating_entry}
+use Rattle.descriptor_laws.proofs.DescriptorRows.{Written, bandwidth_entry, certificate_entry, ed_signature_entry}
+use Rattle.descriptor_laws.proofs.DescriptorRows.{entries_if, family_entry, groups_entry, hibernating_entry}
 use Rattle.descriptor_laws.proofs.DescriptorRows.{key_entry, key_object, marks_if, policy_entry, ports_entry, router_entry}
 use Rattle.descriptor_laws.proofs.DescriptorRows.{signature_entry, uptime_entry}
 

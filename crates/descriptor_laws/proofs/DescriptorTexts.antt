@@ -1,5 +1,5 @@
 -- The parts of a server descriptor's text.
-use Rattle.std.proofs.Common.{◌≡◌, ℕ, ◌+◌, ◌<◌, List, [], ◌∷◌, ◌++◌, length, take, drop, Option, Some, refl, sym, ap, ◌∙◌, subst}
+use Rattle.std.proofs.Common.{◌≡◌, ℕ, ◌+◌, ◌<◌, List, [], ◌∷◌, ◌++◌, length, Option, Some, refl, sym, ap, ◌∙◌}
 use Rattle.std.proofs.Common.{append_assoc, arith, length-append}
 use Rattle.std.specs.Prelude.{codes, map, option_map}
 use Rattle.dir_bytes.specs.FieldTexts.{base64_text}
@@ -11,16 +11,16 @@ use Rattle.frame_terms.specs.declared.keyword.Keyword.TheVariants as the
 use Rattle.frame_values.specs.Items.{bare, item_if}
 use Rattle.frame_values.proofs.ItemsTexts.{sections}
 use Rattle.frame_laws.proofs.Entries.{item_of}
-use Rattle.frame_laws.proofs.Places.{after_all, after_all-append, after_all-same}
+use Rattle.frame_laws.proofs.Places.{after_all-same}
 use Rattle.descriptor_doc.specs.declared.descriptor.Descriptor.{Descriptor}
 use Rattle.descriptor_doc.specs.declared.descriptor.EdSignature.{EdSignature}
 use Rattle.descriptor_text.specs.Lines.{ed_signature_text}
-use Rattle.descriptor_text.specs.Texts.{descriptor_items, descriptor_text}
+use Rattle.descriptor_text.specs.Texts.{descriptor_text}
 use Rattle.descriptor_laws.specs.Again.{ed_signature_items, signed_text, unsigned_items}
 use Rattle.descriptor_laws.specs.Ranges.{AreBytes}
 use Rattle.descriptor_laws.proofs.DescriptorRead.{last_place, others}
-use Rattle.descriptor_laws.proofs.DescriptorRows.{Written, router_entry, signature_entry}
-use Rattle.descriptor_laws.proofs.DescriptorSame.{before_items, items_parts, unsigned_entries, unsigned_same}
+use Rattle.descriptor_laws.proofs.DescriptorRows.{router_entry, signature_entry}
+use Rattle.descriptor_laws.proofs.DescriptorSame.{before_items, items_parts}
 
 -- ---- what the signing key signs
 

@@ -4,7 +4,8 @@ pub mod Mixed
 pub mod DescriptorRows
 pub mod DescriptorRead
 pub mod DescriptorSame
-pub mod ValuesSaid
 pub mod DescriptorTexts
+pub mod ValuesSaid
 pub mod DescriptorSays
-pub mod Probe
+pub mod DescriptorKept
+pub mod DescriptorAgain

@@ -1,7 +1,7 @@
 -- Items of rows between which items of other rows stand in any order.
-use Rattle.std.proofs.Common.{◌≡◌, ℕ, Bool, true, false, List, [], ◌∷◌, ◌++◌, Option, None, refl, sym, ap, subst, ◌∙◌}
+use Rattle.std.proofs.Common.{◌≡◌, ℕ, Bool, true, false, List, [], ◌∷◌, ◌++◌, None, refl, sym, ap, ◌∙◌}
 use Rattle.std.proofs.Common.{append-nil}
-use Rattle.std.specs.Prelude.{All, ◌&&◌, not, map, if◌then◌else◌}
+use Rattle.std.specs.Prelude.{All, ◌&&◌, not, map}
 use Rattle.std.proofs.lemmas.Bool.{and_parts, or_from, true_from_ne_false}
 use Rattle.std.proofs.lemmas.List.Elements.{All-head, All-tail, filter-append}
 use Rattle.std.proofs.lemmas.List.Folds.{list_any-append}

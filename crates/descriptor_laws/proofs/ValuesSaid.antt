@@ -1,21 +1,20 @@
 -- What is read of the rows of a server descriptor.
-use Rattle.std.proofs.Common.{◌≡◌, ℕ, ◌+◌, Bool, true, false, List, [], ◌∷◌, ◌++◌, length, Option, Some, None, Result, Ok, refl, sym, ap}
+use Rattle.std.proofs.Common.{◌≡◌, ℕ, ◌+◌, Bool, true, false, List, [], ◌∷◌, ◌++◌, Option, Some, None, Result, refl, sym, ap}
 use Rattle.std.proofs.Common.{subst, ◌∙◌, append_assoc, arith}
-use Rattle.std.specs.Prelude.{All, IfSome, IsTrue, decimal, filter_map, map, option_map, option_and_then, if◌then◌else◌}
+use Rattle.std.specs.Prelude.{All, IfSome, IsTrue, filter_map, map, option_map, option_and_then, if◌then◌else◌}
 use Rattle.std.specs.Result.{result_ok}
 use Rattle.std.specs.List.{cons_option}
 use Rattle.std.proofs.lemmas.Bool.{le-leb}
 use Rattle.std.proofs.lemmas.List.Elements.{All-head, All-tail, filter_map-append}
 use Rattle.item_terms.specs.Words.{words_of}
 use Rattle.dir_bytes.specs.FieldTexts.{address_text}
-use Rattle.dir_values.specs.Ports.{Ports, are_ranges, port_summary, summary_text}
+use Rattle.dir_values.specs.Ports.{Ports, are_ranges, port_summary}
 use Rattle.dir_values.specs.declared.policy.Net.{Net}
 use Rattle.dir_values.specs.declared.policy.Net.TheVariants.{Star, V4, V6}
 use Rattle.dir_values.specs.declared.policy.PolicyItem.{PolicyItem}
 use Rattle.dir_values.specs.declared.refusal.ValueRefusal.{ValueRefusal}
 use Rattle.dir_values.proofs.PortsAgain.{ports_again}
 use Rattle.dirdoc_grammar.specs.Writers.{is_argument}
-use Rattle.dirdoc_grammar.specs.Writing.{written}
 use Rattle.ed_certs.specs.Certificates.{certificate_of}
 use Rattle.ed_certs.specs.declared.certificate.EdCert.{EdCert}
 use Rattle.exit_summary.specs.Policies.{is_net}
@@ -29,13 +28,12 @@ use Rattle.frame_values.specs.Fields.{span}
 use Rattle.frame_values.specs.Parts.{bytes_in, part}
 use Rattle.frame_values.specs.Values.{item_at, text_if, text_of_value}
 use Rattle.frame_values.specs.declared.found.Span.{Span}
-use Rattle.frame_values.specs.declared.values.Value.{Value}
 use Rattle.frame_laws.proofs.Both.{both}
-use Rattle.frame_laws.proofs.Entries.{Entry, after_one, all_taken, item_of, taken_at}
+use Rattle.frame_laws.proofs.Entries.{after_one, all_taken, taken_at}
 use Rattle.frame_laws.proofs.Places.{after_all, all_taken-append}
-use Rattle.frame_laws.proofs.ReadRows.{IsRead, Stand, first_if, item_of_row}
+use Rattle.frame_laws.proofs.ReadRows.{IsRead, Stand, item_of_row}
 use Rattle.frame_laws.proofs.RowValues.{row_each, text_entry, text_entry_if}
-use Rattle.frame_laws.proofs.SaidRows.{RowSays, entries_of, items_at, row_once}
+use Rattle.frame_laws.proofs.SaidRows.{entries_of, items_at, row_once}
 use Rattle.frame_laws.proofs.StandingParts.{part_of_part, rest_part, spelled}
 use Rattle.frame_laws.proofs.Words.{words_of-join}
 use Rattle.descriptor_frame.specs.declared.said.DescriptorKind.{DescriptorKind}
@@ -44,7 +42,7 @@ use Rattle.descriptor_doc.specs.Descriptors.{certificate_in, ports_in, router_in
 use Rattle.descriptor_doc.specs.Saying.{ItemIf, address_if, is_there, object_if, policy_if, policy_of_value}
 use Rattle.descriptor_doc.specs.Saying.{router_in as router_said}
 use Rattle.descriptor_doc.specs.declared.descriptor.Router.{Router}
-use Rattle.descriptor_text.specs.Lines.{family_text, ports_text, router_text}
+use Rattle.descriptor_text.specs.Lines.{ports_text, router_text}
 use Rattle.descriptor_laws.specs.Lines.{rest_start}
 use Rattle.descriptor_laws.specs.Ranges.{IsCertificateInRange, IsItemInRange, IsNetInRange}
 use Rattle.descriptor_laws.proofs.DescriptorRows.{RowOf, Says, Written, certificate_entry, entries_if, family_entry, key_object}
