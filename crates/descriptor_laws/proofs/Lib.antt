@@ -1,2 +1,11 @@
 pub mod WrittenLines
 pub mod WrittenPolicies
+pub mod Mixed
+pub mod DescriptorRows
+pub mod DescriptorRead
+pub mod DescriptorSame
+pub mod DescriptorTexts
+pub mod ValuesSaid
+pub mod DescriptorSays
+pub mod DescriptorKept
+pub mod DescriptorAgain

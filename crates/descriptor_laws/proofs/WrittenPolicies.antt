@@ -1,5 +1,5 @@
 -- A line of an exit policy that was written is read again.
-use Rattle.std.proofs.Common.{◌≡◌, ℕ, suc, ◌+◌, ◌-◌, ◌*◌, ◌/◌, ◌%◌, ◌≤◌, ◌<◌, ◌^◌, Bool, true, false, List, [], ◌∷◌, ◌++◌}
+use Rattle.std.proofs.Common.{◌≡◌, ℕ, suc, ◌+◌, ◌-◌, ◌/◌, ◌%◌, ◌≤◌, ◌<◌, ◌^◌, Bool, true, false, List, [], ◌∷◌, ◌++◌}
 use Rattle.std.proofs.Common.{length, take, drop, get_or, Option, Some, None, refl, sym, ap, ◌∙◌, arith, append_assoc}
 use Rattle.std.proofs.Common.{length-append}
 use Rattle.std.specs.Prelude.{decimal, nat_le, nat_lt, nat_eq, ◌==◌, ◌&&◌, ◌||◌, not, option_and_then, option_map}
@@ -18,7 +18,7 @@ use Rattle.item_terms.specs.Words.{first_is}
 use Rattle.dir_bytes.specs.FieldTexts.{address_text}
 use Rattle.dir_bytes.specs.Fields.{address}
 use Rattle.dir_bytes.proofs.ReadAgain.{address-address_text, decimal_digits, number-decimal}
-use Rattle.dir_values.specs.Numbers.{number_of, port_of}
+use Rattle.dir_values.specs.Numbers.{port_of}
 use Rattle.dir_values.specs.declared.policy.Net.{Net}
 use Rattle.dir_values.specs.declared.policy.Net.TheVariants.{Star, V4, V6}
 use Rattle.dir_values.specs.declared.policy.PolicyItem.{PolicyItem}
@@ -384,9 +384,9 @@ v4_dark ip bits fits few =
     else if bits == 32 then address_text ip else address_text ip ++ slash ∷ decimal bits)) [
       | true ↦ refl
       | false ↦ elim (bits == 32) as (λ t. Dark (if t then address_text ip else address_text ip ++ slash ∷ decimal bits)) [
-          | true ↦ base
-          | false ↦ both_dark (address_text ip) (slash ∷ decimal bits) base digits
-        ]
+        | true ↦ base
+        | false ↦ both_dark (address_text ip) (slash ∷ decimal bits) base digits
+      ]
     ]
 
 net_dark : (net : Net) → IsNetInRange net → Dark (net_text net)

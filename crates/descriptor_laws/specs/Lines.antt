@@ -1,5 +1,5 @@
 -- Lines of server descriptors that were written are read again (dir-spec, "Server descriptor format").
-use Rattle.std.specs.Prelude.{◌≡◌, ℕ, ◌<◌, ◌^◌, Bool, List, ◌++◌, Ok, Some, decimal}
+use Rattle.std.specs.Prelude.{◌≡◌, ℕ, ◌<◌, ◌^◌, Bool, List, ◌++◌, Ok, decimal}
 use Rattle.item_terms.specs.Words.{argument_start}
 use Rattle.dir_bytes.specs.FieldTexts.{base64_text}
 use Rattle.dir_values.specs.declared.digest.Fingerprint.{Fingerprint}

@@ -50,8 +50,9 @@ pub record IsItemInRange (item : PolicyItem) : Type 0 where
   pub high_is : item.high ≤ 65535
 
 -- a certificate says what its bytes say: those that are signed, and the signature
-abbrev pub IsCertificate : EdCert → Type 0
-IsCertificate certificate = certificate_of (certificate_bytes certificate) ≡ Some certificate
+pub record IsCertificateInRange (certificate : EdCert) : Type 0 where
+  pub says : certificate_of (certificate_bytes certificate) ≡ Some certificate
+  pub each : IsBytes (certificate_bytes certificate)
 
 -- the text is one word, which ends with a colon and a port
 pub record IsAddressInRange (text : List ℕ) : Type 0 where
@@ -61,7 +62,7 @@ pub record IsAddressInRange (text : List ℕ) : Type 0 where
 -- each of the descriptor's values is one that can be read
 pub record SaysInRange (d : Descriptor) : Type 0 where
   pub router : IsRouterInRange d.router
-  pub identity_ed25519 : IfSome d.identity_ed25519 IsCertificate
+  pub identity_ed25519 : IfSome d.identity_ed25519 IsCertificateInRange
   pub master_key_ed25519 : IfSome d.master_key_ed25519 (AreBytes 32)
   pub published : d.published ≤ last_moment
   pub fingerprint : IfSome d.fingerprint (λ identity. AreTwenty identity.0)

@@ -4,4 +4,4 @@
 
 mod laws;
 
-pub use laws::descriptor_lines_are_read_again;
+pub use laws::{descriptor_lines_are_read_again, descriptors_are_read_again};
