@@ -1,0 +1,15 @@
+pub mod WrittenLines
+pub mod PlainTexts
+pub mod WrittenPorts
+pub mod WrittenPolicies
+pub mod Mixed
+pub mod DescriptorRows
+pub mod RowsSaid
+pub mod DescriptorParts
+pub mod DescriptorRead
+pub mod DescriptorSame
+pub mod DescriptorTexts
+pub mod ValuesSaid
+pub mod DescriptorSays
+pub mod DescriptorKept
+pub mod DescriptorAgain
