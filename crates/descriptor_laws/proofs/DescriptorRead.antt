@@ -1,8 +1,13 @@
 -- The items of a server descriptor that was written make a document, whatever follows them.
 use Rattle.std.proofs.Common.{◌≡◌, ℕ, Bool, true, false, List, [], ◌∷◌, ◌++◌, length, Option, None, Ok}
+<<<<<<< HEAD
 use Rattle.std.proofs.Common.{refl, ap, ◌∙◌, arith}
 use Rattle.std.specs.Prelude.{map, not, ◌&&◌, ◌||◌}
 use Rattle.std.proofs.lemmas.Bool.{and_parts, not-true}
+=======
+use Rattle.std.proofs.Common.{refl, ap, ◌∙◌}
+use Rattle.std.specs.Prelude.{map, ◌||◌}
+>>>>>>> 9e91ad300cc5893a5e477e90d93139f44f6cbfa6
 use Rattle.std.proofs.lemmas.List.Folds.{list_any-append}
 use Rattle.item_terms.specs.Items.{Item}
 use Rattle.item_terms.specs.declared.fault.DocFault.{DocFault}
@@ -11,13 +16,18 @@ use Rattle.dirdoc_grammar.specs.Writing.{all_written, written}
 use Rattle.frame_terms.specs.Decisions.{made_by}
 use Rattle.frame_terms.specs.Documents.{group, read_items, start}
 use Rattle.frame_terms.specs.Keywords.{same}
+<<<<<<< HEAD
 use Rattle.frame_terms.specs.Rows.{is_many, row}
+=======
+use Rattle.frame_terms.specs.Rows.{row}
+>>>>>>> 9e91ad300cc5893a5e477e90d93139f44f6cbfa6
 use Rattle.frame_terms.specs.Sections.{lacking_but, stands}
 use Rattle.frame_terms.specs.declared.document.Made.TheVariants.{Ends, Pushes}
 use Rattle.frame_terms.specs.declared.document.Taken.{Taken}
 use Rattle.frame_terms.specs.declared.keyword.Keyword.{Keyword}
 use Rattle.frame_terms.specs.declared.keyword.Keyword.TheVariants as the
 use Rattle.frame_terms.specs.declared.row.Count.TheVariants.{One}
+<<<<<<< HEAD
 use Rattle.frame_terms.specs.declared.row.Row.{Row}
 use Rattle.frame_laws.proofs.Both.{both}
 use Rattle.frame_laws.proofs.Entries.{after_one, all_taken, item_of, taken_at}
@@ -26,11 +36,20 @@ use Rattle.frame_laws.proofs.KnownWords.{same-sym}
 use Rattle.frame_laws.proofs.Limits.{fits}
 use Rattle.frame_laws.proofs.MoreRows.{AreInTable, NoneStand, none_after, none_before, rows_more, more_both}
 use Rattle.frame_laws.proofs.Places.{after_all, all_taken-append, both_written}
+=======
+use Rattle.frame_laws.proofs.Both.{both}
+use Rattle.frame_laws.proofs.Entries.{after_one, all_taken, item_of, taken_at}
+use Rattle.frame_laws.proofs.Following.{first_made}
+use Rattle.frame_laws.proofs.Limits.{fits}
+use Rattle.frame_laws.proofs.MoreRows.{NoneStand, none_after, none_before, rows_more, more_both}
+use Rattle.frame_laws.proofs.Places.{all_taken-append, both_written}
+>>>>>>> 9e91ad300cc5893a5e477e90d93139f44f6cbfa6
 use Rattle.frame_laws.proofs.ReadRows.{Each, IsTaken, each_taken, of_row, place_of}
 use Rattle.frame_laws.proofs.RowValues.{moment_entry}
 use Rattle.frame_laws.proofs.Reading.{AreMore, read_on, takes_more}
 use Rattle.frame_laws.proofs.Remembered.{notes_nothing}
 use Rattle.frame_laws.proofs.RowCounts.{counted_both, counted_once}
+<<<<<<< HEAD
 use Rattle.frame_laws.proofs.SaidRows.{AreCounted, are_apart, counted, entries_of, lack, row_none, row_once, rows_of}
 use Rattle.frame_laws.proofs.Steps.{IsInTable, IsLastOf, last_of, made_by-later, opening}
 use Rattle.frame_laws.proofs.TableRows.{are_plain, middle_in_table}
@@ -203,6 +222,28 @@ pub whole_with : (taken : List (Taken Says)) → stands the.Router taken ≡ tru
     → lacking_but rows the.RouterSignature taken ≡ None
 unfolding same
 whole_with taken first second third fourth = rw (first, second, third, fourth) refl
+=======
+use Rattle.frame_laws.proofs.SaidRows.{AreCounted, counted, entries_of, row_none, row_once}
+use Rattle.frame_laws.proofs.Steps.{last_of, made_by-later, opening}
+use Rattle.descriptor_frame.specs.Tables.{descriptor_tables, rows}
+use Rattle.descriptor_frame.specs.declared.said.DescriptorKind.TheVariants as kind
+use Rattle.descriptor_doc.specs.declared.descriptor.Descriptor.{Descriptor}
+use Rattle.descriptor_laws.specs.Ranges.{IsItemInRange, SaysInRange}
+use Rattle.descriptor_laws.proofs.DescriptorRows.{RowOf, Says, back_rows, first_row, front_rows}
+use Rattle.descriptor_laws.proofs.DescriptorRows.{bandwidth_entry, key_object}
+use Rattle.descriptor_laws.proofs.DescriptorRows.{last_row, policy_entry, policy_row, router_entry}
+use Rattle.descriptor_laws.proofs.DescriptorRows.{signature_entry}
+use Rattle.descriptor_laws.proofs.Mixed.{mixed_more, none_of_both}
+use Rattle.descriptor_laws.proofs.Mixed.{none_of_mixed, none_of_others, stands_once}
+use Rattle.descriptor_laws.proofs.RowsSaid.{back_said, front_said, suits_policy, suits_router, suits_signature}
+pub use Rattle.descriptor_laws.proofs.DescriptorParts.{back_all, back_apart, back_lacks, back_place, begins_it}
+pub use Rattle.descriptor_laws.proofs.DescriptorParts.{behind_in, ends_it, first_taken, front_all, front_apart}
+pub use Rattle.descriptor_laws.proofs.DescriptorParts.{front_in, front_lacks, front_taken, last_place, last_taken}
+pub use Rattle.descriptor_laws.proofs.DescriptorParts.{middle_apart, middle_in, middle_lacks, middle_plain, of_policy}
+pub use Rattle.descriptor_laws.proofs.DescriptorParts.{others, others_taken, policy_entries, policy_in, policy_many}
+pub use Rattle.descriptor_laws.proofs.DescriptorParts.{policy_place, policy_rows, policy_taken, second_place}
+pub use Rattle.descriptor_laws.proofs.DescriptorParts.{table_apart, whole_middle, whole_with}
+>>>>>>> 9e91ad300cc5893a5e477e90d93139f44f6cbfa6
 
 module _ (d : Descriptor) (are : SaysInRange d) where
   pub front_counted : AreCounted (front_all d)

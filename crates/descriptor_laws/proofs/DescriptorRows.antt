@@ -1,4 +1,5 @@
 -- A server descriptor, row by row of its table: the items of its exit policy stand in their order between the others.
+<<<<<<< HEAD
 use Rattle.std.proofs.Common.{◌≡◌, ℕ, Bool, true, false, List, [], ◌∷◌, Option, Some, None, Result, Ok, refl, ap, ◌∙◌}
 use Rattle.std.proofs.Common.{arith}
 use Rattle.std.specs.Prelude.{◌<◌, ◌^◌, All, IfSome, IsTrue, codes, decimal, is_some, option_and_then, if◌then◌else◌}
@@ -43,12 +44,36 @@ use Rattle.policy_items.specs.Texts.{item_text}
 use Rattle.descriptor_frame.specs.Fields.{is_address}
 use Rattle.descriptor_frame.specs.Lines.{address_of, is_certificate, ports_at, value_at}
 use Rattle.descriptor_frame.specs.Tables.{descriptor_tables}
+=======
+use Rattle.std.proofs.Common.{ℕ, Bool, List, [], ◌∷◌, Option, Some, None}
+use Rattle.std.specs.Prelude.{codes, decimal, if◌then◌else◌}
+use Rattle.dir_bytes.specs.FieldTexts.{base64_text}
+use Rattle.dir_values.specs.Ports.{Ports, summary_text}
+use Rattle.dir_values.specs.declared.digest.Fingerprint.{Fingerprint as Identity}
+use Rattle.dir_values.specs.declared.policy.PolicyItem.{PolicyItem}
+use Rattle.ed_certs.specs.declared.certificate.EdCert.{EdCert}
+use Rattle.frame_terms.specs.Rows.{row}
+use Rattle.frame_terms.specs.declared.keyword.Keyword.{Keyword}
+use Rattle.frame_terms.specs.declared.keyword.Keyword.TheVariants as the
+use Rattle.frame_terms.specs.declared.row.Count.TheVariants.{One, Optional, Many}
+use Rattle.frame_terms.specs.declared.row.Row.{Row}
+use Rattle.frame_values.specs.declared.values.Value.{Value}
+use Rattle.frame_values.specs.declared.values.Value.TheVariants as value
+use Rattle.frame_laws.proofs.Entries.{Entry}
+use Rattle.frame_laws.proofs.RowValues.{moment_entry, object_entry, own_entry, row_each, row_if, silent_entry}
+use Rattle.frame_laws.proofs.RowValues.{text_entry}
+use Rattle.frame_laws.proofs.SaidRows.{RowSays, row_once}
+use Rattle.policy_items.specs.Texts.{item_text}
+>>>>>>> 9e91ad300cc5893a5e477e90d93139f44f6cbfa6
 use Rattle.descriptor_frame.specs.declared.said.BandwidthLine.{BandwidthLine}
 use Rattle.descriptor_frame.specs.declared.said.DescriptorKind.{DescriptorKind}
 use Rattle.descriptor_frame.specs.declared.said.DescriptorKind.TheVariants as kind
 use Rattle.descriptor_frame.specs.declared.said.DescriptorValue.{DescriptorValue}
 use Rattle.descriptor_frame.specs.declared.said.DescriptorValue.TheVariants as own
+<<<<<<< HEAD
 use Rattle.descriptor_frame.specs.declared.said.RouterLine.{RouterLine}
+=======
+>>>>>>> 9e91ad300cc5893a5e477e90d93139f44f6cbfa6
 use Rattle.descriptor_doc.specs.declared.descriptor.Descriptor.{Descriptor}
 use Rattle.descriptor_doc.specs.declared.descriptor.EdSignature.{EdSignature}
 use Rattle.descriptor_doc.specs.declared.descriptor.Router.{Router}
@@ -56,11 +81,14 @@ use Rattle.descriptor_text.specs.Lines.{bandwidth_text, ed_signature_text, famil
 use Rattle.descriptor_text.specs.Lines.{router_text}
 use Rattle.descriptor_text.specs.Texts.{certificate_bytes, policy_keyword, rsa_words}
 use Rattle.descriptor_laws.specs.Lines.{rest_start, router_at}
+<<<<<<< HEAD
 use Rattle.descriptor_laws.specs.Ranges.{AreBytes, IsAddressInRange, IsBandwidthInRange, IsCertificateInRange}
 use Rattle.descriptor_laws.specs.Ranges.{IsItemInRange, IsRouterInRange, SaysInRange}
 use Rattle.descriptor_laws.proofs.WrittenLines.{bandwidth_again, hibernating_again, identity_again, key_again}
 use Rattle.descriptor_laws.proofs.WrittenLines.{router_again, signature_again, uptime_again}
 use Rattle.descriptor_laws.proofs.WrittenPolicies.{policy_again}
+=======
+>>>>>>> 9e91ad300cc5893a5e477e90d93139f44f6cbfa6
 
 -- what an item says
 abbrev pub Says : Type 0
@@ -175,6 +203,7 @@ back_rows d =
     ∷ row_if (row the.Contact Optional kind.Rest) d.contact
     ∷ row_maybe (row the.RouterSigEd25519 Optional kind.EdSignature) ed_signature_entry d.router_sig_ed25519
     ∷ []
+<<<<<<< HEAD
 
 -- ---- what its items say
 
@@ -396,3 +425,5 @@ back_said d are =
     (both (said_rest the.Proto d.proto)
     (both (said_rest the.Contact d.contact)
     (both (said_ed_signature d.router_sig_ed25519 are.router_sig_ed25519) tt))))))
+=======
+>>>>>>> 9e91ad300cc5893a5e477e90d93139f44f6cbfa6
