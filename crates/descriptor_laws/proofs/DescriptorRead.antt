@@ -1,13 +1,7 @@
 -- The items of a server descriptor that was written make a document, whatever follows them.
 use Rattle.std.proofs.Common.{◌≡◌, ℕ, Bool, true, false, List, [], ◌∷◌, ◌++◌, length, Option, None, Ok}
-<<<<<<< HEAD
-use Rattle.std.proofs.Common.{refl, ap, ◌∙◌, arith}
-use Rattle.std.specs.Prelude.{map, not, ◌&&◌, ◌||◌}
-use Rattle.std.proofs.lemmas.Bool.{and_parts, not-true}
-=======
 use Rattle.std.proofs.Common.{refl, ap, ◌∙◌}
 use Rattle.std.specs.Prelude.{map, ◌||◌}
->>>>>>> 9e91ad300cc5893a5e477e90d93139f44f6cbfa6
 use Rattle.std.proofs.lemmas.List.Folds.{list_any-append}
 use Rattle.item_terms.specs.Items.{Item}
 use Rattle.item_terms.specs.declared.fault.DocFault.{DocFault}
@@ -16,213 +10,24 @@ use Rattle.dirdoc_grammar.specs.Writing.{all_written, written}
 use Rattle.frame_terms.specs.Decisions.{made_by}
 use Rattle.frame_terms.specs.Documents.{group, read_items, start}
 use Rattle.frame_terms.specs.Keywords.{same}
-<<<<<<< HEAD
-use Rattle.frame_terms.specs.Rows.{is_many, row}
-=======
 use Rattle.frame_terms.specs.Rows.{row}
->>>>>>> 9e91ad300cc5893a5e477e90d93139f44f6cbfa6
 use Rattle.frame_terms.specs.Sections.{lacking_but, stands}
 use Rattle.frame_terms.specs.declared.document.Made.TheVariants.{Ends, Pushes}
 use Rattle.frame_terms.specs.declared.document.Taken.{Taken}
 use Rattle.frame_terms.specs.declared.keyword.Keyword.{Keyword}
 use Rattle.frame_terms.specs.declared.keyword.Keyword.TheVariants as the
 use Rattle.frame_terms.specs.declared.row.Count.TheVariants.{One}
-<<<<<<< HEAD
-use Rattle.frame_terms.specs.declared.row.Row.{Row}
-use Rattle.frame_laws.proofs.Both.{both}
-use Rattle.frame_laws.proofs.Entries.{after_one, all_taken, item_of, taken_at}
-use Rattle.frame_laws.proofs.Following.{IsFirst, first_made}
-use Rattle.frame_laws.proofs.KnownWords.{same-sym}
-use Rattle.frame_laws.proofs.Limits.{fits}
-use Rattle.frame_laws.proofs.MoreRows.{AreInTable, NoneStand, none_after, none_before, rows_more, more_both}
-use Rattle.frame_laws.proofs.Places.{after_all, all_taken-append, both_written}
-=======
 use Rattle.frame_laws.proofs.Both.{both}
 use Rattle.frame_laws.proofs.Entries.{after_one, all_taken, item_of, taken_at}
 use Rattle.frame_laws.proofs.Following.{first_made}
 use Rattle.frame_laws.proofs.Limits.{fits}
 use Rattle.frame_laws.proofs.MoreRows.{NoneStand, none_after, none_before, rows_more, more_both}
 use Rattle.frame_laws.proofs.Places.{all_taken-append, both_written}
->>>>>>> 9e91ad300cc5893a5e477e90d93139f44f6cbfa6
 use Rattle.frame_laws.proofs.ReadRows.{Each, IsTaken, each_taken, of_row, place_of}
 use Rattle.frame_laws.proofs.RowValues.{moment_entry}
 use Rattle.frame_laws.proofs.Reading.{AreMore, read_on, takes_more}
 use Rattle.frame_laws.proofs.Remembered.{notes_nothing}
 use Rattle.frame_laws.proofs.RowCounts.{counted_both, counted_once}
-<<<<<<< HEAD
-use Rattle.frame_laws.proofs.SaidRows.{AreCounted, are_apart, counted, entries_of, lack, row_none, row_once, rows_of}
-use Rattle.frame_laws.proofs.Steps.{IsInTable, IsLastOf, last_of, made_by-later, opening}
-use Rattle.frame_laws.proofs.TableRows.{are_plain, middle_in_table}
-use Rattle.descriptor_frame.specs.Tables.{descriptor_tables, rows}
-use Rattle.descriptor_frame.specs.declared.said.DescriptorKind.{DescriptorKind}
-use Rattle.descriptor_frame.specs.declared.said.DescriptorKind.TheVariants as kind
-use Rattle.descriptor_doc.specs.declared.descriptor.Descriptor.{Descriptor}
-use Rattle.descriptor_text.specs.Texts.{policy_keyword}
-use Rattle.descriptor_laws.specs.Ranges.{IsItemInRange, SaysInRange}
-use Rattle.descriptor_laws.proofs.DescriptorRows.{RowOf, Says, Written, back_rows, back_said, first_row, front_rows}
-use Rattle.descriptor_laws.proofs.DescriptorRows.{bandwidth_entry, key_object}
-use Rattle.descriptor_laws.proofs.DescriptorRows.{front_said, last_row, policy_entry, policy_row, router_entry}
-use Rattle.descriptor_laws.proofs.DescriptorRows.{signature_entry, suits_policy, suits_router, suits_signature}
-use Rattle.descriptor_laws.proofs.Mixed.{OfKinds, each_lacks, in_table_back, in_table_front, mixed_more, none_of_both}
-use Rattle.descriptor_laws.proofs.Mixed.{none_of_mixed, none_of_others, stands_once}
-
--- ---- its parts
-
--- its first rows, and their items
-abbrev pub front_all : Descriptor → List RowOf
-front_all d = row_once first_row (router_entry d.router) ∷ front_rows d
-
--- its last rows
-abbrev pub back_all : Descriptor → List RowOf
-back_all d = back_rows d ++ row_once last_row (signature_entry d) ∷ []
-
--- the rows of the items between
-abbrev pub policy_rows : List (Row DescriptorKind)
-policy_rows = policy_row true ∷ policy_row false ∷ []
-
--- the items between
-abbrev pub policy_entries : Descriptor → List Written
-policy_entries d = map policy_entry d.policy
-
--- the items after the first and before the last
-abbrev pub others : Descriptor → List Written
-others d = entries_of (front_rows d) ++ (policy_entries d ++ entries_of (back_rows d))
-
--- where the parts begin
-abbrev pub second_place : Descriptor → ℕ
-second_place d = after_one 0 (router_entry d.router)
-
-abbrev pub policy_place : Descriptor → ℕ
-policy_place d = after_all 0 (entries_of (front_all d))
-
-abbrev pub back_place : Descriptor → ℕ
-back_place d = after_all (policy_place d) (policy_entries d)
-
-abbrev pub last_place : Descriptor → ℕ
-last_place d = after_all (second_place d) (others d)
-
--- what is taken of them
-abbrev pub front_taken : Descriptor → List (Taken Says)
-front_taken d = all_taken 0 (entries_of (front_all d))
-
-abbrev pub policy_taken : Descriptor → List (Taken Says)
-policy_taken d = all_taken (policy_place d) (policy_entries d)
-
-abbrev pub last_taken : Descriptor → Taken Says
-last_taken d = taken_at (last_place d) (signature_entry d)
-
-abbrev pub first_taken : Descriptor → Taken Says
-first_taken d = taken_at 0 (router_entry d.router)
-
-abbrev pub others_taken : Descriptor → List (Taken Says)
-others_taken d = all_taken (second_place d) (others d)
-
--- ---- what the table says
-
--- a table with an item of each row
-abbrev whole_middle : Descriptor → List RowOf
-whole_middle d =
-    front_rows d
-    ++ (record { row = policy_row true; entries = signature_entry d ∷ [] }
-    ∷ record { row = policy_row false; entries = signature_entry d ∷ [] } ∷ back_rows d)
-
-table_apart : are_apart rows ≡ true
-unfolding same
-table_apart = refl
-
-middle_plain : (d : Descriptor) → are_plain descriptor_tables tt (whole_middle d) ≡ true
-unfolding same
-middle_plain d = refl
-
-middle_in : (d : Descriptor) → AreInTable descriptor_tables tt (whole_middle d)
-middle_in d =
-    middle_in_table descriptor_tables tt first_row (whole_middle d) (last_row ∷ []) refl table_apart (middle_plain d)
-
-front_in : (d : Descriptor) → AreInTable descriptor_tables tt (front_rows d)
-front_in d =
-    in_table_front descriptor_tables tt (front_rows d)
-    (record { row = policy_row true; entries = signature_entry d ∷ [] }
-    ∷ record { row = policy_row false; entries = signature_entry d ∷ [] } ∷ back_rows d) (middle_in d)
-
-behind_in : (d : Descriptor) → AreInTable descriptor_tables tt
-    (record { row = policy_row true; entries = signature_entry d ∷ [] }
-    ∷ record { row = policy_row false; entries = signature_entry d ∷ [] } ∷ back_rows d)
-behind_in d =
-    in_table_back descriptor_tables tt (front_rows d)
-    (record { row = policy_row true; entries = signature_entry d ∷ [] }
-    ∷ record { row = policy_row false; entries = signature_entry d ∷ [] } ∷ back_rows d) (middle_in d)
-
-policy_in : (d : Descriptor) (accept : Bool) → IsInTable descriptor_tables tt (policy_row accept)
-policy_in d true = (behind_in d).0 (omega arith)
-policy_in d false = (behind_in d).1.0 (omega arith)
-
-policy_many : (accept : Bool) → is_many (policy_row accept).count ≡ true
-policy_many accept = refl
-
--- an item of its exit policy has one of two keywords
-pub of_policy : OfKinds policy_entry policy_rows
-of_policy k apart item =
-    let parts = and_parts (not (same k the.Accept)) (not (same k the.Reject) && true) apart in
-    let other = and_parts (not (same k the.Reject)) true parts.1 in
-    by item.accept (same-sym the.Accept k ∙ not-true (same k the.Accept) parts.0)
-    (same-sym the.Reject k ∙ not-true (same k the.Reject) other.0)
-  where
-    by : (accept : Bool) → same the.Accept k ≡ false → same the.Reject k ≡ false → same (policy_keyword accept) k ≡ false
-    by true first second = first
-    by false first second = second
-
--- its first rows are apart, and so are its last ones
-pub front_apart : (d : Descriptor) → are_apart (rows_of (front_all d)) ≡ true
-unfolding same
-front_apart d = refl
-
-pub back_apart : (d : Descriptor) → are_apart (rows_of (back_all d)) ≡ true
-unfolding same
-back_apart d = refl
-
-middle_apart : (d : Descriptor)
-    → (are_apart (rows_of (front_rows d)) ≡ true) × (lack the.Router (rows_of (front_rows d)) ≡ true)
-    × (are_apart (rows_of (back_rows d)) ≡ true)
-unfolding same
-middle_apart d = (refl, refl, refl)
-
--- and no row is among those of another part
-pub front_lacks : (d : Descriptor)
-    → (each_lacks (rows_of (front_all d)) policy_rows ≡ true)
-    × (each_lacks (rows_of (front_all d)) (rows_of (back_all d)) ≡ true)
-unfolding same
-front_lacks d = (refl, refl)
-
-pub back_lacks : (d : Descriptor)
-    → (each_lacks (rows_of (back_all d)) policy_rows ≡ true)
-    × (each_lacks (rows_of (back_all d)) (rows_of (front_all d)) ≡ true)
-unfolding same
-back_lacks d = (refl, refl)
-
-middle_lacks : (d : Descriptor)
-    → (each_lacks (rows_of (back_rows d)) policy_rows ≡ true)
-    × (each_lacks (rows_of (back_rows d)) (rows_of (front_all d)) ≡ true)
-    × (each_lacks (last_row ∷ []) (rows_of (back_rows d)) ≡ true)
-    × (each_lacks (last_row ∷ []) policy_rows ≡ true)
-    × (each_lacks (last_row ∷ []) (rows_of (front_all d)) ≡ true)
-unfolding same
-middle_lacks d = (refl, refl, refl, refl, refl)
-
-pub begins_it : IsFirst descriptor_tables first_row
-unfolding same
-begins_it = record { begins = refl; row_there = refl }
-
-pub ends_it : IsLastOf descriptor_tables tt last_row
-unfolding same
-ends_it = record { row_there = refl; last = refl }
-
--- with these items it lacks nothing but the last
-pub whole_with : (taken : List (Taken Says)) → stands the.Router taken ≡ true → stands the.Published taken ≡ true
-    → stands the.Bandwidth taken ≡ true → stands the.SigningKey taken ≡ true
-    → lacking_but rows the.RouterSignature taken ≡ None
-unfolding same
-whole_with taken first second third fourth = rw (first, second, third, fourth) refl
-=======
 use Rattle.frame_laws.proofs.SaidRows.{AreCounted, counted, entries_of, row_none, row_once}
 use Rattle.frame_laws.proofs.Steps.{last_of, made_by-later, opening}
 use Rattle.descriptor_frame.specs.Tables.{descriptor_tables, rows}
@@ -243,7 +48,6 @@ pub use Rattle.descriptor_laws.proofs.DescriptorParts.{middle_apart, middle_in, 
 pub use Rattle.descriptor_laws.proofs.DescriptorParts.{others, others_taken, policy_entries, policy_in, policy_many}
 pub use Rattle.descriptor_laws.proofs.DescriptorParts.{policy_place, policy_rows, policy_taken, second_place}
 pub use Rattle.descriptor_laws.proofs.DescriptorParts.{table_apart, whole_middle, whole_with}
->>>>>>> 9e91ad300cc5893a5e477e90d93139f44f6cbfa6
 
 module _ (d : Descriptor) (are : SaysInRange d) where
   pub front_counted : AreCounted (front_all d)
