@@ -1,0 +1,4 @@
+pub mod MicroRows
+pub mod MicroSaid
+pub mod MicroSays
+pub mod MicroAgain
