@@ -46,3 +46,12 @@ Checks rules at cert answer.BadCertification = IsCurrent at cert × (certifies r
 Checks rules at cert answer.BadCrosscert =
     IsCurrent at cert × (certifies rules.may_accept cert ≡ true) × (crosscertifies rules.may_refuse cert ≡ true)
 Checks rules at cert answer.VerifierFault = IsCurrent at cert
+
+-- Of a certificate that is not its identity key's, or has expired, the verifier is not asked: it stays as it was.
+abbrev pub AsksNobody : {V : Type 0} → CertAnswer → V → V → Type 0
+AsksNobody answer.Checked old new = Unit {0}
+AsksNobody answer.WrongFingerprint old new = new ≡ old
+AsksNobody (answer.Expired moment expires) old new = new ≡ old
+AsksNobody answer.BadCertification old new = Unit {0}
+AsksNobody answer.BadCrosscert old new = Unit {0}
+AsksNobody answer.VerifierFault old new = Unit {0}

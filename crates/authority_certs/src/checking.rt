@@ -2,7 +2,7 @@
 ghost use Rattle.std.specs.Prelude.{◌≡◌, ◌≤◌};
 ghost use Rattle.dir_bytes.specs.Causes.{Rose};
 ghost use Rattle.key_port.specs.Answers.{rules};
-ghost use Rattle.authority_certs.specs.Checks.{Checks};
+ghost use Rattle.authority_certs.specs.Checks.{AsksNobody, Checks};
 
 use crate::cert::Cert;
 use dir_values::Fingerprint;
@@ -32,11 +32,12 @@ pub enum CertAnswer {
 ///
 /// `Checked` where its fingerprint is the SHA-1 of its identity key, it expires after the moment, and the verifier
 /// accepted the certification and then the crosscert; else the first of these that fails. `VerifierFault` where the
-/// verifier failed, whose count of faults rose then.
+/// verifier failed, whose count of faults rose then. For `WrongFingerprint` and `Expired` the verifier is not asked.
 pub fn check<V: Verifier>(cert: &Cert, at: u64, verifier: &mut V) -> CertAnswer
     ensures answer { Checks (rules V.may_accept V.may_refuse) at cert.now result }
     ensures fault { result ≡ CertAnswer.VerifierFault → Rose (V.faults verifier.old) (V.faults verifier.new) }
     ensures faults { V.faults verifier.old ≤ V.faults verifier.new }
+    ensures unasked { AsksNobody result verifier.old verifier.new }
 {
     let digest = Sha1::digest(cert.identity_key.as_bytes());
     if !cert.fingerprint.is_same(&Fingerprint(digest)) {

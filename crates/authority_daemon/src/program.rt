@@ -1,5 +1,5 @@
 // The program over what stands outside.
-ghost use Rattle.std.specs.Prelude.{◌≡◌, ◌≤◌, ◌<◌, ◌^◌, List, ℕ, Some, Err, drop, false, length, vec_len};
+ghost use Rattle.std.specs.Prelude.{◌≡◌, ◌≤◌, ◌<◌, ◌^◌, List, ℕ, None, Some, Err, drop, false, length, vec_len};
 ghost use Rattle.dir_bytes.specs.Causes.{Rose};
 ghost use Rattle.key_port.specs.Answers.{rules};
 ghost use Rattle.daemon_words.specs.declared.command.Command.{Command};
@@ -59,6 +59,8 @@ pub fn run<S: Source + Drop, K: Sink + Drop, E: Sink + Drop, V: Verifier + Drop>
     ensures limit { (c : Command) → grammar.command_of words.now ≡ Some c → Told (S.left outside.old.source) (λ bytes. KeepsLimit c bytes result) }
     // The input is read to its end, also where it is refused.
     ensures read { (c : Command) → grammar.command_of words.now ≡ Some c → ReadsThrough c (S.left outside.old.source) (S.left outside.new.source) result }
+    // Words that give no command leave the input as it was.
+    ensures unread { grammar.command_of words.now ≡ None → outside.new.source ≡ outside.old.source }
     ensures read_fault { result ≡ Status.ReadFault → Rose (S.faults outside.old.source) (S.faults outside.new.source) }
     ensures write_fault { result ≡ Status.WriteFault → Rose (K.faults outside.old.sink) (K.faults outside.new.sink) }
     ensures verifier_fault { result ≡ Status.Refused Refusal.Verifier →
@@ -102,6 +104,7 @@ fn run_command<S: Source, K: Sink, V: Verifier>(
     ensures written { WritesOnlyAnswers (K.written sink.old) (K.written sink.new) result }
     ensures limit { (c : Command) → grammar.command_of words.now ≡ Some c → Told (S.left source.old) (λ bytes. KeepsLimit c bytes result) }
     ensures read { (c : Command) → grammar.command_of words.now ≡ Some c → ReadsThrough c (S.left source.old) (S.left source.new) result }
+    ensures unread { grammar.command_of words.now ≡ None → source.new ≡ source.old }
     ensures read_fault { result ≡ Status.ReadFault → Rose (S.faults source.old) (S.faults source.new) }
     ensures write_fault { result ≡ Status.WriteFault → Rose (K.faults sink.old) (K.faults sink.new) }
     ensures verifier_fault { result ≡ Status.Refused Refusal.Verifier → Rose (V.faults verifier.old) (V.faults verifier.new) }

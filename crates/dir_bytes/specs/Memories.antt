@@ -8,11 +8,7 @@ use Rattle.dir_bytes.specs.declared.sink.WriteAnswer.TheVariants as write
 use Rattle.dir_bytes.specs.declared.memory_source.MemorySource.{MemorySource}
 use Rattle.dir_bytes.specs.declared.memory_sink.MemorySink.{MemorySink}
 use Rattle.dir_bytes.specs.declared.memory_clock.MemoryClock.{MemoryClock}
-use Rattle.dir_bytes.specs.Causes.{last_moment}
-
--- the number, from 1, of the call after so many
-abbrev pub next_call : ℕ → ℕ
-next_call calls = min (calls + 1) (2 ^ 64 - 1)
+use Rattle.dir_bytes.specs.Causes.{last_moment, next_count}
 
 -- whether the call with this number is to fail
 abbrev pub is_to_fail : List ℕ → ℕ → Bool
@@ -33,9 +29,9 @@ pub record IsFreshSource (text places numbers : List ℕ) (source : MemorySource
 
 -- a read fails exactly where its number stands among those that are to fail
 abbrev pub FailsByNumber : MemorySource → ReadAnswer → Type 0
-FailsByNumber old (read.Got n) = is_to_fail old.failing.items (next_call old.reads) ≡ false
-FailsByNumber old read.End = is_to_fail old.failing.items (next_call old.reads) ≡ false
-FailsByNumber old read.Failed = is_to_fail old.failing.items (next_call old.reads) ≡ true
+FailsByNumber old (read.Got n) = is_to_fail old.failing.items (next_count old.reads) ≡ false
+FailsByNumber old read.End = is_to_fail old.failing.items (next_count old.reads) ≡ false
+FailsByNumber old read.Failed = is_to_fail old.failing.items (next_count old.reads) ≡ true
 
 -- a read gives no byte from beyond the next cut
 abbrev pub StopsAtCuts : MemorySource → ReadAnswer → Type 0
@@ -46,7 +42,7 @@ StopsAtCuts old read.Failed = Unit {0}
 
 -- one more read is counted, and what is to come stays
 pub record IsNextSource (old new : MemorySource) : Type 0 where
-  pub reads : new.reads ≡ next_call old.reads
+  pub reads : new.reads ≡ next_count old.reads
   pub cuts : new.cuts.items ≡ old.cuts.items
   pub failing : new.failing.items ≡ old.failing.items
 
@@ -65,12 +61,12 @@ pub record IsFreshSink (text : List ℕ) (most : ℕ) (numbers : List ℕ) (sink
 -- a write takes what fits a piece and the room, and fails exactly where its number is to fail or there is no room
 abbrev pub TakesAsTold : MemorySink → List ℕ → WriteAnswer → Type 0
 TakesAsTold old bytes (write.Took n) =
-    (is_to_fail old.failing.items (next_call old.writes) ≡ false) × (n ≡ min old.piece (min (sink_room old) (length bytes)))
-TakesAsTold old bytes write.Failed = (is_to_fail old.failing.items (next_call old.writes) || (sink_room old == 0)) ≡ true
+    (is_to_fail old.failing.items (next_count old.writes) ≡ false) × (n ≡ min old.piece (min (sink_room old) (length bytes)))
+TakesAsTold old bytes write.Failed = (is_to_fail old.failing.items (next_count old.writes) || (sink_room old == 0)) ≡ true
 
 -- one more write is counted, no capacity is lost, and what is to come stays
 pub record IsNextSink (old new : MemorySink) : Type 0 where
-  pub writes : new.writes ≡ next_call old.writes
+  pub writes : new.writes ≡ next_count old.writes
   pub piece : new.piece ≡ old.piece
   pub failing : new.failing.items ≡ old.failing.items
   pub capacity : vec_capacity old.written ≤ vec_capacity new.written

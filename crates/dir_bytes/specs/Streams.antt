@@ -11,7 +11,7 @@ use Rattle.dir_bytes.specs.declared.reading.ReadAllFault.{ReadAllFault}
 use Rattle.dir_bytes.specs.declared.reading.ReadAllFault.TheVariants as fault
 use Rattle.dir_bytes.specs.declared.writing.WriteAll.{WriteAll}
 use Rattle.dir_bytes.specs.declared.writing.WriteAll.TheVariants as all
-use Rattle.dir_bytes.specs.Causes.{Rose}
+use Rattle.dir_bytes.specs.Causes.{Rose, next_count}
 
 -- a read gives at least one byte, and no more than there is room for
 abbrev pub GivesWithin : ReadAnswer → ℕ → Type 0
@@ -31,6 +31,12 @@ CountsReads before now (read.Got n) = before ≤ now
 CountsReads before now read.End = before ≤ now
 CountsReads before now read.Failed = Rose before now × (before ≤ now)
 
+-- a read that failed is counted as one more fault, and no other read is
+abbrev pub CountsFailedReads : ℕ → ℕ → ReadAnswer → Type 0
+CountsFailedReads before now (read.Got n) = now ≡ before
+CountsFailedReads before now read.End = now ≡ before
+CountsFailedReads before now read.Failed = now ≡ next_count before
+
 -- a write takes at least one byte, and no more than it was given
 abbrev pub TakesWithin : WriteAnswer → ℕ → Type 0
 TakesWithin (write.Took n) len = (0 < n) × (n ≤ len)
@@ -45,6 +51,15 @@ AddsTo old new write.Failed bytes = Keeps old new
 abbrev pub CountsWrites : ℕ → ℕ → WriteAnswer → Type 0
 CountsWrites before now (write.Took n) = before ≤ now
 CountsWrites before now write.Failed = Rose before now × (before ≤ now)
+
+-- a write that failed is counted as one more fault, and no other write is
+abbrev pub CountsFailedWrites : ℕ → ℕ → WriteAnswer → Type 0
+CountsFailedWrites before now (write.Took n) = now ≡ before
+CountsFailedWrites before now write.Failed = now ≡ next_count before
+
+-- at most so many bytes were taken off the front of those left
+abbrev pub TakesAtMost : Option (List ℕ) → Option (List ℕ) → ℕ → Type 0
+TakesAtMost old new most = (taken : List ℕ) × Consumes old new taken × (length taken ≤ most)
 
 -- what was read is all that was left, or more than the limit was left
 abbrev pub ReadsAll : Option (List ℕ) → Option (List ℕ) → ℕ → Result (Vec ℕ) ReadAllFault → Type 0

@@ -1,6 +1,7 @@
 // A source, a sink and a clock over those of std. They tell nothing of content.
-ghost use Rattle.std.specs.Prelude.{◌≡◌, ◌≤◌, None};
-ghost use Rattle.dir_bytes.specs.Causes.{last_moment};
+ghost use Rattle.std.specs.Prelude.{◌≡◌, ◌≤◌, ◌<◌, None, length};
+ghost use Rattle.dir_bytes.specs.Causes.{Counts, last_moment, next_count};
+ghost use Rattle.dir_bytes.specs.Streams.{GivesWithin, TakesFrom, CountsReads, CountsFailedReads, TakesWithin, AddsTo, CountsWrites, CountsFailedWrites};
 
 use crate::clock::{Clock, LAST_MOMENT};
 use crate::sink::{Sink, WriteAnswer};
@@ -29,7 +30,13 @@ impl<R: Read> Source for StdSource<R> {
 
     ghost faults = { λ s. s.faults };
 
-    fn read(&mut self, out: &mut [u8]) -> ReadAnswer {
+    fn read(&mut self, out: &mut [u8]) -> ReadAnswer
+        requires { 0 < length out.old }
+        ensures within { GivesWithin result (length out.new) }
+        ensures bytes { TakesFrom None None result out.new }
+        ensures cause { CountsReads self.old.faults self.new.faults result }
+        ensures counted { CountsFailedReads self.old.faults self.new.faults result }
+    {
         match self.inner.read(out) {
             Ok(0) => ReadAnswer::End,
             Ok(count) => ReadAnswer::Got(count),
@@ -62,7 +69,13 @@ impl<W: Write> Sink for StdSink<W> {
 
     ghost faults = { λ s. s.faults };
 
-    fn write(&mut self, bytes: &[u8]) -> WriteAnswer {
+    fn write(&mut self, bytes: &[u8]) -> WriteAnswer
+        requires { 0 < length bytes.now }
+        ensures within { TakesWithin result (length bytes.now) }
+        ensures bytes { AddsTo None None result bytes.now }
+        ensures cause { CountsWrites self.old.faults self.new.faults result }
+        ensures counted { CountsFailedWrites self.old.faults self.new.faults result }
+    {
         match self.inner.write(bytes) {
             Ok(count) if count > 0 => WriteAnswer::Took(count),
             _ => {
@@ -108,7 +121,12 @@ impl<R: std::rt::Clock> Clock for SystemClock<R> {
 
     ghost asks = { λ s. s.asks };
 
-    fn now(&mut self) -> u64 {
+    fn now(&mut self) -> u64
+        ensures moment { result ≤ last_moment }
+        ensures last { self.new.last ≡ result }
+        ensures asks { Counts self.old.asks self.new.asks }
+        ensures counted { self.new.asks ≡ next_count self.old.asks }
+    {
         self.asks = self.asks.saturating_add(1);
         if let Some(moment) = self.moment() {
             if moment <= LAST_MOMENT {

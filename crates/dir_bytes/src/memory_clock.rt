@@ -1,6 +1,6 @@
 // A clock in memory, which gives the moments that it was made with.
 ghost use Rattle.std.specs.Prelude.{◌≡◌, ◌≤◌, ◌<◌, vec_len};
-ghost use Rattle.dir_bytes.specs.Causes.{Counts, last_moment};
+ghost use Rattle.dir_bytes.specs.Causes.{Counts, last_moment, next_count};
 
 use crate::clock::{Clock, LAST_MOMENT};
 
@@ -45,6 +45,7 @@ impl Clock for MemoryClock {
         ensures moment { result ≤ last_moment }
         ensures last { self.new.last ≡ result }
         ensures asks { Counts self.old.asks self.new.asks }
+        ensures counted { self.new.asks ≡ next_count self.old.asks }
         ensures next { result ≡ next_moment self.old }
         ensures moments { moments_of self.new ≡ moments_of self.old }
     {

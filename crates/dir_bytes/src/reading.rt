@@ -1,8 +1,8 @@
 // Reading a source to its end.
-ghost use Rattle.std.specs.Prelude.{◌≡◌, ◌≤◌, vec_len, IfOk, Err};
+ghost use Rattle.std.specs.Prelude.{◌≡◌, ◌≤◌, ◌+◌, vec_len, IfErr, IfOk, Err};
 ghost use Rattle.dir_bytes.specs.declared.reading.ReadAllFault.TheVariants.{Memory};
 ghost use Rattle.dir_bytes.specs.Causes.{Rose};
-ghost use Rattle.dir_bytes.specs.Streams.{ReadsAll};
+ghost use Rattle.dir_bytes.specs.Streams.{ReadsAll, TakesAtMost};
 
 use crate::source::{ReadAnswer, Source};
 use std::alloc::{AllocError, Global};
@@ -34,6 +34,8 @@ pub fn read_all<S: Source>(
     limit: u64,
 ) -> Result<Vec<u8>, ReadAllFault>
     ensures whole { ReadsAll (S.left source.old) (S.left source.new) limit result }
+    // A refused reading took bytes off the front: at most the limit, and one piece.
+    ensures refused { IfErr result (λ _. TakesAtMost (S.left source.old) (S.left source.new) (limit + 65536)) }
     ensures within { IfOk result (λ v. vec_len v ≤ limit) }
     ensures fault { result ≡ Err ReadAllFault.ReadFault → Rose (S.faults source.old) (S.faults source.new) }
     ensures faults { S.faults source.old ≤ S.faults source.new }

@@ -2,7 +2,8 @@
 use Rattle.std.specs.Prelude.{◌≡◌, ◌↔◌, ℕ, Bool, true, false, List, ◌++◌, codes}
 use Rattle.std.specs.Str.{bytes_eq}
 use Rattle.sha2.specs.Sha256.{sha256}
-use Rattle.dir_bytes.specs.Memories.{is_to_fail, next_call}
+use Rattle.dir_bytes.specs.Causes.{next_count}
+use Rattle.dir_bytes.specs.Memories.{is_to_fail}
 use Rattle.key_port.specs.declared.verifier.KeyKind.{KeyKind}
 use Rattle.key_port.specs.declared.verifier.KeyKind.TheVariants as kind
 use Rattle.key_port.specs.declared.verifier.VerifyAnswer.{VerifyAnswer}
@@ -37,12 +38,12 @@ pub record IsFreshKeys (numbers : List ℕ) (keys : TestKeys) : Type 0 where
 
 -- a call fails exactly where its number stands among those that are to fail
 abbrev pub FailsByNumber : TestKeys → VerifyAnswer → Type 0
-FailsByNumber old answer.Yes = is_to_fail old.failing.items (next_call old.calls) ≡ false
-FailsByNumber old answer.No = is_to_fail old.failing.items (next_call old.calls) ≡ false
-FailsByNumber old answer.Fault = is_to_fail old.failing.items (next_call old.calls) ≡ true
+FailsByNumber old answer.Yes = is_to_fail old.failing.items (next_count old.calls) ≡ false
+FailsByNumber old answer.No = is_to_fail old.failing.items (next_count old.calls) ≡ false
+FailsByNumber old answer.Fault = is_to_fail old.failing.items (next_count old.calls) ≡ true
 
 -- one more call is counted, a fault where it failed, and what is to come stays
 pub record IsNextKeys (old new : TestKeys) (answer : VerifyAnswer) : Type 0 where
-  pub calls : new.calls ≡ next_call old.calls
+  pub calls : new.calls ≡ next_count old.calls
   pub faults : new.faults ≡ faults_after old.faults answer
   pub failing : new.failing.items ≡ old.failing.items

@@ -5,7 +5,7 @@ use Rattle.dir_values.specs.declared.digest.Fingerprint.{Fingerprint}
 use Rattle.key_port.specs.Answers.{Rules}
 use Rattle.key_port.specs.declared.verifier.VerifyAnswer.{VerifyAnswer}
 use Rattle.key_port.specs.declared.verifier.VerifyAnswer.TheVariants as verified
-use Rattle.authority_certs.specs.Checks.{IsCertified, IsCurrent, certifies, crosscertifies}
+use Rattle.authority_certs.specs.Checks.{AsksNobody, IsCertified, IsCurrent, certifies, crosscertifies}
 use Rattle.authority_certs.specs.declared.checking.CertAnswer.{CertAnswer}
 use Rattle.authority_certs.specs.declared.checking.CertAnswer.TheVariants as answer
 use Rattle.vote_terms.specs.Votes.{ReadVote}
@@ -32,6 +32,15 @@ RefusedBy rules roster period vote UnknownAuthority = Refuses rules roster perio
 RefusedBy rules roster period vote (Cert answer) = RefusedByCert rules roster period vote answer
 RefusedBy rules roster period vote BadSignature = Refuses rules roster period vote word.Signature
 RefusedBy rules roster period vote VerifierFault = IsAsked roster period vote
+
+-- where the vote is of another period or of no member of the roster, or its certificate's answer asks nobody, the verifier
+-- is not asked: it stays as it was
+abbrev pub RefusedUnasked : {V : Type 0} → VoteRefusal → V → V → Type 0
+RefusedUnasked (WrongPeriod valid_after) old new = new ≡ old
+RefusedUnasked UnknownAuthority old new = new ≡ old
+RefusedUnasked (Cert answer) old new = AsksNobody answer old new
+RefusedUnasked BadSignature old new = Unit {0}
+RefusedUnasked VerifierFault old new = Unit {0}
 
 -- ---- what the private functions say
 

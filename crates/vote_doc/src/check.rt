@@ -2,10 +2,11 @@
 ghost use Rattle.std.specs.Prelude.{◌≡◌, ◌≤◌, IfOk, IfErr};
 ghost use Rattle.dir_bytes.specs.Causes.{Rose};
 ghost use Rattle.key_port.specs.Answers.{rules};
+ghost use Rattle.authority_certs.specs.Checks.{AsksNobody};
 ghost use Rattle.vote_terms.specs.Acceptable as acceptable;
 ghost use Rattle.vote_terms.specs.Acceptable.{IsAcceptable};
 ghost use Rattle.vote_terms.specs.Votes.{vote_digest};
-ghost use Rattle.vote_doc.specs.Checks.{ChecksCert, ChecksSignature, RefusedBy};
+ghost use Rattle.vote_doc.specs.Checks.{ChecksCert, ChecksSignature, RefusedBy, RefusedUnasked};
 
 use crate::checked::CheckedVote;
 use crate::vote::Vote;
@@ -36,6 +37,7 @@ fn check_certificate<V: Verifier>(vote: &Vote, at: u64, verifier: &mut V) -> Cer
     ensures answer { ChecksCert (rules V.may_accept V.may_refuse) at vote.now result }
     ensures fault { result ≡ CertAnswer.VerifierFault → Rose (V.faults verifier.old) (V.faults verifier.new) }
     ensures faults { V.faults verifier.old ≤ V.faults verifier.new }
+    ensures unasked { AsksNobody result verifier.old verifier.new }
 {
     if !vote.certificate().fingerprint.is_same(&vote.identity()) {
         return CertAnswer::WrongFingerprint;
@@ -87,6 +89,7 @@ fn digest_if_acceptable<V: Verifier>(
     ensures refused { IfErr result (λ refusal. RefusedBy (rules V.may_accept V.may_refuse) roster.now valid_after vote.now refusal) }
     ensures fault { IfErr result (λ refusal. refusal ≡ VoteRefusal.VerifierFault → Rose (V.faults verifier.old) (V.faults verifier.new)) }
     ensures faults { V.faults verifier.old ≤ V.faults verifier.new }
+    ensures unasked { IfErr result (λ refusal. RefusedUnasked refusal verifier.old verifier.new) }
 {
     if vote.valid_after() != valid_after {
         let valid_after = vote.valid_after();
@@ -116,7 +119,8 @@ fn digest_if_acceptable<V: Verifier>(
 /// # Errors
 /// The first that applies: `WrongPeriod` where it is for another period, `UnknownAuthority` where the roster lacks its
 /// authority, `Cert` where its certificate does not hold, `BadSignature` where its signature does not; `VerifierFault`
-/// where the verifier failed, whose count of faults rose then.
+/// where the verifier failed, whose count of faults rose then. The verifier is not asked before `WrongPeriod`,
+/// `UnknownAuthority`, and `Cert` of `WrongFingerprint` or `Expired`.
 pub fn check_vote<V: Verifier>(
     vote: Vote,
     roster: &Roster,
@@ -127,6 +131,7 @@ pub fn check_vote<V: Verifier>(
     ensures refused { IfErr result (λ refusal. RefusedBy (rules V.may_accept V.may_refuse) roster.now valid_after vote refusal) }
     ensures fault { IfErr result (λ refusal. refusal ≡ VoteRefusal.VerifierFault → Rose (V.faults verifier.old) (V.faults verifier.new)) }
     ensures faults { V.faults verifier.old ≤ V.faults verifier.new }
+    ensures unasked { IfErr result (λ refusal. RefusedUnasked refusal verifier.old verifier.new) }
 {
     match digest_if_acceptable(&vote, roster, valid_after, verifier) {
         Ok(digest) => Ok(CheckedVote::new(vote, digest)),

@@ -11,9 +11,8 @@ use dir_bytes::Memory;
 use dirdoc_grammar::Items;
 use frame_reader::read_document;
 use frame_terms::ReadRefusal;
-use frame_values::between;
 use std::alloc::Global;
-use vote_entries::count_entries;
+use vote_entries::most_entries;
 use vote_frame::VoteFrame;
 
 /// How many bytes a vote may have.
@@ -45,11 +44,9 @@ pub fn read(alloc: Global, bytes: &Bytes, start: usize) -> Result<(Vote, usize),
 {
     let start = start as u64;
     let mut items = Items::starting_at(bytes, start, MAX_VOTE);
-    let mut kept = nothing_kept(
-        alloc,
-        count_entries(between(bytes, start, start + MAX_VOTE)),
-    )?;
     let length = bytes.len() as u64;
+    let most = (length - start).min(MAX_VOTE) as usize;
+    let mut kept = nothing_kept(alloc, most_entries(most))?;
     let end = read_document(alloc, VoteFrame, &mut items, length, &mut kept)?;
     match vote_of(alloc, bytes, kept) {
         Ok(vote) => Ok((vote, end as usize)),

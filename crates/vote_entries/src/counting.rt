@@ -1,26 +1,18 @@
-// How many entries a vote seems to have.
-ghost use Rattle.std.specs.Prelude.{◌≤◌, length};
+// How many entries a vote can have.
+ghost use Rattle.std.specs.Prelude.{◌≡◌};
+ghost use Rattle.vote_entries.specs.Room as room;
 
-use memchr::memchr;
+/// The bytes of the shortest entry: an `r` line with a name of one letter, the address 0.0.0.0 and ports of one digit, and
+/// an `s` line without flags.
+const SHORTEST_ENTRY: usize = 94;
 
 /// How many entries a vote may have.
 const MAX_ENTRIES: usize = 65_535;
 
-/// How many lines before the footer begin an entry, so that room for what is kept of the entries is taken once; as many as a
-/// vote may have at most.
-pub fn count_entries(bytes: &[u8]) -> usize
-    ensures { result ≤ length bytes.now }
+/// How many entries so many bytes hold at most, so that room for what is kept of them is taken once, without a look at
+/// the bytes. Room that is not used is not touched.
+pub fn most_entries(bytes: usize) -> usize
+    ensures { result ≡ room.most_entries bytes }
 {
-    let mut rest = bytes;
-    let mut count: usize = 0;
-    'lines: while let Some(place) = memchr(b'\n', rest) {
-        rest = &rest[place + 1..];
-        if count == MAX_ENTRIES || rest.starts_with(b"directory-footer") {
-            return count;
-        }
-        if rest.starts_with(b"r ") {
-            count += 1;
-        }
-    }
-    count
+    (bytes / SHORTEST_ENTRY).min(MAX_ENTRIES)
 }

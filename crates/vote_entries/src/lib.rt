@@ -9,7 +9,7 @@ mod row;
 mod rows;
 mod said;
 
-pub use counting::count_entries;
+pub use counting::most_entries;
 pub use entry::Entry;
 pub use facts::set_of;
 pub use row::{EntryRow, KeptMicro, Run};
