@@ -1,5 +1,5 @@
 -- What a source, a sink and a clock in memory do at each call.
-use Rattle.std.specs.Prelude.{◌≡◌, ℕ, ◌+◌, ◌-◌, ◌^◌, ◌<◌, ◌≤◌, ◌==◌, ◌||◌, min, Bool, true, false, List, length, drop, slice_index, vec_len, vec_capacity, EachIndex}
+use Rattle.std.specs.Prelude.{◌≡◌, ℕ, ◌+◌, ◌-◌, ◌<◌, ◌≤◌, ◌==◌, ◌||◌, min, Bool, true, false, List, length, drop, slice_index, vec_len, vec_capacity, EachIndex}
 use Rattle.std.specs.List.{list_any}
 use Rattle.dir_bytes.specs.declared.source.ReadAnswer.{ReadAnswer}
 use Rattle.dir_bytes.specs.declared.source.ReadAnswer.TheVariants as read

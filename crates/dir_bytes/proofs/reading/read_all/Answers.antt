@@ -1,14 +1,16 @@
-use Rattle.std.proofs.Common.{◌++◌, ◌+◌, take, length, arith, length-take, length-append, IfErr, Result, Ok, Err}
+use Rattle.std.proofs.Common.{◌++◌, ◌+◌, take, arith, length-take, length-append, IfErr, Result, Ok, Err}
 use Rattle.dir_bytes.specs.Streams.{TakesAtMost}
 use Rattle.dir_bytes.proofs.Appending.{consumes_more}
 use Rattle.dir_bytes.proofs.reading.read_all.Goals as goal
 
 pub returns-then-count-room-clause-refused : goal.returns-then-count-room-clause-refused
 returns-then-count-room-clause-refused g c =
+    let left = g.S.Source.left in
     let taken = c.pieces.bytes.items in
     let piece = take c.in-Got.count c.read.new.out in (
       taken ++ piece,
-      consumes_more (g.S.Source.left c.args.source.now) (g.S.Source.left c.pieces.source) (g.S.Source.left c.read.new.self) taken piece c.pieces.invariant.taken c.in-Got.ensures.bytes,
+      consumes_more (left c.args.source.now) (left c.pieces.source) (left c.read.new.self) taken piece
+          c.pieces.invariant.taken c.in-Got.ensures.bytes,
       omega (arith, length-append taken piece, length-take c.in-Got.count c.read.new.out, c.pieces.invariant.length),
     )
 
@@ -19,10 +21,12 @@ whatever P (Err error) holds = holds
 pub returns-in_err-extend_from_slice-in-Got-clause-refused :
     goal.returns-in_err-extend_from_slice-in-Got-clause-refused
 returns-in_err-extend_from_slice-in-Got-clause-refused g c =
+    let left = g.S.Source.left in
     let taken = c.pieces.bytes.items in
     let piece = take c.in-Got.count c.read.new.out in
-    whatever (TakesAtMost (g.S.Source.left c.args.source.now) (g.S.Source.left c.read.new.self) (c.args.limit + 65536)) c.from_residual.result (
+    whatever (TakesAtMost (left c.args.source.now) (left c.read.new.self) (c.args.limit + 65536)) c.from_residual.result (
       taken ++ piece,
-      consumes_more (g.S.Source.left c.args.source.now) (g.S.Source.left c.pieces.source) (g.S.Source.left c.read.new.self) taken piece c.pieces.invariant.taken c.in-Got.ensures.bytes,
+      consumes_more (left c.args.source.now) (left c.pieces.source) (left c.read.new.self) taken piece
+          c.pieces.invariant.taken c.in-Got.ensures.bytes,
       omega (arith, length-append taken piece, length-take c.in-Got.count c.read.new.out, c.pieces.invariant.length),
     )
