@@ -1,5 +1,5 @@
 // When a certificate holds.
-ghost use Rattle.std.specs.Prelude.{◌≡◌, ◌≤◌};
+ghost use Rattle.std.specs.Prelude.{◌≡◌, ◌≤◌, ◌<◌};
 ghost use Rattle.dir_bytes.specs.Causes.{Rose};
 ghost use Rattle.key_port.specs.Answers.{rules};
 ghost use Rattle.authority_certs.specs.Checks.{AsksNobody, Checks};
@@ -31,12 +31,13 @@ pub enum CertAnswer {
 /// certificates"). Takes no memory.
 ///
 /// `Checked` where its fingerprint is the SHA-1 of its identity key, it expires after the moment, and the verifier
-/// accepted the certification and then the crosscert; else the first of these that fails. `VerifierFault` where the
-/// verifier failed, whose count of faults rose then. For `WrongFingerprint` and `Expired` the verifier is not asked.
+/// accepted the certification and the crosscert; else the first of these that fails. `VerifierFault` exactly where the
+/// verifier's count of faults rose. For `WrongFingerprint` and `Expired` the verifier is not asked.
 pub fn check<V: Verifier>(cert: &Cert, at: u64, verifier: &mut V) -> CertAnswer
     ensures answer { Checks (rules V.may_accept V.may_refuse) at cert.now result }
     ensures fault { result ≡ CertAnswer.VerifierFault → Rose (V.faults verifier.old) (V.faults verifier.new) }
     ensures faults { V.faults verifier.old ≤ V.faults verifier.new }
+    ensures told { V.faults verifier.old < V.faults verifier.new → result ≡ CertAnswer.VerifierFault }
     ensures unasked { AsksNobody result verifier.old verifier.new }
 {
     let digest = Sha1::digest(cert.identity_key.as_bytes());

@@ -1,5 +1,5 @@
 // When a descriptor holds.
-ghost use Rattle.std.specs.Prelude.{◌≡◌, ◌≤◌, IfOk, IfErr};
+ghost use Rattle.std.specs.Prelude.{◌≡◌, ◌≤◌, ◌<◌, Err, IfOk, IfErr};
 ghost use Rattle.dir_bytes.specs.Causes.{Rose};
 ghost use Rattle.key_port.specs.Answers.{rules};
 ghost use Rattle.descriptor_doc.specs.Checks as checks;
@@ -92,6 +92,7 @@ fn verify_ed<V: Verifier>(
     ensures answer { checks.AnswersEd (rules V.may_accept V.may_refuse) published certificate.now signature.now result }
     ensures fault { result ≡ VerifyAnswer.Fault → Rose (V.faults verifier.old) (V.faults verifier.new) }
     ensures faults { V.faults verifier.old ≤ V.faults verifier.new }
+    ensures told { V.faults verifier.old < V.faults verifier.new → result ≡ VerifyAnswer.Fault }
 {
     if has_expired(published, certificate) {
         return VerifyAnswer::No;
@@ -117,6 +118,7 @@ fn verify_ed_if<V: Verifier>(descriptor: &Descriptor, verifier: &mut V) -> Verif
     ensures answer { checks.AnswersEdIf (rules V.may_accept V.may_refuse) descriptor.now.published descriptor.now.identity_ed25519 descriptor.now.router_sig_ed25519 result }
     ensures fault { result ≡ VerifyAnswer.Fault → Rose (V.faults verifier.old) (V.faults verifier.new) }
     ensures faults { V.faults verifier.old ≤ V.faults verifier.new }
+    ensures told { V.faults verifier.old < V.faults verifier.new → result ≡ VerifyAnswer.Fault }
 {
     match (&descriptor.identity_ed25519, &descriptor.router_sig_ed25519) {
         (Some(certificate), Some(signature)) => {
@@ -135,6 +137,8 @@ fn refusal_of<V: Verifier>(
     ensures refused { IfErr result (λ refusal. RefusedBy (rules V.may_accept V.may_refuse) descriptor.now refusal) }
     ensures fault { IfErr result (λ refusal. refusal ≡ DescriptorRefusal.VerifierFault → Rose (V.faults verifier.old) (V.faults verifier.new)) }
     ensures faults { V.faults verifier.old ≤ V.faults verifier.new }
+    ensures told { V.faults verifier.old < V.faults verifier.new → result ≡ Err DescriptorRefusal.VerifierFault }
+    ensures unasked { result ≡ Err DescriptorRefusal.IdentityMismatch → verifier.new ≡ verifier.old }
 {
     if !names_itself(descriptor) {
         return Err(DescriptorRefusal::IdentityMismatch);
@@ -156,14 +160,14 @@ fn refusal_of<V: Verifier>(
     }
 }
 
-/// The descriptor as one that was checked, if it holds (dir-spec, "Server descriptor format"). The verifier is asked for the
-/// signing key's signature of the descriptor's digest, as `Signing`; and then, of Ed25519, for the signer's signature of the
-/// certificate and the certified key's of the descriptor; each only where all before it holds. Takes no memory.
+/// The descriptor as one that was checked, if it holds (dir-spec, "Server descriptor format"): its digest's signature by its
+/// signing key, asked as `Signing`; and, of Ed25519, the certificate's by its signer and the descriptor's by the certified key.
+/// Takes no memory.
 ///
 /// # Errors
-/// The first that applies: `IdentityMismatch` where it names another identity than it has, `BadSignature` where its signature
-/// was refused, `BadEdSignature` where its Ed25519 certificate had expired when it was published, or one of both Ed25519
-/// signatures was refused; `VerifierFault` where the verifier failed, whose count of faults rose then.
+/// The first that applies: `IdentityMismatch` where it names another identity than it has, for which the verifier is not asked;
+/// `BadSignature` where its signature was refused; `BadEdSignature` where its Ed25519 certificate had expired when it was
+/// published, or one of both Ed25519 signatures was refused; `VerifierFault` exactly where the verifier's count of faults rose.
 pub fn check<V: Verifier>(
     descriptor: Descriptor,
     verifier: &mut V,
@@ -172,6 +176,8 @@ pub fn check<V: Verifier>(
     ensures refused { IfErr result (λ refusal. RefusedBy (rules V.may_accept V.may_refuse) descriptor refusal) }
     ensures fault { IfErr result (λ refusal. refusal ≡ DescriptorRefusal.VerifierFault → Rose (V.faults verifier.old) (V.faults verifier.new)) }
     ensures faults { V.faults verifier.old ≤ V.faults verifier.new }
+    ensures told { V.faults verifier.old < V.faults verifier.new → result ≡ Err DescriptorRefusal.VerifierFault }
+    ensures unasked { result ≡ Err DescriptorRefusal.IdentityMismatch → verifier.new ≡ verifier.old }
 {
     match refusal_of(&descriptor, verifier) {
         Ok(()) => Ok(CheckedDescriptor::new(descriptor)),

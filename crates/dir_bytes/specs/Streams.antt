@@ -25,17 +25,17 @@ TakesFrom old new (read.Got n) out = Consumes old new (take n out)
 TakesFrom old new read.End out = Keeps old new × IsAtEnd old
 TakesFrom old new read.Failed out = Keeps old new
 
--- the count of faults does not fall, and rose where the read failed
+-- the count of faults rose where the read failed, and else is as it was
 abbrev pub CountsReads : ℕ → ℕ → ReadAnswer → Type 0
-CountsReads before now (read.Got n) = before ≤ now
-CountsReads before now read.End = before ≤ now
+CountsReads before now (read.Got n) = now ≡ before
+CountsReads before now read.End = now ≡ before
 CountsReads before now read.Failed = Rose before now × (before ≤ now)
 
--- a read that failed is counted as one more fault, and no other read is
-abbrev pub CountsFailedReads : ℕ → ℕ → ReadAnswer → Type 0
-CountsFailedReads before now (read.Got n) = now ≡ before
-CountsFailedReads before now read.End = now ≡ before
-CountsFailedReads before now read.Failed = now ≡ next_count before
+-- how many faults there are after a read of a source that had so many: one more where the read failed
+abbrev pub faults_after_read : ℕ → ReadAnswer → ℕ
+faults_after_read faults (read.Got n) = faults
+faults_after_read faults read.End = faults
+faults_after_read faults read.Failed = next_count faults
 
 -- a write takes at least one byte, and no more than it was given
 abbrev pub TakesWithin : WriteAnswer → ℕ → Type 0
@@ -47,15 +47,15 @@ abbrev pub AddsTo : Option (List ℕ) → Option (List ℕ) → WriteAnswer → 
 AddsTo old new (write.Took n) bytes = Appends old new (take n bytes)
 AddsTo old new write.Failed bytes = Keeps old new
 
--- the count of faults does not fall, and rose where the write failed
+-- the count of faults rose where the write failed, and else is as it was
 abbrev pub CountsWrites : ℕ → ℕ → WriteAnswer → Type 0
-CountsWrites before now (write.Took n) = before ≤ now
+CountsWrites before now (write.Took n) = now ≡ before
 CountsWrites before now write.Failed = Rose before now × (before ≤ now)
 
--- a write that failed is counted as one more fault, and no other write is
-abbrev pub CountsFailedWrites : ℕ → ℕ → WriteAnswer → Type 0
-CountsFailedWrites before now (write.Took n) = now ≡ before
-CountsFailedWrites before now write.Failed = now ≡ next_count before
+-- how many faults there are after a write to a sink that had so many: one more where the write failed
+abbrev pub faults_after_write : ℕ → WriteAnswer → ℕ
+faults_after_write faults (write.Took n) = faults
+faults_after_write faults write.Failed = next_count faults
 
 -- at most so many bytes were taken off the front of those left
 abbrev pub TakesAtMost : Option (List ℕ) → Option (List ℕ) → ℕ → Type 0
@@ -71,6 +71,6 @@ ReadsAll (Some bytes) new limit (Err fault.Memory) = Unit {0}
 
 -- all bytes were written, or a front of them and the count of faults rose
 abbrev pub WritesAll : Option (List ℕ) → Option (List ℕ) → ℕ → ℕ → List ℕ → WriteAll → Type 0
-WritesAll old new before now bytes all.Done = Appends old new bytes × (before ≤ now)
+WritesAll old new before now bytes all.Done = Appends old new bytes × (now ≡ before)
 WritesAll old new before now bytes (all.Failed sent) =
     Appends old new (take sent bytes) × (sent < length bytes) × Rose before now × (before ≤ now)

@@ -1,7 +1,8 @@
 // A source, a sink and a clock over those of std. They tell nothing of content.
 ghost use Rattle.std.specs.Prelude.{◌≡◌, ◌≤◌, ◌<◌, None, length};
 ghost use Rattle.dir_bytes.specs.Causes.{Counts, last_moment, next_count};
-ghost use Rattle.dir_bytes.specs.Streams.{GivesWithin, TakesFrom, CountsReads, CountsFailedReads, TakesWithin, AddsTo, CountsWrites, CountsFailedWrites};
+ghost use Rattle.dir_bytes.specs.Streams.{GivesWithin, TakesFrom, CountsReads, faults_after_read};
+ghost use Rattle.dir_bytes.specs.Streams.{TakesWithin, AddsTo, CountsWrites, faults_after_write};
 
 use crate::clock::{Clock, LAST_MOMENT};
 use crate::sink::{Sink, WriteAnswer};
@@ -35,7 +36,7 @@ impl<R: Read> Source for StdSource<R> {
         ensures within { GivesWithin result (length out.new) }
         ensures bytes { TakesFrom None None result out.new }
         ensures cause { CountsReads self.old.faults self.new.faults result }
-        ensures counted { CountsFailedReads self.old.faults self.new.faults result }
+        ensures counted { self.new.faults ≡ faults_after_read self.old.faults result }
     {
         match self.inner.read(out) {
             Ok(0) => ReadAnswer::End,
@@ -74,7 +75,7 @@ impl<W: Write> Sink for StdSink<W> {
         ensures within { TakesWithin result (length bytes.now) }
         ensures bytes { AddsTo None None result bytes.now }
         ensures cause { CountsWrites self.old.faults self.new.faults result }
-        ensures counted { CountsFailedWrites self.old.faults self.new.faults result }
+        ensures counted { self.new.faults ≡ faults_after_write self.old.faults result }
     {
         match self.inner.write(bytes) {
             Ok(count) if count > 0 => WriteAnswer::Took(count),

@@ -1,6 +1,6 @@
 // A sink in memory, which tells what was written.
 ghost use Rattle.std.specs.Prelude.{◌≡◌, ◌<◌, Some, length};
-ghost use Rattle.dir_bytes.specs.Streams.{TakesWithin, AddsTo, CountsWrites, CountsFailedWrites};
+ghost use Rattle.dir_bytes.specs.Streams.{TakesWithin, AddsTo, CountsWrites, faults_after_write};
 
 use crate::sink::{Sink, WriteAnswer};
 
@@ -49,7 +49,7 @@ impl Sink for MemorySink {
         ensures bytes { AddsTo (Some self.old.written.items) (Some self.new.written.items) result bytes.now }
         ensures cause { CountsWrites self.old.faults self.new.faults result }
         ensures takes { TakesAsTold self.old bytes.now result }
-        ensures counted { CountsFailedWrites self.old.faults self.new.faults result }
+        ensures counted { self.new.faults ≡ faults_after_write self.old.faults result }
         ensures next { IsNextSink self.old self.new }
     {
         self.writes = self.writes.saturating_add(1);

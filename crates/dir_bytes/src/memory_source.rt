@@ -1,6 +1,6 @@
 // A source in memory, which tells what it has left.
 ghost use Rattle.std.specs.Prelude.{◌≡◌, ◌+◌, ◌≤◌, ◌<◌, Some, drop, length, slice_index, vec_len, EachIndex};
-ghost use Rattle.dir_bytes.specs.Streams.{GivesWithin, TakesFrom, CountsReads, CountsFailedReads};
+ghost use Rattle.dir_bytes.specs.Streams.{GivesWithin, TakesFrom, CountsReads, faults_after_read};
 
 use crate::source::{ReadAnswer, Source};
 
@@ -64,7 +64,7 @@ impl Source for MemorySource {
         ensures cause { CountsReads self.old.faults self.new.faults result }
         ensures fails { FailsByNumber self.old result }
         ensures cuts { StopsAtCuts self.old result }
-        ensures counted { CountsFailedReads self.old.faults self.new.faults result }
+        ensures counted { self.new.faults ≡ faults_after_read self.old.faults result }
         ensures next { IsNextSource self.old self.new }
     {
         self.reads = self.reads.saturating_add(1);

@@ -1,5 +1,5 @@
 // Reading a source to its end.
-ghost use Rattle.std.specs.Prelude.{◌≡◌, ◌≤◌, ◌+◌, vec_len, IfErr, IfOk, Err};
+ghost use Rattle.std.specs.Prelude.{◌≡◌, ◌≤◌, ◌<◌, ◌+◌, vec_len, IfErr, IfOk, Err};
 ghost use Rattle.dir_bytes.specs.declared.reading.ReadAllFault.TheVariants.{Memory};
 ghost use Rattle.dir_bytes.specs.Causes.{Rose};
 ghost use Rattle.dir_bytes.specs.Streams.{ReadsAll, TakesAtMost};
@@ -39,6 +39,8 @@ pub fn read_all<S: Source>(
     ensures within { IfOk result (λ v. vec_len v ≤ limit) }
     ensures fault { result ≡ Err ReadAllFault.ReadFault → Rose (S.faults source.old) (S.faults source.new) }
     ensures faults { S.faults source.old ≤ S.faults source.new }
+    // A source that failed is told.
+    ensures told { S.faults source.old < S.faults source.new → result ≡ Err ReadAllFault.ReadFault }
 {
     let mut bytes = Vec::new(alloc);
     let mut piece = [0u8; 65536];

@@ -26,10 +26,10 @@ AnswersBy accepts refuses answer.Yes = accepts ≡ true
 AnswersBy accepts refuses answer.No = refuses ≡ true
 AnswersBy accepts refuses answer.Fault = Unit {0}
 
--- the count of faults does not fall, and rose where the verifier failed
+-- the count of faults rose where the verifier failed, and else is as it was
 abbrev pub CountsAnswers : ℕ → ℕ → VerifyAnswer → Type 0
-CountsAnswers before now answer.Yes = before ≤ now
-CountsAnswers before now answer.No = before ≤ now
+CountsAnswers before now answer.Yes = now ≡ before
+CountsAnswers before now answer.No = now ≡ before
 CountsAnswers before now answer.Fault = Rose before now × (before ≤ now)
 
 -- how many faults there are after an answer to keys that had so many

@@ -1,5 +1,5 @@
 // When a vote is acceptable.
-ghost use Rattle.std.specs.Prelude.{◌≡◌, ◌≤◌, IfOk, IfErr};
+ghost use Rattle.std.specs.Prelude.{◌≡◌, ◌≤◌, ◌<◌, Err, IfOk, IfErr};
 ghost use Rattle.dir_bytes.specs.Causes.{Rose};
 ghost use Rattle.key_port.specs.Answers.{rules};
 ghost use Rattle.authority_certs.specs.Checks.{AsksNobody};
@@ -37,6 +37,7 @@ fn check_certificate<V: Verifier>(vote: &Vote, at: u64, verifier: &mut V) -> Cer
     ensures answer { ChecksCert (rules V.may_accept V.may_refuse) at vote.now result }
     ensures fault { result ≡ CertAnswer.VerifierFault → Rose (V.faults verifier.old) (V.faults verifier.new) }
     ensures faults { V.faults verifier.old ≤ V.faults verifier.new }
+    ensures told { V.faults verifier.old < V.faults verifier.new → result ≡ CertAnswer.VerifierFault }
     ensures unasked { AsksNobody result verifier.old verifier.new }
 {
     if !vote.certificate().fingerprint.is_same(&vote.identity()) {
@@ -61,6 +62,7 @@ fn check_signature<V: Verifier>(vote: &Vote, digest: &Digest1, verifier: &mut V)
     ensures answer { ChecksSignature (rules V.may_accept V.may_refuse) vote.now result }
     ensures fault { result ≡ VerifyAnswer.Fault → Rose (V.faults verifier.old) (V.faults verifier.new) }
     ensures faults { V.faults verifier.old ≤ V.faults verifier.new }
+    ensures told { V.faults verifier.old < V.faults verifier.new → result ≡ VerifyAnswer.Fault }
 {
     if !names_signer(vote) {
         return VerifyAnswer::No;
@@ -89,6 +91,7 @@ fn digest_if_acceptable<V: Verifier>(
     ensures refused { IfErr result (λ refusal. RefusedBy (rules V.may_accept V.may_refuse) roster.now valid_after vote.now refusal) }
     ensures fault { IfErr result (λ refusal. refusal ≡ VoteRefusal.VerifierFault → Rose (V.faults verifier.old) (V.faults verifier.new)) }
     ensures faults { V.faults verifier.old ≤ V.faults verifier.new }
+    ensures told { V.faults verifier.old < V.faults verifier.new → result ≡ Err VoteRefusal.VerifierFault }
     ensures unasked { IfErr result (λ refusal. RefusedUnasked refusal verifier.old verifier.new) }
 {
     if vote.valid_after() != valid_after {
@@ -113,14 +116,13 @@ fn digest_if_acceptable<V: Verifier>(
 
 /// The vote as one that was checked, if it is for the period that begins at `valid_after` (seconds since 1970-01-01
 /// 00:00:00 UTC), of an authority of the roster, and its certificate and its signature hold then (dir-spec, "Creating key
-/// certificates", "Vote and consensus status document formats"). The verifier is asked for the certification, the
-/// crosscert and the vote's signature, in this order, each only where all before it holds. Takes no memory.
+/// certificates", "Vote and consensus status document formats"). Takes no memory.
 ///
 /// # Errors
 /// The first that applies: `WrongPeriod` where it is for another period, `UnknownAuthority` where the roster lacks its
 /// authority, `Cert` where its certificate does not hold, `BadSignature` where its signature does not; `VerifierFault`
-/// where the verifier failed, whose count of faults rose then. The verifier is not asked before `WrongPeriod`,
-/// `UnknownAuthority`, and `Cert` of `WrongFingerprint` or `Expired`.
+/// exactly where the verifier's count of faults rose. For `WrongPeriod`, `UnknownAuthority`, and `Cert` of
+/// `WrongFingerprint` or `Expired` the verifier is not asked.
 pub fn check_vote<V: Verifier>(
     vote: Vote,
     roster: &Roster,
@@ -131,6 +133,7 @@ pub fn check_vote<V: Verifier>(
     ensures refused { IfErr result (λ refusal. RefusedBy (rules V.may_accept V.may_refuse) roster.now valid_after vote refusal) }
     ensures fault { IfErr result (λ refusal. refusal ≡ VoteRefusal.VerifierFault → Rose (V.faults verifier.old) (V.faults verifier.new)) }
     ensures faults { V.faults verifier.old ≤ V.faults verifier.new }
+    ensures told { V.faults verifier.old < V.faults verifier.new → result ≡ Err VoteRefusal.VerifierFault }
     ensures unasked { IfErr result (λ refusal. RefusedUnasked refusal verifier.old verifier.new) }
 {
     match digest_if_acceptable(&vote, roster, valid_after, verifier) {

@@ -1,4 +1,4 @@
-use Rattle.std.proofs.Common.{◌-◌, List, ℕ, take, drop, length, subst, arith, length-take, length-drop}
+use Rattle.std.proofs.Common.{◌-◌, List, ℕ, take, drop, length, subst, arith, length-take, length-drop, ◌∙◌}
 use Rattle.std.specs.Io.KnownBytes.{Appends}
 use Rattle.std.proofs.lemmas.List.{take_rest}
 use Rattle.dir_bytes.proofs.Appending.{appends_more}
@@ -13,5 +13,5 @@ pieces-preserved g c =
     record {
       sent = omega (arith, piece.within.1, length-take (length bytes - sent) (drop sent bytes), length-drop sent bytes);
       written = appends_more (g.K.Sink.written c.args.sink.now) (g.K.Sink.written c.pieces.sink) (g.K.Sink.written c.write.new.self) bytes sent c.in-Took.count c.pieces.invariant.written wrote;
-      faults = omega (arith, c.pieces.invariant.faults, piece.cause);
+      faults = piece.cause ∙ c.pieces.invariant.faults;
     }
