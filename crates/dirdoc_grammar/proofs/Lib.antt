@@ -1,4 +1,5 @@
 pub mod FirstByte
+pub mod PlainLine
 pub mod FirstLine
 pub mod FirstWord
 pub mod LineSteps
