@@ -8,3 +8,4 @@ pub mod Places
 pub mod DecodedBytes
 pub mod Base64Groups
 pub mod Symbols
+pub mod JoinedLines
