@@ -7,8 +7,15 @@ use Rattle.dirdoc_grammar.proofs.FirstByte.{not_true}
 use Rattle.dirdoc_grammar.proofs.FirstLine.{whole_rest}
 
 -- no byte up to a place is a NL
-abbrev NoneBelow : ℕ → List ℕ → Type 0
+abbrev pub NoneBelow : ℕ → List ℕ → Type 0
 NoneBelow k bytes = (j : ℕ) → j < k → is_byte 10 (get_or bytes j 0) ≡ false
+
+-- what a search says that has found a NL, or none
+pub none_below : (bytes : List ℕ) (k : ℕ) → IsFirstByte (is_byte 10) bytes (Some k) → NoneBelow k bytes
+none_below bytes k found j lt = not_true (is_byte 10 (get_or bytes j 0)) (found.0.before j (omega arith) lt)
+
+pub none_at_all : (bytes : List ℕ) → IsFirstByte (is_byte 10) bytes None → NoneBelow (length bytes) bytes
+none_at_all bytes none j lt = not_true (is_byte 10 (get_or bytes j 0)) (none j (omega arith) lt)
 
 -- a line and its NL
 line_off : (k : ℕ) (bytes : List ℕ) → k < length bytes → NoneBelow k bytes → is_byte 10 (get_or bytes k 0) ≡ true → joined bytes ≡ take k bytes ++ joined (drop (suc k) bytes)
@@ -29,11 +36,11 @@ no_line (b ∷ bytes) none =
 pub joined_at : (bytes : List ℕ) (k : ℕ) → IsFirstByte (is_byte 10) bytes (Some k) → joined bytes ≡ take k bytes ++ joined (drop (k + 1) bytes)
 joined_at bytes k found =
     let after : suc k ≡ k + 1 = omega arith in
-    line_off k bytes found.0.high (λ j lt. not_true (is_byte 10 (get_or bytes j 0)) (found.0.before j (omega arith) lt)) found.1
+    line_off k bytes found.0.high (none_below bytes k found) found.1
     ∙ ap (λ (n : ℕ). take k bytes ++ joined (drop n bytes)) after
 
 pub joined_none : (bytes : List ℕ) → IsFirstByte (is_byte 10) bytes None → joined bytes ≡ bytes
-joined_none bytes none = no_line bytes (λ j lt. not_true (is_byte 10 (get_or bytes j 0)) (none j (omega arith) lt))
+joined_none bytes none = no_line bytes (none_at_all bytes none)
 
 -- a turn of the loop that joins the lines, and its end
 pub one_turn : (bytes out new whole : List ℕ) (k : ℕ) → IsFirstByte (is_byte 10) bytes (Some k) → new ≡ out ++ take k bytes → out ++ joined bytes ≡ whole

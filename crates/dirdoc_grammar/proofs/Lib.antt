@@ -9,3 +9,5 @@ pub mod DecodedBytes
 pub mod Base64Groups
 pub mod Symbols
 pub mod JoinedLines
+pub mod LineSizes
+pub mod WholeGroups
