@@ -36,7 +36,7 @@ no_padding : (value : ℕ) → value < 64 → (spelled value == 61) ≡ false
 no_padding value lt = not-true _ (and_parts (symbol (spelled value) == value) (not (spelled value == 61)) (all_below_at comes_back 64 value comes_back_below lt)).1
 
 -- the byte is a symbol
-abbrev IsSymbol : ℕ → Type 0
+abbrev pub IsSymbol : ℕ → Type 0
 IsSymbol b = nat_le (symbol b) 63 ≡ true
 
 spelled_is_symbol : (value : ℕ) → value < 64 → IsSymbol (spelled value)
@@ -252,7 +252,7 @@ three_symbols s0 s1 s2 rest h0 h1 h2 n2 =
     ∙ ap (λ (t : Bool). cond t (symbol s1 % 16 == 0) (nat_le (symbol s2) 63) && goes_on (cond t PaddedOnce (Three (symbol s2))) rest) n2
     ∙ ap (λ (t : Bool). t && goes_on (Three (symbol s2)) rest) h2
 
-four_symbols : (s0 s1 s2 s3 : ℕ) (rest : List ℕ) → IsSymbol s0 → IsSymbol s1 → IsSymbol s2 → (s2 == 61) ≡ false → IsSymbol s3 → (s3 == 61) ≡ false → goes_on Start (s0 ∷ s1 ∷ s2 ∷ s3 ∷ rest) ≡ goes_on Start rest
+pub four_symbols : (s0 s1 s2 s3 : ℕ) (rest : List ℕ) → IsSymbol s0 → IsSymbol s1 → IsSymbol s2 → (s2 == 61) ≡ false → IsSymbol s3 → (s3 == 61) ≡ false → goes_on Start (s0 ∷ s1 ∷ s2 ∷ s3 ∷ rest) ≡ goes_on Start rest
 four_symbols s0 s1 s2 s3 rest h0 h1 h2 n2 h3 n3 =
     three_symbols s0 s1 s2 (s3 ∷ rest) h0 h1 h2 n2
     ∙ ap (λ (t : Bool). cond t (symbol s2 % 4 == 0) (nat_le (symbol s3) 63) && goes_on (cond t Closed Start) rest) n3

@@ -9,3 +9,6 @@ pub mod Places
 pub mod DecodedBytes
 pub mod Base64Groups
 pub mod Symbols
+pub mod JoinedLines
+pub mod LineSizes
+pub mod WholeGroups

@@ -1,8 +1,10 @@
 // Whether the lines of an object are strict base64.
 
-ghost use Rattle.std.specs.Prelude.{◌≡◌, ◌≤◌};
+ghost use Rattle.std.specs.Prelude.{◌≡◌, ◌≤◌, nat_le};
 ghost use Rattle.item_terms.specs.Base64Text as text64;
 ghost use Rattle.dirdoc_grammar.specs.Groups as groups;
+
+use memchr::memchr;
 
 /// How far a group of four symbols has come, with the value of the last symbol where the unused
 /// bits of that may have to be zero.
@@ -87,8 +89,39 @@ impl Group {
     }
 }
 
+/// Whether a byte is a base64 symbol.
+fn is_symbol(b: u8) -> bool
+    ensures { result ≡ nat_le (groups.symbol b) 63 }
+{
+    matches!(b, b'A'..=b'Z' | b'a'..=b'z' | b'0'..=b'9' | b'+' | b'/')
+}
+
+/// What is left of the text behind the whole groups and the NLs in front.
+fn behind_groups(text: &[u8]) -> &[u8]
+    ensures { groups.goes_on Group.Start (text64.joined result.now) ≡ groups.goes_on Group.Start (text64.joined text.now) }
+{
+    let mut rest = text;
+    'groups: while let [a, b, c, d, ..] = rest {
+        if *a == b'\n' {
+            rest = &rest[1..];
+        } else if is_symbol(*a) & is_symbol(*b) & is_symbol(*c) & is_symbol(*d) {
+            rest = &rest[4..];
+        } else {
+            break;
+        }
+    }
+    rest
+}
+
 /// Whether the lines, when they are joined, make up groups of four symbols.
 fn fills_groups(text: &[u8]) -> bool
+    ensures { result ≡ groups.goes_on Group.Start (text64.joined text.now) }
+{
+    ends_groups(behind_groups(text))
+}
+
+/// The same, byte by byte.
+fn ends_groups(text: &[u8]) -> bool
     ensures { result ≡ groups.goes_on Group.Start (text64.joined text.now) }
 {
     let mut group = Group::Start;
@@ -108,18 +141,14 @@ fn fills_groups(text: &[u8]) -> bool
 fn lines_fit(text: &[u8]) -> bool
     ensures { result ≡ text64.lines_fit 0 text.now }
 {
-    let mut count: usize = 0;
-    'bytes: for b in text {
-        if *b == b'\n' {
-            if count < 1 || count > 64 {
-                return false;
-            }
-            count = 0;
-        } else {
-            count += 1;
+    let mut rest = text;
+    'lines: while let Some(count) = memchr(b'\n', rest) {
+        if count < 1 || count > 64 {
+            return false;
         }
+        rest = &rest[count + 1..];
     }
-    count == 0
+    rest.is_empty()
 }
 
 /// Whether the lines are strict base64 when they are joined.

@@ -10,6 +10,7 @@ ghost use Rattle.dirdoc_grammar.specs.Bodies.{decoded};
 use crate::bytes::first_word;
 use base64::DecodeAllocError;
 use base64::engine::general_purpose::STANDARD;
+use memchr::memchr;
 use std::alloc::{AllocError, Global};
 
 /// An object: a block of base64 between a BEGIN and an END line (dir-spec, meta-format).
@@ -35,10 +36,18 @@ impl ObjectText<'_> {
     }
 }
 
+/// The lines without their NLs. Fails only for want of memory.
 fn joined_lines(alloc: Global, lines: &[u8]) -> Result<Vec<u8>, AllocError>
     ensures { IfOk result (λ text. text.items ≡ joined lines.now) }
 {
-    lines.iter().copied().filter(|b| *b != b'\n').collect(alloc)
+    let mut text = Vec::with_capacity(alloc, lines.len())?;
+    let mut rest = lines;
+    'lines: while let Some(len) = memchr(b'\n', rest) {
+        text.extend_from_slice(&rest[..len])?;
+        rest = &rest[len + 1..];
+    }
+    text.extend_from_slice(rest)?;
+    Ok(text)
 }
 
 fn decode_strict(alloc: Global, text: &[u8]) -> Result<Vec<u8>, AllocError>

@@ -2,7 +2,7 @@ use Rattle.std.proofs.Common.{◌≡◌, drop}
 use Rattle.item_terms.specs.Base64Text.{joined}
 use Rattle.dirdoc_grammar.specs.declared.base64_text.Group.TheVariants.{Start}
 use Rattle.dirdoc_grammar.specs.Groups.{goes_on}
-use Rattle.dirdoc_grammar.proofs.base64_text.fills_groups.Given as goal
+use Rattle.dirdoc_grammar.proofs.base64_text.ends_groups.Given as goal
 
 abbrev pub invariant-bytes : goal.invariant-bytes
 invariant-bytes l = goes_on l.group (joined (drop l.b-index l.text)) ≡ goes_on Start (joined l.text)
