@@ -25,7 +25,7 @@ impl Facts<CertFrame> for CertHead {
 }
 
 /// The certificate that the bytes begin with, behind blank lines if there are some, and how many bytes that are: it
-/// ends with the object of its `dir-key-certification`. What follows is not looked at.
+/// ends with the object of its `dir-key-certification`.
 ///
 /// # Errors
 /// `Frame` is the first fault of the certificate: what is wrong and at which byte. `Memory` is want of memory.

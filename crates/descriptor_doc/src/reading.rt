@@ -15,7 +15,7 @@ use std::alloc::Global;
 const MAX_DESCRIPTOR: u64 = 65_536;
 
 /// The descriptor that the bytes begin with, behind blank lines if there are some, and how many bytes that are: it ends with
-/// the object of its `router-signature`. What follows is not looked at.
+/// the object of its `router-signature`.
 ///
 /// # Errors
 /// `Frame` is the first fault of the descriptor: what is wrong and at which byte. `Memory` is want of memory.

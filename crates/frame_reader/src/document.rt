@@ -194,7 +194,7 @@ fn read<F: Frame, K: Facts<F>>(
 }
 
 /// Reads a document of a kind from the items of an input of so many bytes: keeps what its sections
-/// say, and gives the place after it. What stands after the document is not looked at.
+/// say, and gives the place after it.
 ///
 /// # Errors
 /// The first fault of the document, or want of memory. What `facts` has then is of no use: nothing

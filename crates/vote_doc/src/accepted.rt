@@ -12,7 +12,7 @@ use std::alloc::Global;
 use std::marker::Model;
 use vote_terms::Rank;
 
-/// The votes that are held: at most one for each authority, ascending by identity.
+/// The votes that are held. `place` keeps at most one for each authority, ascending by identity.
 #[derive(Drop)]
 pub struct Accepted {
     votes: Vec<HeldVote>,

@@ -31,7 +31,7 @@ fn vote_of(alloc: Global, bytes: &Bytes, kept: Kept) -> Result<Vote, Memory>
 }
 
 /// The vote that begins at the byte `start` of the bytes, behind blank lines if there are some, and the place after it: it ends
-/// with the object of its `directory-signature`. What follows is not looked at. The vote shares the bytes: none is copied, and they
+/// with the object of its `directory-signature`. The vote shares the bytes: none is copied, and they
 /// are kept for as long as it is.
 ///
 /// # Errors
