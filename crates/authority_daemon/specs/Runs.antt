@@ -9,6 +9,7 @@ use Rattle.daemon_words.specs.declared.command.Command.TheVariants as command
 use Rattle.exit_status.specs.declared.status.Status.{Status}
 use Rattle.exit_status.specs.declared.status.Status.TheVariants as status
 use Rattle.exit_status.specs.declared.status.Refusal.{Refusal}
+use Rattle.exit_status.specs.declared.status.Refusal.TheVariants as refusal
 
 -- how many bytes an input may have
 abbrev pub input_limit : ℕ
@@ -75,6 +76,15 @@ abbrev pub first_count : {X : Type 0} → (X → ℕ) → List X → ℕ
 first_count count [] = 0
 first_count count (x ∷ xs) = count x
 
+-- the words are refused, or the input could not be read or is no list of documents: no vote was checked
+abbrev pub IsBeforeVotes : Status → Type 0
+IsBeforeVotes status.BadWords = Unit {0}
+IsBeforeVotes status.ReadFault = Unit {0}
+IsBeforeVotes status.TooLong = Unit {0}
+IsBeforeVotes (status.Refused (refusal.Document why)) = Unit {0}
+IsBeforeVotes _ = ⊥
+
+-- the text was written, or there was no memory
 abbrev pub IsDoneOrMemory : Status → Type 0
 IsDoneOrMemory status.Done = Unit {0}
 IsDoneOrMemory status.Memory = Unit {0}

@@ -1,14 +1,15 @@
 // The program over what stands outside.
-ghost use Rattle.std.specs.Prelude.{◌≡◌, ◌≤◌, ◌<◌, ◌^◌, List, ℕ, None, Some, Err, drop, false, length, vec_len};
+ghost use Rattle.std.specs.Prelude.{◌≡◌, ◌≤◌, ◌<◌, ◌^◌, List, ℕ, None, Some, Err, IfErr, drop, false, length, vec_len};
 ghost use Rattle.dir_bytes.specs.Causes.{Rose};
 ghost use Rattle.key_port.specs.Answers.{rules};
 ghost use Rattle.daemon_words.specs.declared.command.Command.{Command};
 ghost use Rattle.daemon_words.specs.Words as grammar;
+ghost use Rattle.compute_command.specs.Answers.{IsOfDocuments};
 ghost use Rattle.exit_status.specs.Lines.{line_of};
 ghost use Rattle.exit_status.specs.Reports.{Reports};
 ghost use Rattle.exit_status.specs.Stops.{Answered};
 ghost use Rattle.authority_daemon.specs.Commands.{Answers, verifies, verifies_if};
-ghost use Rattle.authority_daemon.specs.Runs.{Told, KnowsWords, KeepsLimit, Ends, WritesOnlyAnswers, ReadsThrough, first_count, MustAnswer, IsDoneOrMemory};
+ghost use Rattle.authority_daemon.specs.Runs.{Told, KnowsWords, KeepsLimit, Ends, WritesOnlyAnswers, ReadsThrough, first_count, MustAnswer, IsBeforeVotes, IsDoneOrMemory};
 
 use bytes::Bytes;
 use compute_command::compute;
@@ -65,10 +66,17 @@ pub fn run<S: Source + Drop, K: Sink + Drop, E: Sink + Drop, V: Verifier + Drop>
     ensures write_fault { result ≡ Status.WriteFault → Rose (K.faults outside.old.sink) (K.faults outside.new.sink) }
     ensures verifier_fault { result ≡ Status.Refused Refusal.Verifier →
         Rose (first_count V.faults outside.old.verifiers.items) (first_count V.faults outside.new.verifiers.items) }
+    // A fault that came is told.
+    ensures read_told { S.faults outside.old.source < S.faults outside.new.source → result ≡ Status.ReadFault }
+    ensures write_told { K.faults outside.old.sink < K.faults outside.new.sink → result ≡ Status.WriteFault }
+    ensures verifier_told { first_count V.faults outside.old.verifiers.items < first_count V.faults outside.new.verifiers.items
+        → result ≡ Status.Refused Refusal.Verifier }
     // The first verifier alone is asked.
     ensures others { drop 1 outside.new.verifiers.items ≡ drop 1 outside.old.verifiers.items }
     // Words that give no command, and a command that verifies nothing, ask none.
     ensures unasked { verifies_if (grammar.command_of words.now) ≡ false → outside.new.verifiers.items ≡ outside.old.verifiers.items }
+    // None is asked where the words, the input or its documents are refused.
+    ensures unchecked { IsBeforeVotes result → outside.new.verifiers.items ≡ outside.old.verifiers.items }
     // The errors sink gets the line of the status.
     ensures errors { Reports (E.written outside.old.errors) (E.written outside.new.errors)
         (E.faults outside.old.errors) (E.faults outside.new.errors) (line_of result) }
@@ -108,7 +116,11 @@ fn run_command<S: Source, K: Sink, V: Verifier>(
     ensures read_fault { result ≡ Status.ReadFault → Rose (S.faults source.old) (S.faults source.new) }
     ensures write_fault { result ≡ Status.WriteFault → Rose (K.faults sink.old) (K.faults sink.new) }
     ensures verifier_fault { result ≡ Status.Refused Refusal.Verifier → Rose (V.faults verifier.old) (V.faults verifier.new) }
+    ensures read_told { S.faults source.old < S.faults source.new → result ≡ Status.ReadFault }
+    ensures write_told { K.faults sink.old < K.faults sink.new → result ≡ Status.WriteFault }
+    ensures verifier_told { V.faults verifier.old < V.faults verifier.new → result ≡ Status.Refused Refusal.Verifier }
     ensures unasked { verifies_if (grammar.command_of words.now) ≡ false → verifier.new ≡ verifier.old }
+    ensures unchecked { IsBeforeVotes result → verifier.new ≡ verifier.old }
 {
     let command = match command_of(alloc, words) {
         Ok(Some(command)) => command,
@@ -141,7 +153,9 @@ fn answer<V: Verifier>(
     requires { vec_len bytes < 2 ^ 61 }
     ensures answer { Answered (Answers (rules V.may_accept V.may_refuse) command.now bytes.items) result }
     ensures fault { result ≡ Err (Stop.Refused Refusal.Verifier) → Rose (V.faults verifier.old) (V.faults verifier.new) }
+    ensures told { V.faults verifier.old < V.faults verifier.new → result ≡ Err (Stop.Refused Refusal.Verifier) }
     ensures unasked { verifies command.now ≡ false → verifier.new ≡ verifier.old }
+    ensures unchecked { IfErr result (λ why. IsOfDocuments why → verifier.new ≡ verifier.old) }
 {
     let input = Bytes::from_vec(bytes)?;
     answer_to(alloc, command, &input, verifier)
@@ -157,7 +171,9 @@ fn answer_to<V: Verifier>(
     requires { length bytes.now < 2 ^ 61 }
     ensures answer { Answered (Answers (rules V.may_accept V.may_refuse) command.now bytes.now) result }
     ensures fault { result ≡ Err (Stop.Refused Refusal.Verifier) → Rose (V.faults verifier.old) (V.faults verifier.new) }
+    ensures told { V.faults verifier.old < V.faults verifier.new → result ≡ Err (Stop.Refused Refusal.Verifier) }
     ensures unasked { verifies command.now ≡ false → verifier.new ≡ verifier.old }
+    ensures unchecked { IfErr result (λ why. IsOfDocuments why → verifier.new ≡ verifier.old) }
 {
     match command {
         Command::Compute(wanted) => compute(alloc, wanted, bytes, verifier),

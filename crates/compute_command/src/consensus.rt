@@ -1,10 +1,10 @@
 // The command that computes a consensus.
-ghost use Rattle.std.specs.Prelude.{◌≡◌, ◌≤◌, ◌<◌, ◌^◌, Err, IfOk, length};
+ghost use Rattle.std.specs.Prelude.{◌≡◌, ◌≤◌, ◌<◌, ◌^◌, Err, IfErr, IfOk, length};
 ghost use Rattle.consensus_calc.specs.Calculating.{HasMoments};
 ghost use Rattle.dir_bytes.specs.Causes.{Rose};
 ghost use Rattle.key_port.specs.Answers.{rules};
 ghost use Rattle.exit_status.specs.Stops.{Answered};
-ghost use Rattle.compute_command.specs.Answers.{ComputeAnswers, texts_of};
+ghost use Rattle.compute_command.specs.Answers.{ComputeAnswers, IsOfDocuments, texts_of};
 ghost use Rattle.compute_command.specs.Private.{GivesConsensus};
 
 use crate::accepting::accept;
@@ -20,8 +20,11 @@ use key_port::Verifier;
 use std::alloc::Global;
 use vote_doc::Accepted;
 
-/// The unsigned texts of the consensus of the votes that the input is, in the flavours that are wanted, or why there is none. All
-/// votes are read before the first is checked; they are checked in their order.
+/// The unsigned texts of the consensus of the votes that the input is, in the flavours that are wanted, or why there is none.
+///
+/// # Errors
+/// `Refused` by the first that applies: `Document`, the input's first fault, for which the verifier is not asked; `Vote`, the first
+/// vote that is not acceptable, or `Verifier` where its count of faults rose; `TooFew`. `Memory` is want of memory.
 pub fn compute<V: Verifier>(
     alloc: Global,
     wanted: &Compute,
@@ -31,6 +34,8 @@ pub fn compute<V: Verifier>(
     requires { length bytes.now < 2 ^ 61 }
     ensures answer { Answered (ComputeAnswers (rules V.may_accept V.may_refuse) wanted.now bytes.now) result }
     ensures fault { result ≡ Err (Stop.Refused Refusal.Verifier) → Rose (V.faults verifier.old) (V.faults verifier.new) }
+    ensures told { V.faults verifier.old < V.faults verifier.new → result ≡ Err (Stop.Refused Refusal.Verifier) }
+    ensures unasked { IfErr result (λ why. IsOfDocuments why → verifier.new ≡ verifier.old) }
 {
     let votes = of_kind(Kind::Vote, votes_of(alloc, bytes))?;
     let accepted = accept(alloc, wanted, votes, verifier)?;

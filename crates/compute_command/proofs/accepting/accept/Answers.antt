@@ -6,6 +6,7 @@ use Rattle.vote_terms.specs.Acceptable.{IsAcceptable}
 use Rattle.vote_doc.specs.Holdings.{Holding}
 use Rattle.vote_doc.proofs.Placing as placing
 use Rattle.compute_command.proofs.Queues.{within, first, others, one_more, one_more_held}
+use Rattle.compute_command.proofs.Faults.{no_fault}
 use Rattle.compute_command.proofs.Refusing.{stops_at}
 use Rattle.compute_command.specs.Accepting.{StopsAt}
 use Rattle.exit_status.specs.declared.status.Refusal.{Refusal}
@@ -42,5 +43,5 @@ votes-preserved g c =
       held_is = one_more_held all n vote now c.place.new.self.votes lt is c.votes.invariant.held_is after;
       room = ap (λ (h : Holding). h.room) c.place.ensures.votes ∙ c.votes.invariant.room;
       few = omega (arith, ap (λ (l : List ReadVote). length l) after, placing.one_more now vote, c.votes.invariant.few);
-      faults = omega (arith, c.votes.invariant.faults, c.in-Ok.ensures.faults);
+      faults = no_fault _ _ c.in-Ok.ensures.faults c.in-Ok.ensures.told ∙ c.votes.invariant.faults;
     }

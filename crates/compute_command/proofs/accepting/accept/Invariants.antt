@@ -13,7 +13,7 @@ invariant-votes g l = record {
   held_is : l.accepted.votes ≡ held (take l.before l.fn.votes.items);
   room : l.accepted.room ≡ length l.fn.votes.items;
   few : length l.accepted.votes ≤ l.before;
-  faults : g.V.Verifier.faults l.fn.verifier ≤ g.V.Verifier.faults l.verifier;
+  faults : g.V.Verifier.faults l.verifier ≡ g.V.Verifier.faults l.fn.verifier;
 }
 
 abbrev pub decreases-votes : goal.decreases-votes
