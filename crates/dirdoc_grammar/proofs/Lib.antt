@@ -1,5 +1,4 @@
 pub mod FirstByte
-pub mod PlainLine
 pub mod FirstLine
 pub mod FirstWord
 pub mod LineSteps

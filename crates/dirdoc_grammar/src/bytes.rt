@@ -1,12 +1,12 @@
 // Kinds of bytes, and the parts of a line.
 
-ghost use Rattle.std.specs.Prelude.{◌+◌, ◌<◌, ◌≡◌, ◌≤◌, ◌^◌, IfSome, length, None, not, take, true};
+ghost use Rattle.std.specs.Prelude.{◌+◌, ◌<◌, ◌≡◌, ◌≤◌, ◌^◌, length, not, true};
 ghost use Rattle.std.specs.List.{prefix_len, suffix_len};
 ghost use Rattle.item_terms.specs.Words as words;
 ghost use Rattle.item_terms.specs.Lines.{size};
 ghost use Rattle.dirdoc_grammar.specs.Reading.{first_line_len, first_line, FindsWord};
 
-use memchr::{memchr, memchr2};
+use memchr::memchr;
 
 fn is_blank(b: u8) -> bool
     ensures { result ≡ words.is_blank b }
@@ -133,18 +133,6 @@ pub fn line_size(rest: &[u8]) -> u64
         len as u64 + 1
     } else {
         len as u64
-    }
-}
-
-/// How many bytes the first line has without its NL, where that is there and no NUL is before it: one search.
-pub fn plain_line_len(rest: &[u8]) -> Option<usize>
-    ensures line { IfSome result (λ len. first_line rest.now ≡ record { text = take len rest.now; ended = true }) }
-    ensures plain { IfSome result (λ len. words.nul_in (take len rest.now) ≡ None) }
-    ensures within { IfSome result (λ len. len < length rest.now) }
-{
-    match memchr2(b'\n', 0, rest) {
-        Some(len) if rest[len] == b'\n' => Some(len),
-        _ => None,
     }
 }
 

@@ -9,7 +9,7 @@ ghost use Rattle.dirdoc_grammar.specs.Seen.{seen, seen_if, LiesInOrder};
 
 use crate::bytes::{
     begins_keyword, ends_or_blank, front_blanks, is_blank_line, keyword_len, line_len, nul_in,
-    plain_line_len, trim_end,
+    trim_end,
 };
 use crate::item::Item;
 use item_terms::{DocFault, DocReason};
@@ -47,12 +47,6 @@ pub fn first_line_of(rest: &[u8], place: u64, limit: u64) -> Result<&[u8], DocFa
         (λ text. (first_line rest.now ≡ record { text = text.now; ended = true }) × (line_fault limit place (first_line rest.now) ≡ None))
         (λ fault. line_fault limit place (first_line rest.now) ≡ Some fault) }
 {
-    if let Some(len) = plain_line_len(rest) {
-        return match too_long(limit, place, len as u64 + 1) {
-            Some(fault) => Err(fault),
-            None => Ok(&rest[..len]),
-        };
-    }
     let len = line_len(rest);
     let text = &rest[..len];
     if len == rest.len() {
