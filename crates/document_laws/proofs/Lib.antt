@@ -5,3 +5,5 @@ pub mod Between
 pub mod Following
 pub mod Inside
 pub mod Reading
+pub mod Making
+pub mod ClearKinds

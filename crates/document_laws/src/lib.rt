@@ -4,4 +4,4 @@
 
 mod laws;
 
-pub use laws::documents_are_read;
+pub use laws::{documents_are_read, kinds_are_clear};
