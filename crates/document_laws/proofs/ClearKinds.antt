@@ -28,7 +28,8 @@ use Rattle.vote_frame.specs.declared.frame.VoteSection.TheVariants as vote
 use Rattle.vote_frame.specs.Tables.{vote_tables}
 use Rattle.table_laws.proofs.SoundKinds.{kinds_are_sound}
 use Rattle.document_laws.specs.Clear.{AreClear, IsEnd, IsEntrance}
-use Rattle.document_laws.specs.Kinds.{KindsAreClear}
+use Rattle.document_laws.specs.Kinds.{KindsAreClear, KindsAreExact}
+use Rattle.document_laws.proofs.Exact.{are_exact}
 
 -- ---- documents of one section
 
@@ -219,4 +220,13 @@ kinds_are_clear = record {
   consensuses = consensuses;
   descriptors = descriptors;
   microdescriptors = microdescriptors;
+}
+
+pub kinds_are_exact : KindsAreExact
+kinds_are_exact = record {
+  certificates = are_exact cert_tables certificates;
+  votes = are_exact vote_tables votes;
+  consensuses = λ flavour. are_exact (consensus_tables flavour) (consensuses flavour);
+  descriptors = are_exact descriptor_tables descriptors;
+  microdescriptors = are_exact micro_tables microdescriptors;
 }

@@ -3,7 +3,16 @@ pub mod Places
 pub mod Steps
 pub mod Between
 pub mod Following
+pub mod Opened
 pub mod Inside
 pub mod Reading
 pub mod Making
+pub mod Walk
+pub mod Middles
+pub mod Tails
+pub mod Growing
+pub mod Beginning
+pub mod Entering
+pub mod Resting
+pub mod Exact
 pub mod ClearKinds

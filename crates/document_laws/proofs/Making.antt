@@ -1,5 +1,5 @@
 -- What is known of an item beside the way in which it stands: what it begins, and that it is within the limits.
-use Rattle.std.proofs.Common.{◌≡◌, ℕ, Bool, true, false, List, [], Option, Some, None, Result, Ok, Err, refl, sym, ap, ◌∙◌}
+use Rattle.std.proofs.Common.{◌≡◌, ℕ, Bool, true, false, List, [], Option, Some, None, Result, Ok, Err, refl, ap, ◌∙◌}
 use Rattle.std.specs.Prelude.{not, ◌&&◌, if◌then◌else◌}
 use Rattle.item_terms.specs.Items.{Item}
 use Rattle.frame_terms.specs.declared.document.Group.{Group}

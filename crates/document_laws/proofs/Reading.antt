@@ -3,7 +3,7 @@ use Rattle.std.proofs.Common.{◌≡◌, ℕ, true, List, [], ◌∷◌, ◌++�
 use Rattle.std.proofs.Common.{◌∙◌, append_assoc, append-nil, inl, inr}
 use Rattle.std.specs.Prelude.{◌⊎◌, ◌||◌, is_some}
 use Rattle.item_terms.specs.declared.fault.DocFault.{DocFault}
-use Rattle.item_terms.specs.Items.{Contents, Item}
+use Rattle.item_terms.specs.Items.{Item}
 use Rattle.frame_terms.specs.declared.document.Group.{Group}
 use Rattle.frame_terms.specs.declared.document.Made.TheVariants.{Ends, Opens, Pushes, Stops}
 use Rattle.frame_terms.specs.declared.document.Taken.{Taken}
@@ -11,10 +11,9 @@ use Rattle.frame_terms.specs.declared.fault.ReadRefusal.{ReadRefusal}
 use Rattle.frame_terms.specs.declared.keyword.Keyword.{Keyword}
 use Rattle.frame_terms.specs.declared.section.Again.TheVariants as again
 use Rattle.frame_terms.specs.Decisions.{made_by}
-use Rattle.frame_terms.specs.Documents.{Document, at_end, closed_at, document_of, group, onto, read_items, start}
+use Rattle.frame_terms.specs.Documents.{Document, at_end, closed_at, group, onto, read_items, start}
 use Rattle.frame_terms.specs.Keywords.{same}
 use Rattle.frame_terms.specs.Order.{first_of, following, is_keyword, must_open, opener}
-use Rattle.frame_terms.specs.Sections.{lacking}
 use Rattle.frame_terms.specs.Tables.{Tables}
 use Rattle.frame_laws.proofs.Reading.{read_on}
 use Rattle.frame_laws.proofs.Steps.{opening}
@@ -25,10 +24,11 @@ use Rattle.table_laws.specs.Sound.{begins_next, ends_document}
 use Rattle.table_laws.proofs.Lists.{IsAfter}
 use Rattle.table_laws.proofs.Parts.{IsListed, names}
 use Rattle.document_laws.specs.Clear.{AreClear}
-use Rattle.document_laws.specs.Documents.{AreParts, DocumentsAreRead, EndsAt, EndsBeforeNext, EndsSo, IsDocument}
+use Rattle.document_laws.specs.Documents.{AreParts, DocumentsAreRead, EndsAt, EndsBeforeNext, EndsSo}
 use Rattle.document_laws.specs.Parts.{HasLast, IsPart, Stands}
-use Rattle.document_laws.proofs.Following.{ComeBehind, GoesOn, first_begins, first_is_listed, is_opened, last_must}
+use Rattle.document_laws.proofs.Following.{ComeBehind, GoesOn, first_begins, first_is_listed, last_must}
 use Rattle.document_laws.proofs.Following.{next_goes, none_goes}
+use Rattle.document_laws.proofs.Opened.{is_opened}
 use Rattle.document_laws.proofs.Inside.{all_onto, others_read}
 use Rattle.document_laws.proofs.Between.{word_begins}
 use Rattle.document_laws.proofs.Places.{end_of, last_begins, never_beyond}

@@ -1,14 +1,12 @@
 -- Documents of any number of sections (dir-spec, "Vote and consensus status document formats").
-use Rattle.std.specs.Prelude.{◌≡◌, ◌⊎◌, ◌++◌, ℕ, true, false, List, [], ◌∷◌, map, Option, Some, None, Ok}
+use Rattle.std.specs.Prelude.{◌≡◌, ◌↔◌, ◌⊎◌, ◌++◌, ℕ, true, List, [], ◌∷◌, map, Option, Some, None, Ok}
 use Rattle.item_terms.specs.declared.fault.DocFault.{DocFault}
 use Rattle.item_terms.specs.Items.{Item, Contents}
 use Rattle.frame_terms.specs.declared.keyword.Keyword.{Keyword}
-use Rattle.frame_terms.specs.declared.row.Row.{Row}
 use Rattle.frame_terms.specs.declared.section.Again.TheVariants as again
 use Rattle.frame_terms.specs.Documents.{Document, document_of}
 use Rattle.frame_terms.specs.Keywords.{same, word_of}
 use Rattle.frame_terms.specs.Order.{opener}
-use Rattle.frame_terms.specs.Sections.{row_of}
 use Rattle.frame_terms.specs.Tables.{Tables}
 use Rattle.table_laws.specs.Order.{AreInOrder, Part, items_of, sections_of}
 use Rattle.table_laws.specs.Passing.{EndsWith, EndsWithInput}
@@ -66,8 +64,14 @@ module _ {S K V X : Type 0} where
       AreClear tables → (length : ℕ) (contents : Contents) (document : Document S V)
       → IsDocument tables length contents document → document_of tables length contents ≡ Ok document
 
-  -- All this is so of each document that is read.
+  -- All this is so of each document that is read: no other items are read as one.
   abbrev pub DocumentsAreAll : Tables S K V X → Type 0
   DocumentsAreAll tables =
       AreClear tables → (length : ℕ) (contents : Contents) (document : Document S V)
       → document_of tables length contents ≡ Ok document → IsDocument tables length contents document
+
+  -- Items are read as a document exactly where they are its parts.
+  abbrev pub AreExact : Tables S K V X → Type 0
+  AreExact tables =
+      (length : ℕ) (contents : Contents) (document : Document S V)
+      → (document_of tables length contents ≡ Ok document) ↔ IsDocument tables length contents document

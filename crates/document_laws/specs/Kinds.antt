@@ -6,6 +6,7 @@ use Rattle.descriptor_frame.specs.Tables.{descriptor_tables}
 use Rattle.micro_frame.specs.Tables.{micro_tables}
 use Rattle.vote_frame.specs.Tables.{vote_tables}
 use Rattle.document_laws.specs.Clear.{AreClear}
+use Rattle.document_laws.specs.Documents.{AreExact}
 
 -- The tables of each kind are clear.
 pub record KindsAreClear : Type 0 where
@@ -14,3 +15,11 @@ pub record KindsAreClear : Type 0 where
   pub consensuses : (flavour : Flavour) → AreClear (consensus_tables flavour)
   pub descriptors : AreClear descriptor_tables
   pub microdescriptors : AreClear micro_tables
+
+-- Items are read as a document of each kind exactly where they are its parts.
+pub record KindsAreExact : Type 0 where
+  pub certificates : AreExact cert_tables
+  pub votes : AreExact vote_tables
+  pub consensuses : (flavour : Flavour) → AreExact (consensus_tables flavour)
+  pub descriptors : AreExact descriptor_tables
+  pub microdescriptors : AreExact micro_tables
