@@ -1,0 +1,25 @@
+-- The kinds of documents that this project reads.
+use Rattle.authority_certs.specs.Tables.{cert_tables}
+use Rattle.consensus_frame.specs.Tables.{consensus_tables}
+use Rattle.consensus_terms.specs.declared.flavour.Flavour.{Flavour}
+use Rattle.descriptor_frame.specs.Tables.{descriptor_tables}
+use Rattle.micro_frame.specs.Tables.{micro_tables}
+use Rattle.vote_frame.specs.Tables.{vote_tables}
+use Rattle.document_laws.specs.Clear.{AreClear}
+use Rattle.document_laws.specs.Documents.{AreExact}
+
+-- The tables of each kind are clear.
+pub record KindsAreClear : Type 0 where
+  pub certificates : AreClear cert_tables
+  pub votes : AreClear vote_tables
+  pub consensuses : (flavour : Flavour) → AreClear (consensus_tables flavour)
+  pub descriptors : AreClear descriptor_tables
+  pub microdescriptors : AreClear micro_tables
+
+-- Items are read as a document of each kind exactly where they are its parts.
+pub record KindsAreExact : Type 0 where
+  pub certificates : AreExact cert_tables
+  pub votes : AreExact vote_tables
+  pub consensuses : (flavour : Flavour) → AreExact (consensus_tables flavour)
+  pub descriptors : AreExact descriptor_tables
+  pub microdescriptors : AreExact micro_tables

@@ -1,0 +1,4 @@
+pub mod Clear
+pub mod Parts
+pub mod Documents
+pub mod Kinds
