@@ -1,0 +1,13 @@
+pub mod Lines
+pub mod Slices
+pub mod Pairs
+pub mod KeywordTexts
+pub mod Covered
+pub mod Certificates
+pub mod Pushes
+pub mod VoteParts
+pub mod VoteSections
+pub mod VoteSteps
+pub mod VoteWalk
+pub mod Votes
+pub mod SignedVotes
