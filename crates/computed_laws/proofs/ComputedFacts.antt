@@ -1,26 +1,22 @@
--- What is computed of votes that say what counts is in range, and its text is read again.
-use Rattle.std.proofs.Common.{ℕ, ◌≤◌, List, Option, arith}
-use Rattle.std.specs.Prelude.{All, IfSome, ℤ}
+-- What is computed of votes in range is in range, and its text is read again.
+use Rattle.std.proofs.Common.{ℕ, List, Option, arith}
+use Rattle.std.specs.Prelude.{All, IfSome}
 use Rattle.std.proofs.lemmas.List.Elements.{All-filter, All-weaker}
 use Rattle.dir_bytes.specs.Causes.{last_moment}
 use Rattle.list_values.specs.declared.named.Named.{Named}
 use Rattle.list_laws.specs.Ranges.{AreProtocolsInRange, AreVersionsInRange}
 use Rattle.vote_terms.specs.Votes.{ReadVote}
-use Rattle.vote_terms.specs.declared.facts.VoteFacts.{VoteFacts}
 use Rattle.vote_terms.specs.declared.lists.VoteLists.{VoteLists}
 use Rattle.vote_laws.specs.Again as votes_
 use Rattle.consensus_terms.specs.Routers.{is_listed}
-use Rattle.consensus_terms.specs.declared.flavour.Flavour.{Flavour}
-use Rattle.consensus_terms.specs.declared.router.Routerline.{Routerline}
-use Rattle.consensus_laws.specs.Again.{AreFactsInRange, AreListsInRange, Ascending, IsRouterInRange}
-use Rattle.consensus_laws.specs.Items.{listed}
+use Rattle.consensus_laws.specs.Again.{AreListsInRange, IsRouterInRange}
 use Rattle.consensus_laws.proofs.SignedParts.{computed_again}
 use Rattle.bandwidth_rules.specs.Limits.{unmeasured_limit}
-use Rattle.compute_terms.specs.Consensuses.{consensus, facts_of, method}
+use Rattle.compute_terms.specs.Consensuses.{consensus, method}
 use Rattle.compute_terms.specs.Lists.{listed_params, lists_of}
 use Rattle.compute_terms.specs.Routers.{routers}
 use Rattle.computed_laws.specs.Computed.{AreVotesInRange, ComputedFactsAreInRange, ComputedTextsAreReadAgain}
-use Rattle.computed_laws.specs.Computed.{ReadableVotesAreInRange, IsVoteInRange}
+use Rattle.computed_laws.specs.Computed.{IsVoteInRange, ReadableVotesAreInRange}
 use Rattle.computed_laws.proofs.Kept.{AllPairs-filter}
 use Rattle.computed_laws.proofs.KnownFlags.{KnowNames, known_in_range}
 use Rattle.computed_laws.proofs.ListedParams.{params_in_range, protocols_in_range}

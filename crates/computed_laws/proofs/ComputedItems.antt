@@ -1,5 +1,5 @@
 -- What is computed of votes that can be read may be written, but for limits, and within these it is read again.
-use Rattle.std.proofs.Common.{◌≡◌, ℕ, ◌+◌, ◌≤◌, List, [], ◌∷◌, length, Option, Some, None, map, refl}
+use Rattle.std.proofs.Common.{ℕ, ◌+◌, ◌≤◌, List, [], ◌∷◌, length, Option, Some, None, map, refl}
 use Rattle.std.specs.Prelude.{All, IfSome}
 use Rattle.std.specs.List.{join_with_byte}
 use Rattle.std.proofs.lemmas.List.Elements.{All-cons, All-filter, All-head, All-map, All-nil, All-tail, All-weaker}
@@ -16,7 +16,6 @@ use Rattle.consensus_terms.specs.Routers.{is_listed}
 use Rattle.consensus_terms.specs.Signed.{in_order, signature_item}
 use Rattle.consensus_terms.specs.Weights.{weight_words}
 use Rattle.consensus_terms.specs.declared.consensus.SourceLine.{SourceLine}
-use Rattle.consensus_terms.specs.declared.flavour.Flavour.{Flavour}
 use Rattle.consensus_terms.specs.declared.router.Routerline.{Routerline}
 use Rattle.consensus_terms.specs.declared.signature.SignatureLine.{SignatureLine}
 use Rattle.consensus_doc.specs.Reading.{max_consensus}

@@ -1,19 +1,19 @@
 -- The items of a consensus that says what can be read, and whose texts fill lines, may be written but for limits.
-use Rattle.std.proofs.Common.{◌≡◌, ℕ, Bool, true, false, List, [], ◌∷◌, ◌++◌, Option, Some, None, map, refl, sym, subst}
+use Rattle.std.proofs.Common.{◌≡◌, ℕ, Bool, true, false, List, [], ◌∷◌, ◌++◌, Option, Some, None, refl, sym, subst}
 use Rattle.std.proofs.Common.{append_assoc}
 use Rattle.std.specs.Prelude.{All, IfSome, codes, decimal, option_map, if◌then◌else◌}
-use Rattle.std.specs.List.{flat_map, join_with_byte}
+use Rattle.std.specs.List.{join_with_byte}
 use Rattle.std.specs.Str.{bytes_eq}
-use Rattle.std.proofs.lemmas.List.Elements.{All-append, All-cons, All-map, All-nil, All-weaker}
+use Rattle.std.proofs.lemmas.List.Elements.{All-append, All-cons, All-nil}
 use Rattle.std.proofs.lemmas.Option.{IfSome_then}
 use Rattle.item_terms.specs.Bytes.{space}
 use Rattle.base64.specs.GeneralPurpose.{IsBytes}
 use Rattle.dir_bytes.specs.FieldTexts.{address_text, base64_text, hex_text, moment_text}
 use Rattle.dir_values.specs.FlagSets.{set_text}
 use Rattle.dir_values.specs.declared.digest.Digest2.{Digest2}
-use Rattle.dirdoc_grammar.specs.Writing.{IsKeyword, IsLineRest}
+use Rattle.dirdoc_grammar.specs.Writing.{IsLineRest}
 use Rattle.dirdoc_laws.specs.Written.{IsItem}
-use Rattle.dirdoc_laws.proofs.LineRests.{rest_of_argument, rest_of_nothing}
+use Rattle.dirdoc_laws.proofs.LineRests.{rest_of_argument}
 use Rattle.frame_terms.specs.declared.keyword.Keyword.TheVariants as the
 use Rattle.frame_values.specs.Parts.{moment_of}
 use Rattle.frame_laws.proofs.WordTexts.{AreWords, IsWord, two_words, word_of_address, word_of_identity, word_of_nickname}
@@ -26,7 +26,7 @@ use Rattle.list_laws.proofs.ParamsAgain.{params_fill}
 use Rattle.list_laws.proofs.ProtocolsAgain.{protocols_fill}
 use Rattle.list_laws.proofs.VersionsAgain.{versions_fill}
 use Rattle.line_laws.specs.Again.{AreFlagsInRange}
-use Rattle.entry_laws.specs.Ranges.{AreThirtyTwo, IsAddressInRange}
+use Rattle.entry_laws.specs.Ranges.{IsAddressInRange}
 use Rattle.entry_laws.proofs.WrittenMicros.{word_of_thirty_two}
 use Rattle.entry_laws.proofs.WrittenRelays.{word_of_twenty}
 use Rattle.consensus_terms.specs.Lines.{named_text}
@@ -45,8 +45,8 @@ use Rattle.consensus_laws.specs.Again.{AreFactsInRange, AreListsInRange, IsAutho
 use Rattle.consensus_laws.specs.Again.{IsRouterInRange, IsSignatureInRange}
 use Rattle.consensus_laws.specs.Items.{kind_items, list_if, m_text, p_text, preamble_items, protocol_items, router_items}
 use Rattle.consensus_laws.specs.Items.{router_words, source_items, time_items, version_items, w_text}
-use Rattle.computed_laws.proofs.Forms.{AreItems, IsFilled, after, bare_are, bare_is, each_are, if_are, join_filled}
-use Rattle.computed_laws.proofs.Forms.{moment_filled, named_word, no_items, word_filled, words_filled, ◌&◌}
+use Rattle.computed_laws.proofs.Forms.{AreItems, IsFilled, after, bare_are, bare_is, if_are, join_filled}
+use Rattle.computed_laws.proofs.Forms.{moment_filled, named_word, word_filled, words_filled, ◌&◌}
 
 -- ---- the preamble
 

@@ -1,5 +1,5 @@
 -- Items that may be written but for limits, and what fills a line.
-use Rattle.std.proofs.Common.{◌≡◌, ℕ, ◌+◌, ◌<◌, ◌/◌, ◌%◌, List, [], ◌∷◌, ◌++◌, length, Option, Some, None, refl, subst, arith}
+use Rattle.std.proofs.Common.{◌≡◌, ℕ, ◌<◌, ◌/◌, ◌%◌, List, [], ◌∷◌, ◌++◌, length, Option, Some, None, refl, subst, arith}
 use Rattle.std.proofs.Common.{length-append}
 use Rattle.std.specs.Prelude.{All, IfSome, decimal}
 use Rattle.std.specs.List.{flat_map, join_with_byte}
@@ -12,7 +12,7 @@ use Rattle.dirdoc_laws.proofs.LineRests.{joined, rest_of_argument, rest_of_joine
 use Rattle.frame_terms.specs.Keywords.{text_of}
 use Rattle.frame_terms.specs.declared.keyword.Keyword.{Keyword}
 use Rattle.frame_values.specs.Items.{bare, item_if}
-use Rattle.frame_laws.proofs.WordTexts.{AreWords, Dark, IsWord, both_dark, bytes_of, is_word, length-word, number_dark}
+use Rattle.frame_laws.proofs.WordTexts.{AreWords, IsWord, both_dark, bytes_of, is_word, length-word, number_dark}
 use Rattle.frame_laws.proofs.WordTexts.{two_words, word_of_clock, word_of_date}
 use Rattle.list_values.specs.Equations.{equals}
 use Rattle.consensus_terms.specs.Lines.{named_text}

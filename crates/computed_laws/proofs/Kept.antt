@@ -1,5 +1,5 @@
 -- What holds of the members of lists holds of what is found in them, kept of them and made of them.
-use Rattle.std.proofs.Common.{◌≡◌, ℕ, Bool, true, false, List, [], ◌∷◌, ◌++◌, Option, Some, None, map}
+use Rattle.std.proofs.Common.{Bool, true, false, List, [], ◌∷◌, Option, Some, None, map}
 use Rattle.std.specs.Prelude.{All, AllPairs, IfSome, unwrap_or, filter, option_map, if◌then◌else◌}
 use Rattle.std.specs.List.{cons_option, filter_map, find, flat_map}
 use Rattle.std.proofs.lemmas.List.Elements.{All-append, All-cons, All-filter, All-head, All-map, All-nil, All-tail}

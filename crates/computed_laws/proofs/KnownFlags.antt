@@ -2,13 +2,13 @@
 use Rattle.std.proofs.Common.{◌≡◌, ℕ, Bool, true, false, List, [], ◌∷◌, ◌++◌, refl}
 use Rattle.std.specs.Prelude.{All, codes, filter, if◌then◌else◌}
 use Rattle.std.proofs.lemmas.List.Elements.{All-append, All-cons, All-filter, All-nil}
-use Rattle.dir_values.specs.FlagSets.{as_set, has_flag, is_name, with_flag}
+use Rattle.dir_values.specs.FlagSets.{as_set, has_flag, is_name}
 use Rattle.dir_values.proofs.Flags.{Ascend-as_set, Ascend-with_flag}
 use Rattle.line_laws.specs.Again.{AreFlagsInRange}
 use Rattle.vote_terms.specs.Votes.{ReadVote}
 use Rattle.compute_terms.specs.Flags.{known_flags, listed_flags, with_own_flags}
 use Rattle.compute_terms.specs.Listings.{Listing}
-use Rattle.compute_terms.specs.RelayFlags.{adjusted_flags, is_set, middle_flags, router_flags, set_flags, suits_middle}
+use Rattle.compute_terms.specs.RelayFlags.{is_set, middle_flags, router_flags, set_flags, suits_middle}
 use Rattle.compute_terms.specs.declared.identity.EdPart.{EdPart}
 use Rattle.computed_laws.proofs.FlagSets.{All-as_set, All-with_flag}
 use Rattle.computed_laws.proofs.Kept.{All-flat_map}

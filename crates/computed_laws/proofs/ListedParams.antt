@@ -1,5 +1,5 @@
 -- The params and the protocols that votes agree on are in range.
-use Rattle.std.proofs.Common.{◌≡◌, ℕ, Bool, true, List, Option, map, pos, subst, arith}
+use Rattle.std.proofs.Common.{◌≡◌, ℕ, Bool, true, List, Option, pos, subst, arith}
 use Rattle.std.specs.Prelude.{All, IfSome, ℤ, FitsSigned, filter}
 use Rattle.std.specs.Int.{w32}
 use Rattle.std.specs.List.{find}

@@ -1,8 +1,7 @@
 -- A low median is one of the numbers, or 0 where there is none.
-use Rattle.std.proofs.Common.{ℕ, zero, ◌≤◌, List, arith}
+use Rattle.std.proofs.Common.{ℕ, ◌≤◌, List, arith}
 use Rattle.std.specs.Prelude.{All}
 use Rattle.std.specs.List.{find}
-use Rattle.std.proofs.lemmas.List.Elements.{All-map}
 use Rattle.count_terms.specs.Counts.{low_median, member_at, middle, stands_at}
 use Rattle.computed_laws.proofs.Kept.{IfSome-find, unwrapped}
 

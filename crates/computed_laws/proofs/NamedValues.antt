@@ -1,8 +1,8 @@
 -- What votes say of names: the names are such, and what holds of each value holds of those for one name.
-use Rattle.std.proofs.Common.{◌≡◌, ℕ, true, List, [], ◌∷◌, Option, map}
+use Rattle.std.proofs.Common.{◌≡◌, ℕ, true, List, [], Option}
 use Rattle.std.specs.Prelude.{All, IfSome, unwrap_or}
-use Rattle.std.specs.List.{filter_map, find, flat_map}
-use Rattle.std.proofs.lemmas.List.Elements.{All-map, All-nil, All-weaker}
+use Rattle.std.specs.List.{find, flat_map}
+use Rattle.std.proofs.lemmas.List.Elements.{All-map, All-weaker}
 use Rattle.dir_values.specs.FlagSets as flag_sets
 use Rattle.dir_values.specs.FlagSets.{is_name}
 use Rattle.dir_values.proofs.Flags.{Ascend-as_set}

@@ -1,6 +1,6 @@
 -- What a consensus says of one relay is in range.
-use Rattle.std.proofs.Common.{◌≡◌, ℕ, ◌<◌, ◌≤◌, ◌^◌, Bool, true, false, List, [], ◌∷◌, length, map, Option, Some, None, arith}
-use Rattle.std.specs.Prelude.{All, IfSome, min, nat_le, option_and_then, option_map, if◌then◌else◌}
+use Rattle.std.proofs.Common.{◌≡◌, ℕ, ◌<◌, ◌≤◌, ◌^◌, Bool, true, false, List, [], ◌∷◌, length, Option, Some, None, arith}
+use Rattle.std.specs.Prelude.{All, IfSome, nat_le, option_and_then, option_map, if◌then◌else◌}
 use Rattle.std.proofs.lemmas.Option.{IfSome_then}
 use Rattle.dir_bytes.specs.Causes.{last_moment}
 use Rattle.dir_values.specs.Names.{is_nickname}
@@ -26,7 +26,7 @@ use Rattle.compute_terms.specs.Lines.{chosen_micro}
 use Rattle.compute_terms.specs.Listings.{entries_of, listings}
 use Rattle.compute_terms.specs.RelayFlags.{is_running_and_valid, router_flags}
 use Rattle.compute_terms.specs.Routers.{belonging_listings, router_as, router_of, router_with, routerline_of}
-use Rattle.compute_terms.specs.Tuples.{Tuple, chosen_tuple, tuple_of, tuple_order}
+use Rattle.compute_terms.specs.Tuples.{Tuple, chosen_tuple, tuple_of}
 use Rattle.compute_terms.specs.declared.identity.EdPart.{EdPart}
 use Rattle.computed_laws.proofs.Kept.{IfSome-map}
 use Rattle.computed_laws.proofs.KnownFlags.{KnowNames, relay_flags_in_range}

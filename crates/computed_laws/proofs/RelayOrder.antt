@@ -1,9 +1,9 @@
 -- The relays that a consensus lists are in range, and ascend by identity.
-use Rattle.std.proofs.Common.{◌≡◌, ℕ, Bool, true, false, List, Option, Some, None, map, refl}
+use Rattle.std.proofs.Common.{◌≡◌, ℕ, Bool, true, false, List, Option, Some, None, refl}
 use Rattle.std.specs.Prelude.{All, AllPairs, IfSome, option_and_then, option_map, if◌then◌else◌}
-use Rattle.std.specs.List.{filter_map, flat_map}
+use Rattle.std.specs.List.{flat_map}
 use Rattle.std.proofs.lemmas.List.Elements.{All-map, All-weaker}
-use Rattle.dir_values.specs.Digests.{bytes_below, identity_below}
+use Rattle.dir_values.specs.Digests.{identity_below}
 use Rattle.dir_values.specs.FlagSets.{as_set}
 use Rattle.dir_values.specs.declared.digest.Fingerprint.{Fingerprint}
 use Rattle.dir_values.proofs.Flags.{Ascend-as_set}

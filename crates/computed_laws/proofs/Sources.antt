@@ -2,7 +2,6 @@
 use Rattle.std.proofs.Common.{List, map}
 use Rattle.std.specs.Prelude.{All}
 use Rattle.std.proofs.lemmas.List.Elements.{All-map, All-weaker}
-use Rattle.line_laws.specs.Again.{IsSourceInRange}
 use Rattle.vote_terms.specs.Votes.{ReadVote}
 use Rattle.consensus_laws.specs.Again.{IsAuthorityInRange}
 use Rattle.compute_terms.specs.Consensuses.{source_of}

@@ -1,7 +1,6 @@
 -- The texts of a vote that may be written fill lines.
 use Rattle.std.proofs.Common.{ℕ, ◌+◌, List, [], ◌∷◌, ◌++◌, length, Option, Some, None}
 use Rattle.std.specs.Prelude.{All, IfSome, option_map}
-use Rattle.std.specs.List.{flat_map}
 use Rattle.std.proofs.lemmas.List.Elements.{All-cons, All-head, All-nil, All-tail}
 use Rattle.dirdoc_grammar.specs.Writing.{AreWritable, IsLineRest, NewItem, item_text}
 use Rattle.frame_terms.specs.declared.keyword.Keyword.{Keyword}
@@ -10,7 +9,6 @@ use Rattle.frame_values.specs.Items.{bare, item_if}
 use Rattle.relay_entries.specs.Texts.{bandwidths_text, ed_text}
 use Rattle.authority_certs.specs.Texts.{cert_items}
 use Rattle.vote_terms.specs.declared.entry.EntryFacts.{EntryFacts}
-use Rattle.vote_terms.specs.declared.facts.VoteFacts.{VoteFacts}
 use Rattle.vote_text.specs.Entries.{entries_items, entry_items, flag_items, items_each, micro_items, relay_items}
 use Rattle.vote_text.specs.Texts.{authority_items, footer_items, preamble_items, source_text, vote_items}
 use Rattle.vote_doc.specs.Reading.{max_vote}
