@@ -1,0 +1,115 @@
+-- What is computed of votes in range is in range, and its text is read again.
+use Rattle.std.proofs.Common.{ℕ, List, Option, arith}
+use Rattle.std.specs.Prelude.{All, IfSome}
+use Rattle.std.proofs.lemmas.List.Elements.{All-filter, All-weaker}
+use Rattle.dir_bytes.specs.Causes.{last_moment}
+use Rattle.list_values.specs.declared.named.Named.{Named}
+use Rattle.list_laws.specs.Ranges.{AreProtocolsInRange, AreVersionsInRange}
+use Rattle.vote_terms.specs.Votes.{ReadVote}
+use Rattle.vote_terms.specs.declared.lists.VoteLists.{VoteLists}
+use Rattle.vote_laws.specs.Again as votes_
+use Rattle.consensus_terms.specs.Routers.{is_listed}
+use Rattle.consensus_laws.specs.Again.{AreListsInRange, IsRouterInRange}
+use Rattle.consensus_laws.proofs.SignedParts.{computed_again}
+use Rattle.bandwidth_rules.specs.Limits.{unmeasured_limit}
+use Rattle.compute_terms.specs.Consensuses.{consensus, method}
+use Rattle.compute_terms.specs.Lists.{listed_params, lists_of}
+use Rattle.compute_terms.specs.Routers.{routers}
+use Rattle.computed_laws.specs.Computed.{AreVotesInRange, ComputedFactsAreInRange, ComputedTextsAreReadAgain}
+use Rattle.computed_laws.specs.Computed.{IsVoteInRange, ReadableVotesAreInRange}
+use Rattle.computed_laws.proofs.Kept.{AllPairs-filter}
+use Rattle.computed_laws.proofs.KnownFlags.{KnowNames, known_in_range}
+use Rattle.computed_laws.proofs.ListedParams.{params_in_range, protocols_in_range}
+use Rattle.computed_laws.proofs.ListedVersions.{versions_in_range}
+use Rattle.computed_laws.proofs.RelayEntries.{AllEntries}
+use Rattle.computed_laws.proofs.RelayOrder.{Before, relays_ascend, relays_in_range}
+use Rattle.computed_laws.proofs.Sources.{sources_in_range}
+use Rattle.computed_laws.proofs.Times.{time_within}
+
+pub readable_in_range : ReadableVotesAreInRange
+readable_in_range facts is = record {
+  valid_after = is.valid_after;
+  fresh_until = is.fresh_until;
+  valid_until = is.valid_until;
+  vote_seconds = is.vote_seconds;
+  dist_seconds = is.dist_seconds;
+  known_flags = is.known_flags.each;
+  lists = is.lists;
+  source = record {
+    nickname_is = is.nickname;
+    identity_is = is.identity;
+    address_is = is.address;
+    ip_is = is.ip;
+    dir_port_is = is.dir_port;
+    or_port_is = is.or_port;
+  };
+  entries = is.entries.each;
+}
+
+module _ (votes : List ReadVote) (all : AreVotesInRange votes) where
+  -- what is said of each vote follows from what it says
+  each : (P : ReadVote → Type 0) → ((vote : ReadVote) → IsVoteInRange vote.says → P vote) → All P votes
+  each P from = All-weaker (λ (vote : ReadVote). IsVoteInRange vote.says) P from votes all
+
+  names : KnowNames votes
+  names = each _ (λ vote is. is.known_flags)
+
+  entries : AllEntries votes_.IsEntryInRange votes
+  entries = each _ (λ vote is. is.entries)
+
+  versions : (line : VoteLists → Option (List (List ℕ)))
+      → ((lists : VoteLists) → votes_.AreListsInRange lists → IfSome (line lists) AreVersionsInRange)
+      → All (λ (vote : ReadVote). IfSome (line vote.says.lists) AreVersionsInRange) votes
+  versions line from = each _ (λ vote is. from vote.says.lists is.lists)
+
+  protocols : (line : VoteLists → Option (List (Named (List ℕ))))
+      → ((lists : VoteLists) → votes_.AreListsInRange lists → IfSome (line lists) AreProtocolsInRange)
+      → All (λ (vote : ReadVote). IfSome (line vote.says.lists) AreProtocolsInRange) votes
+  protocols line from = each _ (λ vote is. from vote.says.lists is.lists)
+
+  lists_in_range : (roster : ℕ) → AreListsInRange (lists_of roster votes)
+  lists_in_range roster = record {
+    client_versions = versions_in_range (λ (lists : VoteLists). lists.client_versions) votes
+        (versions (λ (lists : VoteLists). lists.client_versions) (λ lists is. is.client_versions));
+    server_versions = versions_in_range (λ (lists : VoteLists). lists.server_versions) votes
+        (versions (λ (lists : VoteLists). lists.server_versions) (λ lists is. is.server_versions));
+    recommended_client_protocols = protocols_in_range (λ (lists : VoteLists). lists.recommended_client_protocols) votes
+        (protocols (λ (lists : VoteLists). lists.recommended_client_protocols) (λ lists is. is.recommended_client_protocols));
+    recommended_relay_protocols = protocols_in_range (λ (lists : VoteLists). lists.recommended_relay_protocols) votes
+        (protocols (λ (lists : VoteLists). lists.recommended_relay_protocols) (λ lists is. is.recommended_relay_protocols));
+    required_client_protocols = protocols_in_range (λ (lists : VoteLists). lists.required_client_protocols) votes
+        (protocols (λ (lists : VoteLists). lists.required_client_protocols) (λ lists is. is.required_client_protocols));
+    required_relay_protocols = protocols_in_range (λ (lists : VoteLists). lists.required_relay_protocols) votes
+        (protocols (λ (lists : VoteLists). lists.required_relay_protocols) (λ lists is. is.required_relay_protocols));
+    params = params_in_range roster votes
+        (each (λ (vote : ReadVote). IfSome vote.says.lists.params votes_.AreVoteParams) (λ vote is. is.lists.params));
+  }
+
+pub facts_in_range : ComputedFactsAreInRange
+facts_in_range flavour roster votes all =
+    let limit = unmeasured_limit (listed_params roster votes) in
+    let relays = routers roster method limit votes in
+    record {
+      method = omega arith;
+      valid_after = time_within last_moment (λ vote. vote.says.valid_after) votes
+          (each votes all _ (λ vote is. is.valid_after));
+      fresh_until = time_within last_moment (λ vote. vote.says.fresh_until) votes
+          (each votes all _ (λ vote is. is.fresh_until));
+      valid_until = time_within last_moment (λ vote. vote.says.valid_until) votes
+          (each votes all _ (λ vote is. is.valid_until));
+      vote_seconds = time_within 4294967295 (λ vote. vote.says.vote_seconds) votes
+          (each votes all _ (λ vote is. is.vote_seconds));
+      dist_seconds = time_within 4294967295 (λ vote. vote.says.dist_seconds) votes
+          (each votes all _ (λ vote is. is.dist_seconds));
+      known_flags = known_in_range votes (names votes all);
+      lists = lists_in_range votes all roster;
+      sources = sources_in_range votes all;
+      routers = All-filter (is_listed flavour) (IsRouterInRange flavour) relays
+          (relays_in_range flavour roster method limit votes (names votes all) (entries votes all));
+      ascending = AllPairs-filter Before (is_listed flavour) relays (relays_ascend roster method limit votes);
+    }
+
+pub texts_again : ComputedTextsAreReadAgain
+texts_again flavour roster votes lines all signatures items =
+    computed_again flavour (consensus roster votes) lines
+    (record { facts = facts_in_range flavour roster votes all; signatures = signatures; items = items })

@@ -1,0 +1,116 @@
+-- What is computed of votes that can be read may be written, but for limits, and within these it is read again.
+use Rattle.std.proofs.Common.{ℕ, ◌+◌, ◌≤◌, List, [], ◌∷◌, length, Option, Some, None, map, refl}
+use Rattle.std.specs.Prelude.{All, IfSome}
+use Rattle.std.specs.List.{join_with_byte}
+use Rattle.std.proofs.lemmas.List.Elements.{All-cons, All-filter, All-head, All-map, All-nil, All-tail, All-weaker}
+use Rattle.item_terms.specs.Bytes.{space}
+use Rattle.item_terms.specs.Faults.{max_object}
+use Rattle.dirdoc_grammar.specs.Bodies.{object_text}
+use Rattle.dirdoc_grammar.specs.Writing.{AreWritable, IsLineRest, IsWritableObject, NewItem, NewObject, item_text}
+use Rattle.dirdoc_laws.specs.Written.{AreWithinLimits, IsItem, IsObject}
+use Rattle.dirdoc_laws.proofs.LineRests.{rest_of_nothing}
+use Rattle.frame_terms.specs.declared.keyword.Keyword.TheVariants as the
+use Rattle.vote_terms.specs.Votes.{ReadVote}
+use Rattle.vote_laws.specs.Again as vote_laws
+use Rattle.consensus_terms.specs.Routers.{is_listed}
+use Rattle.consensus_terms.specs.Signed.{in_order, signature_item}
+use Rattle.consensus_terms.specs.Weights.{weight_words}
+use Rattle.consensus_terms.specs.declared.consensus.SourceLine.{SourceLine}
+use Rattle.consensus_terms.specs.declared.router.Routerline.{Routerline}
+use Rattle.consensus_terms.specs.declared.signature.SignatureLine.{SignatureLine}
+use Rattle.consensus_doc.specs.Reading.{max_consensus}
+use Rattle.consensus_laws.specs.Again.{IsAuthorityInRange, IsRouterInRange, IsSignatureInRange}
+use Rattle.consensus_laws.specs.Items.{consensus_items, listed, router_items, source_items}
+use Rattle.consensus_laws.proofs.SignatureOrder.{each_in_order}
+use Rattle.bandwidth_rules.specs.Limits.{unmeasured_limit}
+use Rattle.compute_terms.specs.Consensuses.{consensus, method, source_of}
+use Rattle.compute_terms.specs.Lists.{listed_params}
+use Rattle.compute_terms.specs.Routers.{routers}
+use Rattle.computed_laws.specs.Computed.{AreVotesInRange, IsVoteInRange, signed_consensus}
+use Rattle.computed_laws.specs.WithinLimits.{AllFillLines, ComputedItemsAreItems, FillsLines, IsSignature}
+use Rattle.computed_laws.specs.WithinLimits.{ConsensusesOfReadableVotesAreReadAgain, ConsensusesWithinLimitsAreReadAgain}
+use Rattle.computed_laws.proofs.ChosenTexts.{contacts_fill, relays_fill}
+use Rattle.computed_laws.proofs.ComputedFacts.{facts_in_range, readable_in_range, texts_again}
+use Rattle.computed_laws.proofs.FactItems.{HasTexts, preamble_are, router_are, signature_is, source_are}
+use Rattle.computed_laws.proofs.Forms.{AreItems, after, bare_are, bare_is, each_are, ◌&◌}
+use Rattle.computed_laws.proofs.VoteLines.{readable_fill}
+use Rattle.computed_laws.proofs.WeightWords.{weights_fill}
+
+-- ---- the items
+
+-- what follows from two facts of each member
+both : {X : Type 0} (P Q R : X → Type 0) → ((x : X) → P x → Q x → R x) → (list : List X) → All P list → All Q list → All R list
+both P Q R each [] first second = All-nil R
+both P Q R each (x ∷ rest) first second =
+    All-cons R x rest (each x (All-head P x rest first) (All-head Q x rest second))
+    (both P Q R each rest (All-tail P x rest first) (All-tail Q x rest second))
+
+signatures_are : (lines : List SignatureLine) → All IsSignature lines → AreItems (map signature_item (in_order lines))
+signatures_are lines signed_ = record {
+  each = All-map IsItem signature_item (in_order lines)
+      (All-weaker IsSignature (λ (s : SignatureLine). IsItem (signature_item s)) (λ s is. signature_is s is.says is.bytes)
+      (in_order lines) (each_in_order IsSignature lines signed_));
+}
+
+pub computed_items : ComputedItemsAreItems
+computed_items flavour roster votes lines in_range fills signed_ =
+    let c = consensus roster votes in
+    let are = facts_in_range flavour roster votes in_range in
+    let limit = unmeasured_limit (listed_params roster votes) in
+    let relays : List Routerline = routers roster method limit votes in
+    let sources : All (λ (s : SourceLine). AreItems (source_items s)) (map source_of votes) =
+    both IsAuthorityInRange (λ (s : SourceLine). IfSome s.contact IsLineRest)
+    (λ (s : SourceLine). AreItems (source_items s)) (λ s is contact. source_are s is contact) (map source_of votes)
+    are.sources (contacts_fill votes fills) in
+    let each : All (λ (r : Routerline). AreItems (router_items flavour r)) (listed flavour relays) =
+    both (IsRouterInRange flavour) HasTexts (λ (r : Routerline). AreItems (router_items flavour r))
+    (λ r is texts. router_are flavour r is texts) (listed flavour relays) are.routers
+    (All-filter (is_listed flavour) HasTexts relays (relays_fill roster method limit votes fills)) in
+    let items =
+    preamble_are flavour c.facts are & each_are source_items (map source_of votes) sources
+    & each_are (router_items flavour) (listed flavour relays) each
+    & after (bare_is the.DirectoryFooter [] (record { first = refl; each = refl }) rest_of_nothing)
+    (bare_are the.BandwidthWeights (join_with_byte space (weight_words c.weights)) (record { first = refl; each = refl })
+    (weights_fill c.weights))
+    & signatures_are lines signed_ in
+    items.each
+
+-- ---- within limits
+
+object_may : (object : Option NewObject) → IfSome object IsObject
+    → IfSome object (λ (o : NewObject). length (object_text o.words o.bytes) ≤ max_object) → IfSome object IsWritableObject
+object_may None is fits = tt
+object_may (Some object) is fits = record { words = is.words; bytes = is.bytes; fits = fits }
+
+-- items that pass no limit may be written
+may_be_written : (limit place : ℕ) (items : List NewItem) → All IsItem items → AreWithinLimits limit place items
+    → AreWritable limit place items
+may_be_written limit place [] each within = tt
+may_be_written limit place (item ∷ items) each within =
+    let is = All-head IsItem item items each in (
+      record {
+        keyword = is.keyword;
+        arguments = is.arguments;
+        line_fits = within.0.line;
+        object = object_may item.object is.object within.0.object;
+        within = within.0.within;
+      },
+      may_be_written limit (place + length (item_text item)) items (All-tail IsItem item items each) within.1,
+    )
+
+pub again_within : ConsensusesWithinLimitsAreReadAgain
+again_within flavour roster votes lines are fills signed_ within =
+    texts_again flavour roster votes lines are
+    (All-weaker IsSignature IsSignatureInRange (λ s is. is.says) lines signed_)
+    (may_be_written max_consensus 0 (consensus_items (signed_consensus flavour roster votes lines))
+    (computed_items flavour roster votes lines are fills signed_) within)
+
+pub readable_again : ConsensusesOfReadableVotesAreReadAgain
+readable_again flavour roster votes lines readable signed_ within =
+    let are : AreVotesInRange votes =
+    All-weaker (λ (vote : ReadVote). vote_laws.IsInRange vote.says) (λ (vote : ReadVote). IsVoteInRange vote.says)
+    (λ vote is. readable_in_range vote.says is) votes readable in
+    let fills : AllFillLines votes =
+    All-weaker (λ (vote : ReadVote). vote_laws.IsInRange vote.says) (λ (vote : ReadVote). FillsLines vote.says)
+    (λ vote is. readable_fill vote.says is) votes readable in
+    again_within flavour roster votes lines are fills signed_ within

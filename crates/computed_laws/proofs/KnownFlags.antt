@@ -1,0 +1,63 @@
+-- The flags that a consensus knows and those of its relays are names, ascending.
+use Rattle.std.proofs.Common.{◌≡◌, ℕ, Bool, true, false, List, [], ◌∷◌, ◌++◌, refl}
+use Rattle.std.specs.Prelude.{All, codes, filter, if◌then◌else◌}
+use Rattle.std.proofs.lemmas.List.Elements.{All-append, All-cons, All-filter, All-nil}
+use Rattle.dir_values.specs.FlagSets.{as_set, has_flag, is_name}
+use Rattle.dir_values.proofs.Flags.{Ascend-as_set, Ascend-with_flag}
+use Rattle.line_laws.specs.Again.{AreFlagsInRange}
+use Rattle.vote_terms.specs.Votes.{ReadVote}
+use Rattle.compute_terms.specs.Flags.{known_flags, listed_flags, with_own_flags}
+use Rattle.compute_terms.specs.Listings.{Listing}
+use Rattle.compute_terms.specs.RelayFlags.{is_set, middle_flags, router_flags, set_flags, suits_middle}
+use Rattle.compute_terms.specs.declared.identity.EdPart.{EdPart}
+use Rattle.computed_laws.proofs.FlagSets.{All-as_set, All-with_flag}
+use Rattle.computed_laws.proofs.Kept.{All-flat_map}
+
+abbrev pub IsName : List ℕ → Type 0
+IsName flag = is_name flag ≡ true
+
+-- votes know names
+abbrev pub KnowNames : List ReadVote → Type 0
+KnowNames votes = All (λ (vote : ReadVote). All IsName vote.says.known_flags) votes
+
+with_own : (b : Bool) (flags : List (List ℕ)) → All IsName flags
+    → All IsName (flags ++ codes "NoEdConsensus" ∷ (if b then codes "BadExit" ∷ [] else []))
+with_own b flags all =
+    let more : List (List ℕ) = if b then codes "BadExit" ∷ [] else [] in
+    All-append IsName flags (codes "NoEdConsensus" ∷ more) all
+    (All-cons IsName (codes "NoEdConsensus") more refl (bad_exit b))
+  where
+    bad_exit : (b : Bool) → All IsName (if b then codes "BadExit" ∷ [] else [])
+    bad_exit true = All-cons IsName (codes "BadExit") [] refl (All-nil IsName)
+    bad_exit false = All-nil IsName
+
+-- the set of names is in range
+set_in_range : (flags : List (List ℕ)) → All IsName flags → AreFlagsInRange (as_set flags)
+set_in_range flags all = record { ascend = Ascend-as_set flags; each = All-as_set IsName flags all }
+
+pub known_in_range : (votes : List ReadVote) → KnowNames votes → AreFlagsInRange (known_flags votes)
+known_in_range votes all =
+    let listed = listed_flags votes in
+    set_in_range (with_own_flags listed)
+    (with_own (has_flag listed (codes "MiddleOnly")) listed
+    (All-flat_map IsName (λ (vote : ReadVote). vote.says.known_flags) votes all))
+
+adjusted : (b : Bool) (flags : List (List ℕ)) → AreFlagsInRange flags
+    → AreFlagsInRange (if b then middle_flags flags else flags)
+adjusted true flags are =
+    let kept = as_set (filter suits_middle flags) in
+    let its = set_in_range (filter suits_middle flags) (All-filter suits_middle IsName flags are.each) in
+    record {
+      ascend = Ascend-with_flag kept (codes "BadExit") its.ascend;
+      each = All-with_flag IsName kept (codes "BadExit") its.each refl;
+    }
+adjusted false flags are = are
+
+-- the flags of a relay
+pub relay_flags_in_range : (votes : List ReadVote) (ed : EdPart) (members : List Listing) → KnowNames votes
+    → AreFlagsInRange (router_flags votes ed members)
+relay_flags_in_range votes ed members all =
+    let known = known_in_range votes all in
+    let set = set_in_range (filter (is_set votes ed members) (known_flags votes))
+    (All-filter (is_set votes ed members) IsName (known_flags votes) known.each) in
+    adjusted (has_flag (set_flags votes ed members) (codes "MiddleOnly")) (set_flags votes ed members) set
