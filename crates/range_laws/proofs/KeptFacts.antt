@@ -1,0 +1,138 @@
+-- What is kept of a vote says what is in range, and its items may be written.
+use Rattle.std.proofs.Common.{ℕ, List, map, Option, Some, None}
+use Rattle.std.proofs.Common.{arith}
+use Rattle.std.specs.Prelude.{IfSome, option_map}
+use Rattle.std.proofs.lemmas.List.Elements.{All-map, All-weaker}
+use Rattle.base64.specs.GeneralPurpose.{IsBytes}
+use Rattle.item_terms.specs.Words.{words_of}
+use Rattle.dir_values.specs.FlagSets.{as_set}
+use Rattle.dir_values.specs.Numbers.{number_in, numbers_in}
+use Rattle.dir_values.proofs.Flags.{Ascend-as_set}
+use Rattle.frame_values.specs.Parts.{part}
+use Rattle.frame_values.specs.declared.found.Span.{Span}
+use Rattle.list_laws.specs.Ranges.{AreProtocolsInRange, AreVersionsInRange}
+use Rattle.list_lines.specs.Listed.{params_in, protocols_in, versions_in}
+use Rattle.vote_entries.specs.Entries.{entry_in}
+use Rattle.vote_doc.specs.Facts.{facts_of}
+use Rattle.vote_doc.specs.Lists.{vote_lists}
+use Rattle.vote_doc.specs.declared.kept.Kept.{Kept}
+use Rattle.vote_doc.specs.declared.lists.ListSpans.{ListSpans}
+use Rattle.vote_laws.specs.Again.{AreEntriesInRange, AreFlags, AreListsInRange, AreMethods, AreVoteParams}
+use Rattle.vote_laws.specs.Again.{IsEntryInRange, IsSignatureInRange}
+use Rattle.range_laws.specs.Votes.{IsInRangeButForLimits}
+use Rattle.range_laws.proofs.CertRanges.{has_bytes}
+use Rattle.range_laws.proofs.EntryTexts as entry
+use Rattle.range_laws.proofs.KeptEntries.{AreKept, IsKept, count_map, numbers_small}
+use Rattle.range_laws.proofs.KeptHeads.{AuthorityIs, HeadIs}
+use Rattle.range_laws.proofs.ReadBytes.{object_bytes}
+use Rattle.range_laws.proofs.ReadLists.{params_ranged, protocols_ranged, versions_ranged}
+use Rattle.range_laws.proofs.ReadNames.{IsName, count_of_set, each_of_set}
+use Rattle.range_laws.proofs.VoteReads.{AreFew, AreKnown}
+use Rattle.range_laws.proofs.VoteTexts.{vote_may}
+
+-- ---- what a vote says of which this was kept
+
+made_if : {A : Type 0} (P : List ℕ → Type 0) (Q : A → Type 0) (of : List ℕ → A) (text : Option (List ℕ)) → IfSome text P
+    → ((t : List ℕ) → P t → Q (of t)) → IfSome (option_map of text) Q
+made_if P Q of None is made = tt
+made_if P Q of (Some text) is made = made text is
+
+any_text : (text : Option (List ℕ)) → IfSome text (λ t. Unit {0})
+any_text None = tt
+any_text (Some text) = tt
+
+methods_ranged : (text : List ℕ) → AreFew 64 text → AreMethods (numbers_in text)
+methods_ranged text few = record {
+  count = omega (arith, few, count_map number_in (words_of text));
+  each = numbers_small (words_of text);
+}
+
+flags_ranged : (text : List ℕ) → AreKnown text → AreFlags (as_set (words_of text))
+flags_ranged text are = record {
+  count = omega (arith, are.few, count_of_set (words_of text));
+  ascend = Ascend-as_set (words_of text);
+  each = each_of_set IsName (words_of text) are.names;
+}
+
+params_few : (text : List ℕ) → AreFew 1024 text → AreVoteParams (params_in text)
+params_few text few =
+    let are = params_ranged text in record { count = omega (arith, few, are.1); each = are.0 }
+
+module _ (bytes : List ℕ) where
+  versions_at : (span : Option Span) → IfSome (option_map versions_in (option_map (part bytes) span)) AreVersionsInRange
+  versions_at span =
+      let text = option_map (part bytes) span in
+      made_if (λ t. Unit {0}) AreVersionsInRange versions_in text (any_text text) (λ t is. versions_ranged t)
+
+  protocols_at : (span : Option Span)
+      → IfSome (option_map protocols_in (option_map (part bytes) span)) AreProtocolsInRange
+  protocols_at span =
+      let text = option_map (part bytes) span in
+      made_if (λ t. Unit {0}) AreProtocolsInRange protocols_in text (any_text text) (λ t is. protocols_ranged t)
+
+  lists_ranged : (spans : ListSpans) → IfSome (option_map (part bytes) spans.params) (AreFew 1024)
+      → AreListsInRange (vote_lists bytes spans)
+  lists_ranged spans few = record {
+    client_versions = versions_at spans.client_versions;
+    server_versions = versions_at spans.server_versions;
+    recommended_client_protocols = protocols_at spans.recommended_client_protocols;
+    recommended_relay_protocols = protocols_at spans.recommended_relay_protocols;
+    required_client_protocols = protocols_at spans.required_client_protocols;
+    required_relay_protocols = protocols_at spans.required_relay_protocols;
+    params = made_if (AreFew 1024) AreVoteParams params_in (option_map (part bytes) spans.params) few params_few;
+  }
+
+  -- what is kept is in range, and its items may be written
+  pub facts_ranged : IsBytes bytes → (kept : Kept) → HeadIs bytes kept.head → AuthorityIs bytes kept.head
+      → AreKept bytes kept.entries → AreEntriesInRange (map (entry_in bytes) kept.entries)
+      → IsInRangeButForLimits (facts_of bytes kept)
+  facts_ranged are kept head authority entries ranged =
+      let methods =
+      made_if (AreFew 64) AreMethods numbers_in (option_map (part bytes) kept.head.methods) head.preamble.methods
+      methods_ranged in
+      let flags = flags_ranged (part bytes kept.head.known_flags) head.preamble.known_flags in
+      let lists = lists_ranged kept.head.lists head.preamble.params in
+      let signature : IsSignatureInRange (facts_of bytes kept).signature =
+      record { identity = head.signature.0; key_digest = head.signature.1 } in
+      let each = All-map IsEntryInRange (entry_in bytes) kept.entries
+      (All-weaker (IsKept bytes) (λ e. IsEntryInRange (entry_in bytes e)) (λ e is. is.says) kept.entries entries.each) in
+      let rests = All-map entry.HasRests (entry_in bytes) kept.entries
+      (All-weaker (IsKept bytes) (λ e. entry.HasRests (entry_in bytes e)) (λ e is. is.rests) kept.entries entries.each) in
+      record {
+        methods = methods;
+        published = omega arith;
+        valid_after = omega arith;
+        fresh_until = omega arith;
+        valid_until = omega arith;
+        vote_seconds = head.preamble.vote_seconds;
+        dist_seconds = head.preamble.dist_seconds;
+        known_flags = flags;
+        lists = lists;
+        nickname = authority.source.nickname;
+        identity = authority.source.identity;
+        address = authority.source.address;
+        ip = authority.source.ip;
+        dir_port = authority.source.dir_port;
+        or_port = authority.source.or_port;
+        certificate = head.certificate;
+        entries = ranged;
+        signature = signature;
+        items = vote_may (facts_of bytes kept) (record {
+          methods = methods;
+          known_flags = flags;
+          flag_thresholds = head.preamble.flag_thresholds;
+          lists = lists;
+          source = record {
+            nickname = authority.source.nickname;
+            identity = authority.source.identity;
+            address = authority.source.address;
+          };
+          contact = authority.contact;
+          certificate = head.certificate;
+          keys = has_bytes bytes kept.head.certificate are;
+          entries = each;
+          rests = rests;
+          signature = signature;
+          signed = object_bytes bytes kept.head.signature.signature are;
+        });
+      }
