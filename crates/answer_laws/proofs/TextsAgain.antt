@@ -1,0 +1,51 @@
+-- What is computed of an input of bytes is read again.
+use Rattle.std.proofs.Common.{ℕ, List, [], length, refl, sym, subst}
+use Rattle.std.specs.Prelude.{All}
+use Rattle.std.proofs.lemmas.List.{append-nil}
+use Rattle.std.proofs.lemmas.List.Elements.{All-nil, All-weaker}
+use Rattle.vote_terms.specs.Held.{held}
+use Rattle.vote_terms.specs.Votes.{ReadVote}
+use Rattle.consensus_terms.specs.Texts.{unsigned}
+use Rattle.consensus_terms.specs.declared.flavour.Flavour.{Flavour}
+use Rattle.consensus_terms.specs.declared.flavour.Flavour.TheVariants.{Ns, Microdesc}
+use Rattle.compute_terms.specs.Consensuses.{consensus}
+use Rattle.computed_laws.specs.Computed.{IsVoteInRange}
+use Rattle.computed_laws.specs.WithinLimits.{FillsLines, IsSignature}
+use Rattle.computed_laws.proofs.ComputedItems.{again_within}
+use Rattle.daemon_words.specs.declared.command.Flavours.{Flavours}
+use Rattle.daemon_words.specs.declared.command.Flavours.TheVariants as flavours
+use Rattle.compute_command.specs.Answers.{texts_of}
+use Rattle.answer_laws.specs.Texts.{AnswersAreReadAgain, IsReadAgain, IsReadAs, IsReadAsWanted}
+use Rattle.answer_laws.specs.Votes.{IsFit, VotesOfInputsAreFit}
+
+-- the text of what is computed of votes that are fit
+text_again : (flavour : Flavour) (roster : ℕ) (votes : List ReadVote) → All IsFit votes
+    → IsReadAgain flavour roster votes (unsigned flavour (consensus roster votes))
+text_again flavour roster votes fit =
+    let are = All-weaker IsFit (λ (vote : ReadVote). IsVoteInRange vote.says) (λ vote is. is.in_range) votes fit in
+    let fill = All-weaker IsFit (λ (vote : ReadVote). FillsLines vote.says) (λ vote is. is.fills) votes fit in
+    let text = unsigned flavour (consensus roster votes) in
+    record {
+      alone = λ within. subst (IsReadAs flavour roster votes []) (append-nil text)
+          (again_within flavour roster votes [] are fill (All-nil IsSignature) within);
+      behind = λ lines signed_ within. again_within flavour roster votes lines are fill signed_ within;
+    }
+
+-- so it is in the flavours that are wanted
+wanted_again : (wanted : Flavours) (roster : ℕ) (votes : List ReadVote) → All IsFit votes
+    → IsReadAsWanted wanted roster votes (texts_of wanted (consensus roster votes))
+wanted_again flavours.Ns roster votes fit = text_again Ns roster votes fit
+wanted_again flavours.Microdesc roster votes fit = text_again Microdesc roster votes fit
+wanted_again flavours.Both roster votes fit = record {
+  stand = refl;
+  ns = text_again Ns roster votes fit;
+  microdesc = text_again Microdesc roster votes fit;
+}
+
+-- by what the votes of an input are
+pub answers_again : VotesOfInputsAreFit → AnswersAreReadAgain
+answers_again fit rules wanted bytes text are is =
+    let votes = held is.votes in
+    let roster : ℕ = length wanted.roster in
+    subst (IsReadAsWanted wanted.flavours roster votes) (sym is.written)
+    (wanted_again wanted.flavours roster votes (fit bytes is.votes are is.read).1)

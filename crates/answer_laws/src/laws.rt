@@ -1,0 +1,31 @@
+// That what is computed of an input of bytes can be read.
+ghost use Rattle.answer_laws.specs.Texts.{AnswersAreReadAgain};
+ghost use Rattle.answer_laws.specs.Votes.{VotesInRangeAreFit, VotesOfInputsAreFit, VotesReadAreFit};
+
+use input_laws::inputs_are_votes;
+
+/// A law: a vote that is in range, but for the limits, is in range where a consensus takes something of it, and its texts may be
+/// the rests of lines. So it is fit.
+pub fn votes_in_range_are_fit()
+    ensures { VotesInRangeAreFit }
+{}
+
+/// A law: a vote that was read from bytes is fit.
+pub fn votes_read_are_fit()
+    ensures { VotesReadAreFit }
+{}
+
+/// A law: so is each vote of an input of bytes, and each that is held of them.
+pub fn votes_of_inputs_are_fit()
+    ensures { VotesOfInputsAreFit }
+{
+    inputs_are_votes();
+}
+
+/// A law: the text that the command `compute` answers to an input of bytes, alone and with signatures behind it, is read as the
+/// consensus of the votes that are held of the input, where no line, no object and not the whole passes its limit.
+pub fn answers_are_read_again()
+    ensures { AnswersAreReadAgain }
+{
+    votes_of_inputs_are_fit();
+}
