@@ -16,6 +16,7 @@ use Rattle.micro_desc.specs.Reading.{micro_of}
 use Rattle.daemon_words.specs.declared.command.Kind.{Kind}
 use Rattle.daemon_words.specs.declared.command.Kind.TheVariants as kind
 use Rattle.document_commands.specs.Blanks.{after_blanks}
+use Rattle.document_commands.specs.NextMicro.{first_micro}
 
 -- what was read: a line for each kind
 pub data Document : Type 0 where
@@ -46,4 +47,4 @@ document_of kind.Vote bytes = as_document vote (whole bytes (vote_of bytes))
 document_of kind.Cert bytes = as_document cert (whole bytes (cert_of bytes))
 document_of kind.Consensus bytes = as_document consensus (whole bytes (consensus_of bytes))
 document_of kind.Descriptor bytes = as_document descriptor (whole bytes (descriptor_of bytes))
-document_of kind.Micro bytes = as_document micro (whole bytes (micro_of bytes))
+document_of kind.Micro bytes = as_document micro (whole bytes (first_micro bytes (micro_of bytes)))

@@ -1,4 +1,5 @@
 pub mod Blanks
+pub mod NextMicro
 pub mod Documents
 pub mod Answers
 pub mod Private

@@ -7,6 +7,7 @@ mod commands;
 mod consensus;
 mod descriptor;
 mod micro;
+mod next_micro;
 mod one;
 mod vote;
 

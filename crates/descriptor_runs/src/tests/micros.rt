@@ -53,7 +53,7 @@ fn a_microdescriptor_is_shown_in_one_text(rt: HostRuntime) -> Result<(), Fail> {
 
 #[test]
 fn other_texts_are_no_microdescriptor(rt: HostRuntime) -> Result<(), Fail> {
-    let cases: [(&str, usize, &str); 6] = [
+    let cases: [(&str, usize, &str); 10] = [
         ("", 0, "missing onion-key"),
         ("onion-key", 9, "unterminated"),
         ("onion-key\nfamily a\nfamily b\n", 19, "twice family"),
@@ -61,6 +61,19 @@ fn other_texts_are_no_microdescriptor(rt: HostRuntime) -> Result<(), Fail> {
         ("onion-key\nid rsa1024 1-65535\n", 21, "value"),
         // A second microdescriptor begins with the next `onion-key`.
         ("onion-key\nonion-key\n", 10, "order"),
+        // Whatever is wrong with its line or its object.
+        ("onion-key\n\nonion-key", 11, "order"),
+        ("onion-key\nonion-key a\n-----BEGIN X-----\n", 10, "order"),
+        (
+            "onion-key\nfamily a\nonion-key\n-----BEGIN X-----\n?\n-----END X-----\n",
+            19,
+            "order",
+        ),
+        (
+            "onion-key\nonion-keys\n-----BEGIN X-----\n",
+            39,
+            "unterminated",
+        ),
     ];
     for (text, place, reason) in cases {
         assert_fault(rt.alloc(), whole(&CHECK, text.as_bytes()), place, reason)?;
@@ -75,6 +88,8 @@ fn a_microdescriptor_has_65536_bytes_at_most(rt: HostRuntime) -> Result<(), Fail
     let letters = "a".repeat(alloc, 65_523)?;
     let most = format!(in alloc; "onion-key\nx {letters}\n")?;
     assert_gives(alloc, whole(&CHECK, most.as_bytes()), 0, "ok\n", "")?;
+    let two = format!(in alloc; "{most}onion-key\n")?;
+    assert_fault(alloc, whole(&CHECK, two.as_bytes()), 65_536, "order")?;
     let more = format!(in alloc; "onion-key\nx a{letters}\n")?;
     let limit = "limit microdescriptor 65536\n";
     assert_gives(alloc, whole(&CHECK, more.as_bytes()), 9, "", limit)

@@ -1,0 +1,51 @@
+-- Where the next microdescriptor begins, behind the one that an input begins with: with the line of an `onion-key`, whatever is
+-- wrong with this line or its object (dir-spec, "Computing microdescriptors").
+use Rattle.std.specs.Prelude.{ℕ, nat_le, Bool, false, List, drop, codes, Option, Some, None, Result, Ok, Err, option_and_then, if◌then◌else◌}
+use Rattle.std.specs.List.{fold}
+use Rattle.item_terms.specs.Items.{Item, items_of}
+use Rattle.item_terms.specs.Words.{strip, ends_or_blank}
+use Rattle.dirdoc_grammar.specs.Reading.{first_line}
+use Rattle.frame_terms.specs.declared.fault.FrameFault.{FrameFault}
+use Rattle.frame_terms.specs.declared.fault.FrameReason.TheVariants.{Order}
+use Rattle.frame_terms.specs.declared.fault.ReadRefusal.{ReadRefusal}
+use Rattle.frame_terms.specs.declared.fault.ReadRefusal.TheVariants.{Frame, Memory}
+use Rattle.micro_desc.specs.Reading.{max_micro}
+use Rattle.document_commands.specs.Blanks.{after_blanks}
+
+-- the place after the last of these items, if there is one
+abbrev pub after_last : List Item → Option ℕ
+after_last items = fold (λ before item. Some item.after) None items
+
+-- whether what follows a keyword ends it
+abbrev pub ends_keyword : Option (List ℕ) → Bool
+ends_keyword None = false
+ends_keyword (Some rest) = ends_or_blank rest
+
+-- whether the keyword of a line is `onion-key`
+abbrev pub is_onion_key : List ℕ → Bool
+is_onion_key line = ends_keyword (strip (codes "onion-key") line)
+
+-- this place, where such a line begins there
+abbrev pub if_onion_key : List ℕ → ℕ → Option ℕ
+if_onion_key bytes place = if is_onion_key (first_line (drop place bytes)).text then Some place else None
+
+-- where the next microdescriptor begins, behind the items that stand before the first fault of a line or an object
+abbrev pub next_micro : List ℕ → Option ℕ
+next_micro bytes =
+    option_and_then (if_onion_key bytes)
+    (option_and_then (λ after. after_blanks after bytes) (after_last (items_of max_micro bytes).items))
+
+-- the fault, or, where it stands behind the place where the next microdescriptor begins, that its line is out of order
+abbrev pub unless_behind : Option ℕ → FrameFault → FrameFault
+unless_behind None fault = fault
+unless_behind (Some next) fault = if nat_le next fault.place then record { place = next; reason = Order } else fault
+
+-- why an input is refused whose first microdescriptor was
+abbrev pub refused_of : List ℕ → ReadRefusal → ReadRefusal
+refused_of bytes (Frame fault) = Frame (unless_behind (next_micro bytes) fault)
+refused_of bytes Memory = Memory
+
+-- the microdescriptor that an input begins with, and the place after it, as it was read; or the first fault
+abbrev pub first_micro : {X : Type 0} → List ℕ → Result X ReadRefusal → Result X ReadRefusal
+first_micro bytes (Ok read) = Ok read
+first_micro bytes (Err refusal) = Err (refused_of bytes refusal)

@@ -1,0 +1,77 @@
+// Where the next microdescriptor begins.
+ghost use Rattle.std.specs.Prelude.{◌≡◌, ◌<◌, ◌^◌, length};
+ghost use Rattle.dirdoc_grammar.specs.Reading.{first_line};
+ghost use Rattle.item_terms.specs.Items.{items_of};
+ghost use Rattle.micro_desc.specs.Reading.{max_micro};
+ghost use Rattle.document_commands.specs.NextMicro as next;
+
+use crate::blanks::after_blanks;
+use dirdoc_grammar::Items;
+use frame_terms::{FrameFault, FrameReason, ReadRefusal};
+use memchr::memchr;
+
+/// How many bytes a microdescriptor may have.
+const MAX_MICRO: u64 = 65_536;
+
+/// The refusal of an input whose first microdescriptor was refused: a fault in the line or the object of the next one's
+/// `onion-key` is that this line is out of order.
+pub fn refused_of(bytes: &[u8], refusal: ReadRefusal) -> ReadRefusal
+    requires { length bytes.now < 2 ^ 61 }
+    ensures { result ≡ next.refused_of bytes.now refusal }
+{
+    let ReadRefusal::Frame(fault) = refusal else {
+        return refusal;
+    };
+    match next_micro(bytes) {
+        Some(next) if next as u64 <= fault.place => ReadRefusal::Frame(FrameFault {
+            place: next as u64,
+            reason: FrameReason::Order,
+        }),
+        _ => refusal,
+    }
+}
+
+/// Where the next microdescriptor begins, behind the items that stand before the first fault of a line or an object.
+fn next_micro(bytes: &[u8]) -> Option<usize>
+    requires { length bytes.now < 2 ^ 61 }
+    ensures { result ≡ next.next_micro bytes.now }
+{
+    let after = after_last(bytes)?;
+    if after > bytes.len() as u64 {
+        return None;
+    }
+    let place = after_blanks(bytes, after as usize)?;
+    if is_onion_key(&bytes[place..]) {
+        Some(place)
+    } else {
+        None
+    }
+}
+
+/// The place after the last item that stands before the first fault of a line or an object.
+fn after_last(bytes: &[u8]) -> Option<u64>
+    requires { length bytes.now < 2 ^ 61 }
+    ensures { result ≡ next.after_last (items_of max_micro bytes.now).items }
+{
+    let mut items = Items::new(bytes, MAX_MICRO);
+    let mut after = None;
+    'items: while let Ok(Some(item)) = items.next() {
+        after = Some(item.after);
+    }
+    after
+}
+
+/// Whether the keyword of the first line is `onion-key`.
+fn is_onion_key(rest: &[u8]) -> bool
+    ensures { result ≡ next.is_onion_key (first_line rest.now).text }
+{
+    let line = match memchr(b'\n', rest) {
+        Some(len) => &rest[..len],
+        None => rest,
+    };
+    match line.strip_prefix(b"onion-key") {
+        Some([]) => true,
+        Some([first, ..]) => *first == b' ' || *first == b'\t',
+        None => false,
+    }
+}
