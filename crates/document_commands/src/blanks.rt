@@ -9,7 +9,8 @@ use memchr::memchr;
 pub fn after_blanks(bytes: &[u8], start: usize) -> Option<usize>
     requires within { start ≤ length bytes.now }
     requires short { length bytes.now < 2 ^ 61 }
-    ensures { result ≡ blanks.after_blanks start bytes.now }
+    ensures value { result ≡ blanks.after_blanks start bytes.now }
+    ensures inside { IfSome result (λ place. place < length bytes.now) }
 {
     let mut place = start;
     'lines: while place < bytes.len() {

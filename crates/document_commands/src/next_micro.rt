@@ -2,6 +2,7 @@
 ghost use Rattle.std.specs.Prelude.{◌≡◌, ◌<◌, ◌^◌, length};
 ghost use Rattle.dirdoc_grammar.specs.Reading.{first_line};
 ghost use Rattle.item_terms.specs.Items.{items_of};
+ghost use Rattle.item_terms.specs.Words.{ends_or_blank};
 ghost use Rattle.micro_desc.specs.Reading.{max_micro};
 ghost use Rattle.document_commands.specs.NextMicro as next;
 
@@ -41,7 +42,7 @@ fn next_micro(bytes: &[u8]) -> Option<usize>
         return None;
     }
     let place = after_blanks(bytes, after as usize)?;
-    if is_onion_key(&bytes[place..]) {
+    if is_onion_key(line_text(&bytes[place..])) {
         Some(place)
     } else {
         None
@@ -61,17 +62,32 @@ fn after_last(bytes: &[u8]) -> Option<u64>
     after
 }
 
-/// Whether the keyword of the first line is `onion-key`.
-fn is_onion_key(rest: &[u8]) -> bool
-    ensures { result ≡ next.is_onion_key (first_line rest.now).text }
+/// The text of the first line.
+fn line_text(rest: &[u8]) -> &[u8]
+    ensures { result.now ≡ (first_line rest.now).text }
 {
-    let line = match memchr(b'\n', rest) {
+    match memchr(b'\n', rest) {
         Some(len) => &rest[..len],
         None => rest,
-    };
+    }
+}
+
+/// Whether the keyword of a line is `onion-key`.
+fn is_onion_key(line: &[u8]) -> bool
+    ensures { result ≡ next.is_onion_key line.now }
+{
     match line.strip_prefix(b"onion-key") {
-        Some([]) => true,
-        Some([first, ..]) => *first == b' ' || *first == b'\t',
+        Some(rest) => ends_keyword(rest),
         None => false,
+    }
+}
+
+/// Whether a keyword ends before this: nothing follows, or a blank.
+fn ends_keyword(rest: &[u8]) -> bool
+    ensures { result ≡ ends_or_blank rest.now }
+{
+    match rest {
+        [] => true,
+        [first, ..] => *first == b' ' || *first == b'\t',
     }
 }

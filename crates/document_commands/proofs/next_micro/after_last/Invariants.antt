@@ -1,4 +1,4 @@
-use Rattle.std.proofs.Common.{◌≡◌, length, None}
+use Rattle.std.proofs.Common.{◌≡◌, length}
 use Rattle.std.specs.List.{fold}
 use Rattle.std.specs.Prelude.{Some}
 use Rattle.item_terms.specs.Items.{items_of}
