@@ -17,7 +17,7 @@ use dirdoc_grammar::{Item, Items};
 use frame_terms::{FrameReason, Group, Keyword, Made, Open, ReadRefusal, Taken};
 use std::alloc::{AllocError, Global};
 
-/// What is kept of a document of a kind. Its sections are handed over one after the other, each when it ends.
+/// What is kept of a document of a kind. Its sections are handed over one after the other, in the order in which they end.
 pub trait Facts<F: Frame> {
     /// What is kept after a section with these items.
     ghost with: { Self → F.Section → List (Taken F.Value) → Self };

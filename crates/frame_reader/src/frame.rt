@@ -39,7 +39,7 @@ pub trait Frame: Copy {
     fn shape(self, section: Self::Section) -> Shape<Self::Section>
         ensures { result ≡ (tables self).shape section };
 
-    /// The items of a section. The first row is that of the item that opens it.
+    /// The items of a section, a row for each that it knows.
     fn rows(self, section: Self::Section) -> &'static [Row<Self::Kind>]
         ensures { result.now ≡ (tables self).rows section };
 

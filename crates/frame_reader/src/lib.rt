@@ -1,4 +1,4 @@
-//! Documents are read by the tables of their kinds (dir-spec), without memory for an item. No kind is known here.
+//! Documents are read by the tables of their kinds (dir-spec). No kind is known here.
 #![tactic(auto)]
 
 mod decision;

@@ -35,7 +35,7 @@ impl Model for Rows {
 }
 
 impl Rows {
-    /// No entries, and room for so many.
+    /// No entries; `count` is how many to take room for.
     ///
     /// # Errors
     /// There was no memory.
