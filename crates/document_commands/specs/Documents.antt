@@ -12,7 +12,6 @@ use Rattle.consensus_doc.specs.Reading.{consensus_of}
 use Rattle.descriptor_doc.specs.declared.descriptor.Descriptor.{Descriptor}
 use Rattle.descriptor_doc.specs.Reading.{descriptor_of}
 use Rattle.micro_desc.specs.declared.micro.Micro.{Micro}
-use Rattle.micro_desc.specs.Reading.{micro_of}
 use Rattle.daemon_words.specs.declared.command.Kind.{Kind}
 use Rattle.daemon_words.specs.declared.command.Kind.TheVariants as kind
 use Rattle.document_commands.specs.Blanks.{after_blanks}
@@ -47,4 +46,4 @@ document_of kind.Vote bytes = as_document vote (whole bytes (vote_of bytes))
 document_of kind.Cert bytes = as_document cert (whole bytes (cert_of bytes))
 document_of kind.Consensus bytes = as_document consensus (whole bytes (consensus_of bytes))
 document_of kind.Descriptor bytes = as_document descriptor (whole bytes (descriptor_of bytes))
-document_of kind.Micro bytes = as_document micro (whole bytes (first_micro bytes (micro_of bytes)))
+document_of kind.Micro bytes = as_document micro (whole bytes (first_micro bytes))

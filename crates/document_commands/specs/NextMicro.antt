@@ -9,7 +9,8 @@ use Rattle.frame_terms.specs.declared.fault.FrameFault.{FrameFault}
 use Rattle.frame_terms.specs.declared.fault.FrameReason.TheVariants.{Order}
 use Rattle.frame_terms.specs.declared.fault.ReadRefusal.{ReadRefusal}
 use Rattle.frame_terms.specs.declared.fault.ReadRefusal.TheVariants.{Frame, Memory}
-use Rattle.micro_desc.specs.Reading.{max_micro}
+use Rattle.micro_desc.specs.declared.micro.Micro.{Micro}
+use Rattle.micro_desc.specs.Reading.{max_micro, micro_of}
 use Rattle.document_commands.specs.Blanks.{after_blanks}
 
 -- the place after the last of these items, if there is one
@@ -35,7 +36,7 @@ next_micro bytes =
     option_and_then (if_onion_key bytes)
     (option_and_then (λ after. after_blanks after bytes) (after_last (items_of max_micro bytes).items))
 
--- the fault, or, where it stands behind the place where the next microdescriptor begins, that its line is out of order
+-- the fault, or, where it stands at the place where the next microdescriptor begins or behind it, that its line is out of order
 abbrev pub unless_behind : Option ℕ → FrameFault → FrameFault
 unless_behind None fault = fault
 unless_behind (Some next) fault = if nat_le next fault.place then record { place = next; reason = Order } else fault
@@ -45,7 +46,11 @@ abbrev pub refused_of : List ℕ → ReadRefusal → ReadRefusal
 refused_of bytes (Frame fault) = Frame (unless_behind (next_micro bytes) fault)
 refused_of bytes Memory = Memory
 
--- the microdescriptor that an input begins with, and the place after it, as it was read; or the first fault
-abbrev pub first_micro : {X : Type 0} → List ℕ → Result X ReadRefusal → Result X ReadRefusal
-first_micro bytes (Ok read) = Ok read
-first_micro bytes (Err refusal) = Err (refused_of bytes refusal)
+-- what was read, or why the input is refused
+abbrev pub or_refused : {X : Type 0} → List ℕ → Result X ReadRefusal → Result X ReadRefusal
+or_refused bytes (Ok read) = Ok read
+or_refused bytes (Err refusal) = Err (refused_of bytes refusal)
+
+-- the microdescriptor that an input begins with, and the place after it; or the first fault
+abbrev pub first_micro : List ℕ → Result (Micro × ℕ) ReadRefusal
+first_micro bytes = or_refused bytes (micro_of bytes)

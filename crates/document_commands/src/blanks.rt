@@ -43,7 +43,8 @@ fn has_blanks_alone(text: &[u8]) -> bool
     text.iter().all(|b| is_blank(*b))
 }
 
-fn is_blank(b: u8) -> bool
+/// Whether a byte is a blank.
+pub fn is_blank(b: u8) -> bool
     ensures { result ≡ words.is_blank b }
 {
     b == b' ' || b == b'\t'

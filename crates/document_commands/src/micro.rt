@@ -1,5 +1,4 @@
 // A microdescriptor, as the commands see it.
-ghost use Rattle.micro_desc.specs.Reading.{micro_of};
 ghost use Rattle.micro_desc.specs.Texts.{micro_text};
 ghost use Rattle.document_commands.specs.NextMicro.{first_micro};
 
@@ -13,7 +12,7 @@ use micro_desc::Micro;
 use std::alloc::Global;
 
 impl Document for Micro {
-    ghost read_of = { λ bytes. first_micro bytes (micro_of bytes) };
+    ghost read_of = { first_micro };
 
     ghost is_fit = { λ micro. Unit {0} };
 

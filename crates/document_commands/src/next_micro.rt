@@ -6,7 +6,7 @@ ghost use Rattle.item_terms.specs.Words.{ends_or_blank};
 ghost use Rattle.micro_desc.specs.Reading.{max_micro};
 ghost use Rattle.document_commands.specs.NextMicro as next;
 
-use crate::blanks::after_blanks;
+use crate::blanks::{after_blanks, is_blank};
 use dirdoc_grammar::Items;
 use frame_terms::{FrameFault, FrameReason, ReadRefusal};
 use memchr::memchr;
@@ -88,6 +88,6 @@ fn ends_keyword(rest: &[u8]) -> bool
 {
     match rest {
         [] => true,
-        [first, ..] => *first == b' ' || *first == b'\t',
+        [first, ..] => is_blank(*first),
     }
 }
