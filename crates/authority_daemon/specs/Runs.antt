@@ -1,7 +1,8 @@
 -- What a whole run says: of the words, the input, what was written, and the counts of faults.
-use Rattle.std.specs.Prelude.{◌≡◌, ℕ, ◌<◌, ◌≤◌, List, [], ◌∷◌, length, take, Option, Some, None, Result, Ok, Err, Bool, true}
+use Rattle.std.specs.Prelude.{◌≡◌, ℕ, ◌+◌, ◌<◌, ◌≤◌, List, [], ◌∷◌, length, take, Option, Some, None, Result, Ok, Err, Bool, true}
 use Rattle.std.specs.Bool.{OnTrue}
 use Rattle.std.specs.Io.KnownBytes.{Appends, Keeps}
+use Rattle.dir_bytes.specs.Streams.{TakesAtMost}
 use Rattle.key_port.specs.Answers.{Rules}
 use Rattle.authority_daemon.specs.Commands.{Answerable}
 use Rattle.daemon_words.specs.declared.command.Command.{Command}
@@ -70,6 +71,12 @@ ReadsThrough c old new status.Memory = Unit {0}
 ReadsThrough c old new status.BadWords = Unit {0}
 ReadsThrough c old new status.ReadFault = Unit {0}
 ReadsThrough c old new status.TooLong = Unit {0}
+
+-- of an input that is too long, or that could not be read, bytes were taken off the front: at most the limit, and one piece
+abbrev pub StopsReading : Option (List ℕ) → Option (List ℕ) → Status → Type 0
+StopsReading old new status.TooLong = TakesAtMost old new (input_limit + 65536)
+StopsReading old new status.ReadFault = TakesAtMost old new (input_limit + 65536)
+StopsReading old new _ = Unit {0}
 
 -- the first count of some objects
 abbrev pub first_count : {X : Type 0} → (X → ℕ) → List X → ℕ

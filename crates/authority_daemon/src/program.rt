@@ -9,7 +9,7 @@ ghost use Rattle.exit_status.specs.Lines.{line_of};
 ghost use Rattle.exit_status.specs.Reports.{Reports};
 ghost use Rattle.exit_status.specs.Stops.{Answered};
 ghost use Rattle.authority_daemon.specs.Commands.{Answers, verifies, verifies_if};
-ghost use Rattle.authority_daemon.specs.Runs.{Told, KnowsWords, KeepsLimit, Ends, WritesOnlyAnswers, ReadsThrough, first_count, MustAnswer, IsBeforeVotes, IsDoneOrMemory};
+ghost use Rattle.authority_daemon.specs.Runs.{Told, KnowsWords, KeepsLimit, Ends, WritesOnlyAnswers, ReadsThrough, StopsReading, first_count, MustAnswer, IsBeforeVotes, IsDoneOrMemory};
 
 use bytes::Bytes;
 use compute_command::compute;
@@ -60,6 +60,8 @@ pub fn run<S: Source + Drop, K: Sink + Drop, E: Sink + Drop, V: Verifier + Drop>
     ensures limit { (c : Command) → grammar.command_of words.now ≡ Some c → Told (S.left outside.old.source) (λ bytes. KeepsLimit c bytes result) }
     // The input is read to its end, also where it is refused.
     ensures read { (c : Command) → grammar.command_of words.now ≡ Some c → ReadsThrough c (S.left outside.old.source) (S.left outside.new.source) result }
+    // Of an input that is too long, or that could not be read, at most the limit and one piece were taken.
+    ensures stops { StopsReading (S.left outside.old.source) (S.left outside.new.source) result }
     // Words that give no command leave the input as it was.
     ensures unread { grammar.command_of words.now ≡ None → outside.new.source ≡ outside.old.source }
     ensures read_fault { result ≡ Status.ReadFault → Rose (S.faults outside.old.source) (S.faults outside.new.source) }
@@ -112,6 +114,7 @@ fn run_command<S: Source, K: Sink, V: Verifier>(
     ensures written { WritesOnlyAnswers (K.written sink.old) (K.written sink.new) result }
     ensures limit { (c : Command) → grammar.command_of words.now ≡ Some c → Told (S.left source.old) (λ bytes. KeepsLimit c bytes result) }
     ensures read { (c : Command) → grammar.command_of words.now ≡ Some c → ReadsThrough c (S.left source.old) (S.left source.new) result }
+    ensures stops { StopsReading (S.left source.old) (S.left source.new) result }
     ensures unread { grammar.command_of words.now ≡ None → source.new ≡ source.old }
     ensures read_fault { result ≡ Status.ReadFault → Rose (S.faults source.old) (S.faults source.new) }
     ensures write_fault { result ≡ Status.WriteFault → Rose (K.faults sink.old) (K.faults sink.new) }
