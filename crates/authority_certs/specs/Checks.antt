@@ -1,10 +1,12 @@
 -- When a certificate holds (dir-spec, "Creating key certificates").
-use Rattle.std.specs.Prelude.{◌≡◌, ℕ, ◌<◌, ◌≤◌, Bool, true, false, List}
+use Rattle.std.specs.Prelude.{◌≡◌, ◌⊎◌, ℕ, ◌<◌, ◌≤◌, Bool, true, false, List}
 use Rattle.sha1.specs.Sha1.{sha1}
 use Rattle.dir_values.specs.Digests.{same_identity}
 use Rattle.dir_values.specs.declared.digest.Fingerprint.{Fingerprint}
-use Rattle.key_port.specs.Answers.{Relation, Rules}
+use Rattle.key_port.specs.Answers.{Relation, Rules, Steps}
 use Rattle.key_port.specs.declared.verifier.KeyKind.TheVariants as kind
+use Rattle.key_port.specs.declared.verifier.VerifyAnswer.{VerifyAnswer}
+use Rattle.key_port.specs.declared.verifier.VerifyAnswer.TheVariants as verified
 use Rattle.authority_certs.specs.declared.cert.Cert.{Cert}
 use Rattle.authority_certs.specs.declared.checking.CertAnswer.{CertAnswer}
 use Rattle.authority_certs.specs.declared.checking.CertAnswer.TheVariants as answer
@@ -47,11 +49,30 @@ Checks rules at cert answer.BadCrosscert =
     IsCurrent at cert × (certifies rules.may_accept cert ≡ true) × (crosscertifies rules.may_refuse cert ≡ true)
 Checks rules at cert answer.VerifierFault = IsCurrent at cert
 
--- Of a certificate that is not its identity key's, or has expired, the verifier is not asked: it stays as it was.
-abbrev pub AsksNobody : {V : Type 0} → CertAnswer → V → V → Type 0
-AsksNobody answer.Checked old new = Unit {0}
-AsksNobody answer.WrongFingerprint old new = new ≡ old
-AsksNobody (answer.Expired moment expires) old new = new ≡ old
-AsksNobody answer.BadCertification old new = Unit {0}
-AsksNobody answer.BadCrosscert old new = Unit {0}
-AsksNobody answer.VerifierFault old new = Unit {0}
+-- ---- what the verifier is asked
+
+-- the verifier is asked of the identity key's signature over the certificate, and answers so
+abbrev pub AsksCertification : {V : Type 0} → Steps V → Cert → V → VerifyAnswer → V → Type 0
+AsksCertification steps cert old result new =
+    steps old kind.Identity cert.identity_key cert.covered.0 cert.certification result new
+
+-- it is asked of the signing key's signature over the digest of the identity key, and answers so
+abbrev pub AsksCrosscert : {V : Type 0} → Steps V → Cert → V → VerifyAnswer → V → Type 0
+AsksCrosscert steps cert old result new =
+    steps old kind.Signing cert.signing_key (sha1 cert.identity_key) cert.crosscert result new
+
+-- it accepts the first of both, is asked of the second, and answers so
+abbrev pub AsksBoth : {V : Type 0} → Steps V → Cert → V → VerifyAnswer → V → Type 0
+AsksBoth {V} steps cert old result new =
+    (between : V) × AsksCertification steps cert old verified.Yes between × AsksCrosscert steps cert between result new
+
+-- All that the verifier is asked: of a certificate that is not its identity key's, or has expired, nothing; else its
+-- certification, and where that was accepted its crosscert.
+abbrev pub Asks : {V : Type 0} → Steps V → Cert → CertAnswer → V → V → Type 0
+Asks steps cert answer.Checked old new = AsksBoth steps cert old verified.Yes new
+Asks steps cert answer.WrongFingerprint old new = new ≡ old
+Asks steps cert (answer.Expired moment expires) old new = new ≡ old
+Asks steps cert answer.BadCertification old new = AsksCertification steps cert old verified.No new
+Asks steps cert answer.BadCrosscert old new = AsksBoth steps cert old verified.No new
+Asks steps cert answer.VerifierFault old new =
+    AsksCertification steps cert old verified.Fault new ⊎ AsksBoth steps cert old verified.Fault new

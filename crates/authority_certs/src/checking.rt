@@ -2,7 +2,7 @@
 ghost use Rattle.std.specs.Prelude.{◌≡◌, ◌≤◌, ◌<◌};
 ghost use Rattle.dir_bytes.specs.Causes.{Rose};
 ghost use Rattle.key_port.specs.Answers.{rules};
-ghost use Rattle.authority_certs.specs.Checks.{AsksNobody, Checks};
+ghost use Rattle.authority_certs.specs.Checks.{Asks, Checks};
 
 use crate::cert::Cert;
 use dir_values::Fingerprint;
@@ -31,14 +31,16 @@ pub enum CertAnswer {
 /// certificates"). Takes no memory.
 ///
 /// `Checked` where its fingerprint is the SHA-1 of its identity key, it expires after the moment, and the verifier
-/// accepted the certification and the crosscert; else the first of these that fails. `VerifierFault` exactly where the
-/// verifier's count of faults rose. For `WrongFingerprint` and `Expired` the verifier is not asked.
+/// accepted the certification and the crosscert; else the first of these that fails. `VerifierFault` only where the
+/// verifier's count of faults rose, and wherever it is greater. The verifier is asked of the certification and then of the
+/// crosscert, of none behind the first that it does not accept, and of nothing else; for `WrongFingerprint` and `Expired` it
+/// is not asked.
 pub fn check<V: Verifier>(cert: &Cert, at: u64, verifier: &mut V) -> CertAnswer
     ensures answer { Checks (rules V.may_accept V.may_refuse) at cert.now result }
     ensures fault { result ≡ CertAnswer.VerifierFault → Rose (V.faults verifier.old) (V.faults verifier.new) }
     ensures faults { V.faults verifier.old ≤ V.faults verifier.new }
     ensures told { V.faults verifier.old < V.faults verifier.new → result ≡ CertAnswer.VerifierFault }
-    ensures unasked { AsksNobody result verifier.old verifier.new }
+    ensures asked { Asks V.steps cert.now result verifier.old verifier.new }
 {
     let digest = Sha1::digest(cert.identity_key.as_bytes());
     if !cert.fingerprint.is_same(&Fingerprint(digest)) {

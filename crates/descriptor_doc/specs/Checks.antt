@@ -1,12 +1,12 @@
 -- When a descriptor holds (dir-spec, "Server descriptor format"; cert-spec).
-use Rattle.std.specs.Prelude.{◌≡◌, ℕ, ◌*◌, nat_le, Bool, true, false, ◌&&◌, ◌||◌, List}
+use Rattle.std.specs.Prelude.{◌≡◌, ◌⊎◌, ℕ, ◌*◌, nat_le, Bool, true, false, ◌&&◌, ◌||◌, List}
 use Rattle.std.specs.declared.option.Option.{Option}
 use Rattle.std.specs.declared.option.Option.TheVariants.{Some, None}
 use Rattle.std.specs.Str.{bytes_eq}
 use Rattle.dir_values.specs.Digests.{same_identity}
 use Rattle.dir_values.specs.declared.digest.Fingerprint.{Fingerprint}
 use Rattle.ed_certs.specs.declared.certificate.EdCert.{EdCert}
-use Rattle.key_port.specs.Answers.{Relation, Rules}
+use Rattle.key_port.specs.Answers.{Relation, Rules, Steps}
 use Rattle.key_port.specs.declared.verifier.KeyKind.TheVariants as kind
 use Rattle.key_port.specs.declared.verifier.VerifyAnswer.{VerifyAnswer}
 use Rattle.key_port.specs.declared.verifier.VerifyAnswer.TheVariants as answer
@@ -116,3 +116,55 @@ RefusedBy rules d refusal.BadEdSignature =
     (names_itself d ≡ true) × (signs rules.may_accept d ≡ true)
     × (is_ed_refused rules d.published d.identity_ed25519 d.router_sig_ed25519 ≡ true)
 RefusedBy rules d refusal.VerifierFault = names_itself d ≡ true
+
+-- ---- what the verifier is asked
+
+-- the verifier is asked of the signature of the descriptor's digest by its signing key, and answers so
+abbrev pub AsksSignature : {V : Type 0} → Steps V → Descriptor → V → VerifyAnswer → V → Type 0
+AsksSignature steps d old result new = steps old kind.Signing d.signing_key d.digest.0 d.router_signature result new
+
+-- it is asked of the signer's signature of a certificate, and answers so
+abbrev pub AsksCertificate : {V : Type 0} → Steps V → EdCert → V → VerifyAnswer → V → Type 0
+AsksCertificate steps certificate old result new =
+    steps old kind.Ed25519 certificate.signer certificate.covered certificate.signature result new
+
+-- it accepts that one, is asked of the certified key's signature of a descriptor, and answers so
+abbrev pub AsksBothEd : {V : Type 0} → Steps V → EdCert → EdSignature → V → VerifyAnswer → V → Type 0
+AsksBothEd {V} steps certificate signature old result new =
+    (between : V) × AsksCertificate steps certificate old answer.Yes between
+    × steps between kind.Ed25519 certificate.key signature.covered.0 signature.signature result new
+
+-- it is asked of both in turn, up to the first that it does not accept, and answers so
+abbrev pub AsksInTurn : {V : Type 0} → Steps V → EdCert → EdSignature → V → VerifyAnswer → V → Type 0
+AsksInTurn steps certificate signature old answer.Yes new = AsksBothEd steps certificate signature old answer.Yes new
+AsksInTurn steps certificate signature old answer.No new =
+    AsksCertificate steps certificate old answer.No new ⊎ AsksBothEd steps certificate signature old answer.No new
+AsksInTurn steps certificate signature old answer.Fault new =
+    AsksCertificate steps certificate old answer.Fault new ⊎ AsksBothEd steps certificate signature old answer.Fault new
+
+-- of a certificate that has expired it is not asked: it stays as it was
+abbrev pub AsksEd : {V : Type 0} → Steps V → ℕ → EdCert → EdSignature → V → VerifyAnswer → V → Type 0
+AsksEd steps published certificate signature old result new =
+    (has_expired published certificate ≡ true → new ≡ old)
+    × (has_expired published certificate ≡ false → AsksInTurn steps certificate signature old result new)
+
+-- the same of those that there are
+abbrev pub AsksEdIf : {V : Type 0} → Steps V → ℕ → Option EdCert → Option EdSignature → V → VerifyAnswer → V → Type 0
+AsksEdIf steps published (Some certificate) (Some signature) old result new =
+    AsksEd steps published certificate signature old result new
+AsksEdIf steps published _ _ old result new = new ≡ old
+
+-- it accepts the descriptor's signature, and then answers so of those of Ed25519
+abbrev pub AsksAll : {V : Type 0} → Steps V → Descriptor → V → VerifyAnswer → V → Type 0
+AsksAll {V} steps d old result new =
+    (between : V) × AsksSignature steps d old answer.Yes between
+    × AsksEdIf steps d.published d.identity_ed25519 d.router_sig_ed25519 between result new
+
+-- All that it is asked of a descriptor that is refused: of one that names another identity nothing; else of the descriptor's
+-- signature, and where it accepted that of those of Ed25519.
+abbrev pub AsksOfRefused : {V : Type 0} → Steps V → Descriptor → DescriptorRefusal → V → V → Type 0
+AsksOfRefused steps d refusal.IdentityMismatch old new = new ≡ old
+AsksOfRefused steps d refusal.BadSignature old new = AsksSignature steps d old answer.No new
+AsksOfRefused steps d refusal.BadEdSignature old new = AsksAll steps d old answer.No new
+AsksOfRefused steps d refusal.VerifierFault old new =
+    AsksSignature steps d old answer.Fault new ⊎ AsksAll steps d old answer.Fault new

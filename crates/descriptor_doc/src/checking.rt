@@ -2,8 +2,9 @@
 ghost use Rattle.std.specs.Prelude.{◌≡◌, ◌≤◌, ◌<◌, Err, IfOk, IfErr};
 ghost use Rattle.dir_bytes.specs.Causes.{Rose};
 ghost use Rattle.key_port.specs.Answers.{rules};
+ghost use Rattle.key_port.specs.declared.verifier.VerifyAnswer.TheVariants as verified;
 ghost use Rattle.descriptor_doc.specs.Checks as checks;
-ghost use Rattle.descriptor_doc.specs.Checks.{IsVerified, RefusedBy};
+ghost use Rattle.descriptor_doc.specs.Checks.{AsksAll, AsksOfRefused, IsVerified, RefusedBy};
 
 use crate::checked::CheckedDescriptor;
 use crate::descriptor::{Descriptor, EdSignature};
@@ -93,6 +94,7 @@ fn verify_ed<V: Verifier>(
     ensures fault { result ≡ VerifyAnswer.Fault → Rose (V.faults verifier.old) (V.faults verifier.new) }
     ensures faults { V.faults verifier.old ≤ V.faults verifier.new }
     ensures told { V.faults verifier.old < V.faults verifier.new → result ≡ VerifyAnswer.Fault }
+    ensures asked { checks.AsksEd V.steps published certificate.now signature.now verifier.old result verifier.new }
 {
     if has_expired(published, certificate) {
         return VerifyAnswer::No;
@@ -119,6 +121,7 @@ fn verify_ed_if<V: Verifier>(descriptor: &Descriptor, verifier: &mut V) -> Verif
     ensures fault { result ≡ VerifyAnswer.Fault → Rose (V.faults verifier.old) (V.faults verifier.new) }
     ensures faults { V.faults verifier.old ≤ V.faults verifier.new }
     ensures told { V.faults verifier.old < V.faults verifier.new → result ≡ VerifyAnswer.Fault }
+    ensures asked { checks.AsksEdIf V.steps descriptor.now.published descriptor.now.identity_ed25519 descriptor.now.router_sig_ed25519 verifier.old result verifier.new }
 {
     match (&descriptor.identity_ed25519, &descriptor.router_sig_ed25519) {
         (Some(certificate), Some(signature)) => {
@@ -138,7 +141,8 @@ fn refusal_of<V: Verifier>(
     ensures fault { IfErr result (λ refusal. refusal ≡ DescriptorRefusal.VerifierFault → Rose (V.faults verifier.old) (V.faults verifier.new)) }
     ensures faults { V.faults verifier.old ≤ V.faults verifier.new }
     ensures told { V.faults verifier.old < V.faults verifier.new → result ≡ Err DescriptorRefusal.VerifierFault }
-    ensures unasked { result ≡ Err DescriptorRefusal.IdentityMismatch → verifier.new ≡ verifier.old }
+    ensures asked { IfOk result (λ _. AsksAll V.steps descriptor.now verifier.old verified.Yes verifier.new) }
+    ensures refused_asked { IfErr result (λ refusal. AsksOfRefused V.steps descriptor.now refusal verifier.old verifier.new) }
 {
     if !names_itself(descriptor) {
         return Err(DescriptorRefusal::IdentityMismatch);
@@ -167,7 +171,9 @@ fn refusal_of<V: Verifier>(
 /// # Errors
 /// The first that applies: `IdentityMismatch` where it names another identity than it has, for which the verifier is not asked;
 /// `BadSignature` where its signature was refused; `BadEdSignature` where its Ed25519 certificate had expired when it was
-/// published, or one of both Ed25519 signatures was refused; `VerifierFault` exactly where the verifier's count of faults rose.
+/// published, or one of both Ed25519 signatures was refused; `VerifierFault` only where the verifier's count of faults rose, and
+/// wherever it is greater. The verifier is asked in this order, of none behind the first that it does not accept, and of nothing
+/// else.
 pub fn check<V: Verifier>(
     descriptor: Descriptor,
     verifier: &mut V,
@@ -177,7 +183,8 @@ pub fn check<V: Verifier>(
     ensures fault { IfErr result (λ refusal. refusal ≡ DescriptorRefusal.VerifierFault → Rose (V.faults verifier.old) (V.faults verifier.new)) }
     ensures faults { V.faults verifier.old ≤ V.faults verifier.new }
     ensures told { V.faults verifier.old < V.faults verifier.new → result ≡ Err DescriptorRefusal.VerifierFault }
-    ensures unasked { result ≡ Err DescriptorRefusal.IdentityMismatch → verifier.new ≡ verifier.old }
+    ensures asked { IfOk result (λ _. AsksAll V.steps descriptor verifier.old verified.Yes verifier.new) }
+    ensures refused_asked { IfErr result (λ refusal. AsksOfRefused V.steps descriptor refusal verifier.old verifier.new) }
 {
     match refusal_of(&descriptor, verifier) {
         Ok(()) => Ok(CheckedDescriptor::new(descriptor)),

@@ -84,6 +84,10 @@ impl<D: Dial> Verifier for ServiceKeys<D> {
 
     ghost faults = { λ s. s.faults };
 
+    ghost steps = { λ before kind key message signature answer after.
+        services.Serves D.In.left D.In.faults D.Out.written D.Out.faults D.gives before.dial after.dial
+        before.connection after.connection (request_text kind key message signature) answer };
+
     fn verify(
         &mut self,
         kind: KeyKind,
@@ -95,7 +99,7 @@ impl<D: Dial> Verifier for ServiceKeys<D> {
         ensures cause { CountsAnswers self.old.faults self.new.faults result }
         // Exactly each fault is counted.
         ensures faults { self.new.faults ≡ faults_after self.old.faults result }
-        ensures serves { services.Serves D.In.left D.In.faults D.Out.written D.Out.faults D.gives self.old.dial self.new.dial
+        ensures step { services.Serves D.In.left D.In.faults D.Out.written D.Out.faults D.gives self.old.dial self.new.dial
             self.old.connection self.new.connection (request_text kind key.now message.now signature.now) result }
         ensures long { services.RefusesLong self.old.dial self.new.dial self.new.connection (request_text kind key.now message.now signature.now) result }
     {

@@ -75,6 +75,8 @@ impl Verifier for TestKeys {
 
     ghost faults = { λ s. s.faults };
 
+    ghost steps = { λ before kind key message signature answer after. scheme.IsNextKeys before after answer };
+
     fn verify(
         &mut self,
         kind: KeyKind,
@@ -85,7 +87,7 @@ impl Verifier for TestKeys {
         ensures answer { AnswersBy (scheme.is_test_signature kind key.now message.now signature.now) (not (scheme.is_test_signature kind key.now message.now signature.now)) result }
         ensures cause { CountsAnswers self.old.faults self.new.faults result }
         ensures fails { scheme.FailsByNumber self.old result }
-        ensures next { scheme.IsNextKeys self.old self.new result }
+        ensures step { scheme.IsNextKeys self.old self.new result }
     {
         self.calls = self.calls.saturating_add(1);
         if self.failing.contains(&self.calls) {

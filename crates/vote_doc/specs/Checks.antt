@@ -2,14 +2,15 @@
 use Rattle.std.specs.Prelude.{◌≡◌, ◌⊎◌, ℕ, ◌≤◌, true, false, List}
 use Rattle.dir_values.specs.Digests.{same_identity}
 use Rattle.dir_values.specs.declared.digest.Fingerprint.{Fingerprint}
-use Rattle.key_port.specs.Answers.{Rules}
+use Rattle.key_port.specs.Answers.{Rules, Steps}
+use Rattle.key_port.specs.declared.verifier.KeyKind.TheVariants as kind
 use Rattle.key_port.specs.declared.verifier.VerifyAnswer.{VerifyAnswer}
 use Rattle.key_port.specs.declared.verifier.VerifyAnswer.TheVariants as verified
-use Rattle.authority_certs.specs.Checks.{AsksNobody, IsCertified, IsCurrent, certifies, crosscertifies}
+use Rattle.authority_certs.specs.Checks.{Asks, AsksBoth, IsCertified, IsCurrent, certifies, crosscertifies}
 use Rattle.authority_certs.specs.declared.checking.CertAnswer.{CertAnswer}
 use Rattle.authority_certs.specs.declared.checking.CertAnswer.TheVariants as answer
 use Rattle.vote_terms.specs.Votes.{ReadVote}
-use Rattle.vote_terms.specs.Acceptable.{IsAsked, Refuses, has_fingerprint, names_signer, signs}
+use Rattle.vote_terms.specs.Acceptable.{IsAsked, Refuses, has_fingerprint, names_signer, signed_digest, signs}
 use Rattle.vote_terms.specs.declared.word.VoteWord.TheVariants as word
 use Rattle.vote_doc.specs.declared.check.VoteRefusal.{VoteRefusal}
 use Rattle.vote_doc.specs.declared.check.VoteRefusal.TheVariants.{WrongPeriod, UnknownAuthority, Cert, BadSignature, VerifierFault}
@@ -33,14 +34,30 @@ RefusedBy rules roster period vote (Cert answer) = RefusedByCert rules roster pe
 RefusedBy rules roster period vote BadSignature = Refuses rules roster period vote word.Signature
 RefusedBy rules roster period vote VerifierFault = IsAsked roster period vote
 
--- where the vote is of another period or of no member of the roster, or its certificate's answer asks nobody, the verifier
--- is not asked: it stays as it was
-abbrev pub RefusedUnasked : {V : Type 0} → VoteRefusal → V → V → Type 0
-RefusedUnasked (WrongPeriod valid_after) old new = new ≡ old
-RefusedUnasked UnknownAuthority old new = new ≡ old
-RefusedUnasked (Cert answer) old new = AsksNobody answer old new
-RefusedUnasked BadSignature old new = Unit {0}
-RefusedUnasked VerifierFault old new = Unit {0}
+-- ---- what the verifier is asked
+
+-- the verifier is asked of the signing key's signature over the vote where it names its signer, and answers so; else it is not
+-- asked: it stays as it was
+abbrev pub AsksSignature : {V : Type 0} → Steps V → ReadVote → V → VerifyAnswer → V → Type 0
+AsksSignature steps vote old result new =
+    (names_signer vote ≡ false → new ≡ old)
+    × (names_signer vote ≡ true
+    → steps old kind.Signing vote.says.certificate.signing_key (signed_digest vote) vote.says.signature.signature result new)
+
+-- it accepts both signatures of the certificate, and then answers so of the vote's
+abbrev pub AsksAll : {V : Type 0} → Steps V → ReadVote → V → VerifyAnswer → V → Type 0
+AsksAll {V} steps vote old result new =
+    (between : V) × AsksBoth steps vote.says.certificate old verified.Yes between × AsksSignature steps vote between result new
+
+-- All that the verifier is asked of a vote that is refused: where it is of another period or of no member of the roster, nothing;
+-- else of its certificate, and where that holds of its signature.
+abbrev pub AsksOfRefused : {V : Type 0} → Steps V → ReadVote → VoteRefusal → V → V → Type 0
+AsksOfRefused steps vote (WrongPeriod valid_after) old new = new ≡ old
+AsksOfRefused steps vote UnknownAuthority old new = new ≡ old
+AsksOfRefused steps vote (Cert answer) old new = Asks steps vote.says.certificate answer old new
+AsksOfRefused steps vote BadSignature old new = AsksAll steps vote old verified.No new
+AsksOfRefused steps vote VerifierFault old new =
+    Asks steps vote.says.certificate answer.VerifierFault old new ⊎ AsksAll steps vote old verified.Fault new
 
 -- ---- what the private functions say
 

@@ -12,7 +12,7 @@ use std::alloc::Global;
 use std::marker::Model;
 use vote_terms::Rank;
 
-/// The votes that are held. `place` keeps at most one for each authority, ascending by identity.
+/// The votes that are held, in the order in which `place` puts them: by identity, at most one for each authority.
 #[derive(Drop)]
 pub struct Accepted {
     votes: Vec<HeldVote>,
@@ -52,7 +52,7 @@ fn is_above(a: &Rank, b: &Rank) -> bool
 }
 
 impl Accepted {
-    /// No votes, with room for so many.
+    /// No votes, of which so many may be held.
     ///
     /// # Errors
     /// `Memory` is want of memory.
@@ -70,7 +70,7 @@ impl Accepted {
         self.votes.len()
     }
 
-    /// The held vote with this number, from 0, ascending by identity.
+    /// The held vote with this number, from 0.
     pub fn vote(&self, i: usize) -> &HeldVote
         requires { i < length self.now.votes }
         ensures { result.now ≡ slice_index_or self.now.votes i result.now }

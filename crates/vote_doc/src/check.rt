@@ -2,11 +2,12 @@
 ghost use Rattle.std.specs.Prelude.{◌≡◌, ◌≤◌, ◌<◌, Err, IfOk, IfErr};
 ghost use Rattle.dir_bytes.specs.Causes.{Rose};
 ghost use Rattle.key_port.specs.Answers.{rules};
-ghost use Rattle.authority_certs.specs.Checks.{AsksNobody};
+ghost use Rattle.key_port.specs.declared.verifier.VerifyAnswer.TheVariants as verified;
+ghost use Rattle.authority_certs.specs.Checks.{Asks};
 ghost use Rattle.vote_terms.specs.Acceptable as acceptable;
 ghost use Rattle.vote_terms.specs.Acceptable.{IsAcceptable};
 ghost use Rattle.vote_terms.specs.Votes.{vote_digest};
-ghost use Rattle.vote_doc.specs.Checks.{ChecksCert, ChecksSignature, RefusedBy, RefusedUnasked};
+ghost use Rattle.vote_doc.specs.Checks.{AsksAll, AsksOfRefused, AsksSignature, ChecksCert, ChecksSignature, RefusedBy};
 
 use crate::checked::CheckedVote;
 use crate::vote::Vote;
@@ -38,7 +39,7 @@ fn check_certificate<V: Verifier>(vote: &Vote, at: u64, verifier: &mut V) -> Cer
     ensures fault { result ≡ CertAnswer.VerifierFault → Rose (V.faults verifier.old) (V.faults verifier.new) }
     ensures faults { V.faults verifier.old ≤ V.faults verifier.new }
     ensures told { V.faults verifier.old < V.faults verifier.new → result ≡ CertAnswer.VerifierFault }
-    ensures unasked { AsksNobody result verifier.old verifier.new }
+    ensures asked { Asks V.steps vote.now.says.certificate result verifier.old verifier.new }
 {
     if !vote.certificate().fingerprint.is_same(&vote.identity()) {
         return CertAnswer::WrongFingerprint;
@@ -63,6 +64,7 @@ fn check_signature<V: Verifier>(vote: &Vote, digest: &Digest1, verifier: &mut V)
     ensures fault { result ≡ VerifyAnswer.Fault → Rose (V.faults verifier.old) (V.faults verifier.new) }
     ensures faults { V.faults verifier.old ≤ V.faults verifier.new }
     ensures told { V.faults verifier.old < V.faults verifier.new → result ≡ VerifyAnswer.Fault }
+    ensures asked { AsksSignature V.steps vote.now verifier.old result verifier.new }
 {
     if !names_signer(vote) {
         return VerifyAnswer::No;
@@ -92,7 +94,8 @@ fn digest_if_acceptable<V: Verifier>(
     ensures fault { IfErr result (λ refusal. refusal ≡ VoteRefusal.VerifierFault → Rose (V.faults verifier.old) (V.faults verifier.new)) }
     ensures faults { V.faults verifier.old ≤ V.faults verifier.new }
     ensures told { V.faults verifier.old < V.faults verifier.new → result ≡ Err VoteRefusal.VerifierFault }
-    ensures unasked { IfErr result (λ refusal. RefusedUnasked refusal verifier.old verifier.new) }
+    ensures asked { IfOk result (λ _. AsksAll V.steps vote.now verifier.old verified.Yes verifier.new) }
+    ensures refused_asked { IfErr result (λ refusal. AsksOfRefused V.steps vote.now refusal verifier.old verifier.new) }
 {
     if vote.valid_after() != valid_after {
         let valid_after = vote.valid_after();
@@ -121,8 +124,10 @@ fn digest_if_acceptable<V: Verifier>(
 /// # Errors
 /// The first that applies: `WrongPeriod` where it is for another period, `UnknownAuthority` where the roster lacks its
 /// authority, `Cert` where its certificate does not hold, `BadSignature` where its signature does not; `VerifierFault`
-/// exactly where the verifier's count of faults rose. For `WrongPeriod`, `UnknownAuthority`, and `Cert` of
-/// `WrongFingerprint` or `Expired` the verifier is not asked.
+/// only where the verifier's count of faults rose, and wherever it is greater. The verifier is asked of the certificate's two
+/// signatures and then of the vote's, of none behind the first that it does not accept, and of nothing else; it is not asked
+/// for `WrongPeriod`, `UnknownAuthority`, and `Cert` of `WrongFingerprint` or `Expired`, nor of a signature that names another
+/// authority or key than the certificate.
 pub fn check_vote<V: Verifier>(
     vote: Vote,
     roster: &Roster,
@@ -134,7 +139,8 @@ pub fn check_vote<V: Verifier>(
     ensures fault { IfErr result (λ refusal. refusal ≡ VoteRefusal.VerifierFault → Rose (V.faults verifier.old) (V.faults verifier.new)) }
     ensures faults { V.faults verifier.old ≤ V.faults verifier.new }
     ensures told { V.faults verifier.old < V.faults verifier.new → result ≡ Err VoteRefusal.VerifierFault }
-    ensures unasked { IfErr result (λ refusal. RefusedUnasked refusal verifier.old verifier.new) }
+    ensures asked { IfOk result (λ _. AsksAll V.steps vote verifier.old verified.Yes verifier.new) }
+    ensures refused_asked { IfErr result (λ refusal. AsksOfRefused V.steps vote refusal verifier.old verifier.new) }
 {
     match digest_if_acceptable(&vote, roster, valid_after, verifier) {
         Ok(digest) => Ok(CheckedVote::new(vote, digest)),

@@ -35,7 +35,7 @@ impl Facts<VoteFrame> for Kept {
     }
 }
 
-/// What is kept where nothing was read, with room for so many entries.
+/// What is kept where nothing was read.
 ///
 /// # Errors
 /// There was no memory.

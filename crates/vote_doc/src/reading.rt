@@ -31,8 +31,7 @@ fn vote_of(alloc: Global, bytes: &Bytes, kept: Kept) -> Result<Vote, Memory>
 }
 
 /// The vote that begins at the byte `start` of the bytes, behind blank lines if there are some, and the place after it: it ends
-/// with the object of its `directory-signature`. The vote shares the bytes: none is copied, and they
-/// are kept for as long as it is.
+/// with the object of its `directory-signature`. The vote shares the bytes, which are kept for as long as it is.
 ///
 /// # Errors
 /// `Frame` is the first fault of the vote: what is wrong and at which byte, counted from the first of the bytes. `Memory` is want of
