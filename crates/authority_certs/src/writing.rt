@@ -1,5 +1,5 @@
 // Writing a certificate.
-ghost use Rattle.std.specs.Prelude.{◌≡◌, ◌++◌, IfOk, OnOk};
+ghost use Rattle.std.specs.Prelude.{◌≡◌, ◌++◌, IfOk, OnOk, OnErr, take, vec_len};
 ghost use Rattle.dir_bytes.specs.FieldTexts.{hex_text};
 ghost use Rattle.dirdoc_grammar.specs.Writing.{item_text, items_text};
 ghost use Rattle.frame_values.specs.Items as items;
@@ -14,7 +14,8 @@ use std::alloc::Global;
 
 // The item that says whose a certificate is.
 fn push_identity(out: &mut Vec<u8>, alloc: Global, identity: Fingerprint) -> Result<(), Memory>
-    ensures { OnOk result (out.new.items ≡ out.old.items ++ item_text (items.bare Keyword.Fingerprint (hex_text identity.0))) }
+    ensures ok { OnOk result (out.new.items ≡ out.old.items ++ item_text (items.bare Keyword.Fingerprint (hex_text identity.0))) }
+    ensures err { OnErr result (take (vec_len out.old) out.new.items ≡ out.old.items) }
 {
     let mut rest = Vec::new(alloc);
     push_hex_upper(&mut rest, &identity.0)?;
@@ -23,7 +24,8 @@ fn push_identity(out: &mut Vec<u8>, alloc: Global, identity: Fingerprint) -> Res
 
 // Whose certificate it is.
 fn push_holder(out: &mut Vec<u8>, alloc: Global, cert: &Cert) -> Result<(), Memory>
-    ensures { OnOk result (out.new.items ≡ out.old.items ++ items_text (texts.holder_items cert.now)) }
+    ensures ok { OnOk result (out.new.items ≡ out.old.items ++ items_text (texts.holder_items cert.now)) }
+    ensures err { OnErr result (take (vec_len out.old) out.new.items ≡ out.old.items) }
 {
     push_bare(out, Keyword::DirKeyCertificateVersion, b"3")?;
     push_if(out, Keyword::DirAddress, &cert.address)?;
@@ -33,7 +35,8 @@ fn push_holder(out: &mut Vec<u8>, alloc: Global, cert: &Cert) -> Result<(), Memo
 
 // The certificate's keys and times.
 fn push_keys(out: &mut Vec<u8>, alloc: Global, cert: &Cert) -> Result<(), Memory>
-    ensures { OnOk result (out.new.items ≡ out.old.items ++ items_text (texts.key_items cert.now)) }
+    ensures ok { OnOk result (out.new.items ≡ out.old.items ++ items_text (texts.key_items cert.now)) }
+    ensures err { OnErr result (take (vec_len out.old) out.new.items ≡ out.old.items) }
 {
     let words = b"RSA PUBLIC KEY";
     push_with_object(out, Keyword::DirIdentityKey, b"", words, &cert.identity_key)?;
@@ -45,7 +48,8 @@ fn push_keys(out: &mut Vec<u8>, alloc: Global, cert: &Cert) -> Result<(), Memory
 
 // The certificate's signatures.
 fn push_proofs(out: &mut Vec<u8>, cert: &Cert) -> Result<(), Memory>
-    ensures { OnOk result (out.new.items ≡ out.old.items ++ items_text (texts.proof_items cert.now)) }
+    ensures ok { OnOk result (out.new.items ≡ out.old.items ++ items_text (texts.proof_items cert.now)) }
+    ensures err { OnErr result (take (vec_len out.old) out.new.items ≡ out.old.items) }
 {
     push_with_object(
         out,

@@ -1,5 +1,5 @@
 // What a consensus says of an authority, and by whom it is signed.
-ghost use Rattle.std.specs.Prelude.{◌≡◌, ◌++◌, IfOk, OnOk};
+ghost use Rattle.std.specs.Prelude.{◌≡◌, ◌++◌, IfOk, OnErr, OnOk};
 ghost use Rattle.frame_values.specs.Values.{item_at};
 ghost use Rattle.consensus_doc.specs.Drafts as drafts;
 
@@ -65,7 +65,8 @@ fn push_signature(
     bytes: &[u8],
     value: Value<ConsensusValue>,
 ) -> Result<(), Memory>
-    ensures { OnOk result (lines.new ≡ lines.old ++ drafts.signatures_in bytes.now value) }
+    ensures ok { OnOk result (lines.new ≡ lines.old ++ drafts.signatures_in bytes.now value) }
+    ensures err { OnErr result (lines.new ≡ lines.old) }
 {
     if let Value::Own(ConsensusValue::Signature(Some(kept))) = value {
         lines.push(signature_of(alloc, bytes, &kept)?)?;

@@ -1,5 +1,5 @@
 // The signatures of a consensus: what they are over, and the text with them.
-ghost use Rattle.std.specs.Prelude.{◌≡◌, ◌++◌, IfOk, OnOk};
+ghost use Rattle.std.specs.Prelude.{◌≡◌, ◌++◌, IfOk, OnOk, OnErr, take, vec_len};
 ghost use Rattle.std.specs.Ordering.{is_lt};
 ghost use Rattle.consensus_terms.specs.Signed as signed;
 ghost use Rattle.consensus_text.specs.Private as own;
@@ -82,7 +82,8 @@ fn in_order(alloc: Global, lines: &[SignatureLine]) -> Result<Vec<SignatureLine>
 
 /// The name of an algorithm and a space; SHA-1 is not named.
 fn push_algorithm(rest: &mut Vec<u8>, name: &[u8]) -> Result<(), Memory>
-    ensures { OnOk result (rest.new.items ≡ rest.old.items ++ signed.algorithm_text name.now) }
+    ensures ok { OnOk result (rest.new.items ≡ rest.old.items ++ signed.algorithm_text name.now) }
+    ensures err { OnErr result (take (vec_len rest.old) rest.new.items ≡ rest.old.items) }
 {
     if name != b"sha1".as_slice() {
         rest.extend_from_slice(name)?;
@@ -93,7 +94,8 @@ fn push_algorithm(rest: &mut Vec<u8>, name: &[u8]) -> Result<(), Memory>
 
 /// By whom a consensus is signed, and with which key.
 fn push_signer(rest: &mut Vec<u8>, line: &SignatureLine) -> Result<(), Memory>
-    ensures { OnOk result (rest.new.items ≡ rest.old.items ++ signed.signer_text line.now) }
+    ensures ok { OnOk result (rest.new.items ≡ rest.old.items ++ signed.signer_text line.now) }
+    ensures err { OnErr result (take (vec_len rest.old) rest.new.items ≡ rest.old.items) }
 {
     push_algorithm(rest, line.algorithm.as_bytes())?;
     push_hex_upper(rest, &line.identity.0)?;
@@ -104,7 +106,8 @@ fn push_signer(rest: &mut Vec<u8>, line: &SignatureLine) -> Result<(), Memory>
 /// A signature.
 #[tactic(auto, using(crate::proofs::Joined::texts), unfolding(consensus_terms::specs::Signed::signature_text))]
 fn push_signature(out: &mut Vec<u8>, alloc: Global, line: &SignatureLine) -> Result<(), Memory>
-    ensures { OnOk result (out.new.items ≡ out.old.items ++ signed.signature_text line.now) }
+    ensures ok { OnOk result (out.new.items ≡ out.old.items ++ signed.signature_text line.now) }
+    ensures err { OnErr result (take (vec_len out.old) out.new.items ≡ out.old.items) }
 {
     let mut rest = Vec::new(alloc);
     push_signer(&mut rest, line)?;
@@ -115,7 +118,8 @@ fn push_signature(out: &mut Vec<u8>, alloc: Global, line: &SignatureLine) -> Res
 
 /// Signatures, in this order.
 fn push_signatures(out: &mut Vec<u8>, alloc: Global, lines: &[SignatureLine]) -> Result<(), Memory>
-    ensures { OnOk result (out.new.items ≡ out.old.items ++ signed.signature_texts lines.now) }
+    ensures ok { OnOk result (out.new.items ≡ out.old.items ++ signed.signature_texts lines.now) }
+    ensures err { OnErr result (take (vec_len out.old) out.new.items ≡ out.old.items) }
 {
     'lines: for line in lines {
         push_signature(out, alloc, line)?;

@@ -1,5 +1,5 @@
 // What the items of a descriptor say. Where an item is not there, or says something else, its value is nothing.
-ghost use Rattle.std.specs.Prelude.{◌≡◌, ◌++◌, IfSome, IsTrue, OnOk, filter_map};
+ghost use Rattle.std.specs.Prelude.{◌≡◌, ◌++◌, IfSome, IsTrue, OnErr, OnOk, filter_map, length, take};
 ghost use Rattle.exit_summary.specs.Policies.{is_net};
 ghost use Rattle.frame_values.specs.Values.{item_at};
 ghost use Rattle.descriptor_doc.specs.Saying as saying;
@@ -151,7 +151,8 @@ pub(crate) fn push_policy(
     out: &mut Policy,
     taken: &[Taken<Value<DescriptorValue>>],
 ) -> Result<(), AllocError>
-    ensures { OnOk result (out.new ≡ out.old ++ filter_map saying.policy_if taken.now) }
+    ensures ok { OnOk result (out.new ≡ out.old ++ filter_map saying.policy_if taken.now) }
+    ensures err { OnErr result (take (length out.old) out.new ≡ out.old) }
 {
     for one in taken {
         if let Some(item) = policy_if(one) {
@@ -182,7 +183,8 @@ pub(crate) fn push_addresses(
     out: &mut Seq<Span>,
     taken: &[Taken<Value<DescriptorValue>>],
 ) -> Result<(), AllocError>
-    ensures { OnOk result (out.new ≡ out.old ++ filter_map saying.address_if taken.now) }
+    ensures ok { OnOk result (out.new ≡ out.old ++ filter_map saying.address_if taken.now) }
+    ensures err { OnErr result (take (length out.old) out.new ≡ out.old) }
 {
     for one in taken {
         if let Some(span) = address_if(one) {

@@ -1,5 +1,5 @@
 // Lists of numbers.
-ghost use Rattle.std.specs.Prelude.{◌≡◌, ◌++◌, IfOk, OnOk};
+ghost use Rattle.std.specs.Prelude.{◌≡◌, ◌++◌, IfOk, OnErr, OnOk, take, vec_len};
 ghost use Rattle.dir_values.specs.Numbers as numbers;
 
 use crate::arguments::Arguments;
@@ -49,7 +49,8 @@ pub fn numbers_in(alloc: Global, text: &[u8]) -> Result<Seq<u32>, Memory>
 /// # Errors
 /// `Memory` is want of memory.
 pub fn push_numbers(out: &mut Vec<u8>, list: &[u32]) -> Result<(), Memory>
-    ensures { OnOk result (out.new.items ≡ out.old.items ++ numbers.numbers_text list.now) }
+    ensures ok { OnOk result (out.new.items ≡ out.old.items ++ numbers.numbers_text list.now) }
+    ensures err { OnErr result (take (vec_len out.old) out.new.items ≡ out.old.items) }
 {
     let Some((first, others)) = list.split_first() else {
         return Ok(());

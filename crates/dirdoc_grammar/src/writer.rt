@@ -205,7 +205,8 @@ fn object_size(words: &[u8], bytes: &[u8]) -> usize {
 /// Appends a keyword line of this keyword and rest, with a space between them unless the rest is
 /// empty. Without memory a part of it may stand there.
 pub fn push_line(out: &mut Vec<u8>, keyword: &[u8], rest: &[u8]) -> Result<(), AllocError>
-    ensures { OnOk result (out.new.items ≡ out.old.items ++ (keyword.now ++ tail rest.now) ++ 10 ∷ []) }
+    ensures ok { OnOk result (out.new.items ≡ out.old.items ++ (keyword.now ++ tail rest.now) ++ 10 ∷ []) }
+    ensures err { OnErr result (take (vec_len out.old) out.new.items ≡ out.old.items) }
 {
     out.extend_from_slice(keyword)?;
     if !rest.is_empty() {

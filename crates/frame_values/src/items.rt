@@ -1,5 +1,5 @@
 // Writing the items that say something.
-ghost use Rattle.std.specs.Prelude.{◌≡◌, ◌++◌, OnOk};
+ghost use Rattle.std.specs.Prelude.{◌≡◌, ◌++◌, OnOk, OnErr, take, vec_len};
 ghost use Rattle.dirdoc_grammar.specs.Writing.{item_text, items_text};
 ghost use Rattle.frame_values.specs.Items as items;
 
@@ -14,7 +14,8 @@ use std::alloc::Global;
 /// # Errors
 /// `Memory` is want of memory.
 pub fn push_bare(out: &mut Vec<u8>, keyword: Keyword, rest: &[u8]) -> Result<(), Memory>
-    ensures { OnOk result (out.new.items ≡ out.old.items ++ item_text (items.bare keyword rest.now)) }
+    ensures ok { OnOk result (out.new.items ≡ out.old.items ++ item_text (items.bare keyword rest.now)) }
+    ensures err { OnErr result (take (vec_len out.old) out.new.items ≡ out.old.items) }
 {
     push_line(out, keyword.text(), rest)?;
     Ok(())
@@ -25,7 +26,8 @@ pub fn push_bare(out: &mut Vec<u8>, keyword: Keyword, rest: &[u8]) -> Result<(),
 /// # Errors
 /// `Memory` is want of memory.
 pub fn push_if(out: &mut Vec<u8>, keyword: Keyword, rest: &Option<Text>) -> Result<(), Memory>
-    ensures { OnOk result (out.new.items ≡ out.old.items ++ items_text (items.item_if keyword rest.now)) }
+    ensures ok { OnOk result (out.new.items ≡ out.old.items ++ items_text (items.item_if keyword rest.now)) }
+    ensures err { OnErr result (take (vec_len out.old) out.new.items ≡ out.old.items) }
 {
     match rest {
         Some(rest) => push_bare(out, keyword, rest.as_bytes()),
@@ -44,7 +46,8 @@ pub fn push_with_object(
     words: &[u8],
     bytes: &Text,
 ) -> Result<(), Memory>
-    ensures { OnOk result (out.new.items ≡ out.old.items ++ item_text (items.with_object keyword rest.now words.now bytes.now)) }
+    ensures ok { OnOk result (out.new.items ≡ out.old.items ++ item_text (items.with_object keyword rest.now words.now bytes.now)) }
+    ensures err { OnErr result (take (vec_len out.old) out.new.items ≡ out.old.items) }
 {
     push_line(out, keyword.text(), rest)?;
     push_object(out, words, bytes.as_bytes())?;
@@ -62,7 +65,8 @@ pub fn push_timed(
     keyword: Keyword,
     number: u64,
 ) -> Result<(), Memory>
-    ensures { OnOk result (out.new.items ≡ out.old.items ++ item_text (items.timed keyword number)) }
+    ensures ok { OnOk result (out.new.items ≡ out.old.items ++ item_text (items.timed keyword number)) }
+    ensures err { OnErr result (take (vec_len out.old) out.new.items ≡ out.old.items) }
 {
     let mut rest = Vec::new(alloc);
     push_time(&mut rest, moment(number))?;

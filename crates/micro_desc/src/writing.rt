@@ -1,5 +1,5 @@
 // Writing a microdescriptor, and its digest.
-ghost use Rattle.std.specs.Prelude.{◌≡◌, ◌++◌, IfOk, OnOk};
+ghost use Rattle.std.specs.Prelude.{◌≡◌, ◌++◌, IfOk, OnOk, OnErr, take, vec_len};
 ghost use Rattle.dirdoc_grammar.specs.Writing.{item_text, items_text};
 ghost use Rattle.micro_desc.specs.Texts as texts;
 
@@ -18,7 +18,8 @@ use std::alloc::Global;
 /// # Errors
 /// `Memory` is want of memory.
 fn push_onion_key(out: &mut Vec<u8>, key: &Option<Text>) -> Result<(), Memory>
-    ensures { OnOk result (out.new.items ≡ out.old.items ++ item_text (texts.onion_key_item key.now)) }
+    ensures ok { OnOk result (out.new.items ≡ out.old.items ++ item_text (texts.onion_key_item key.now)) }
+    ensures err { OnErr result (take (vec_len out.old) out.new.items ≡ out.old.items) }
 {
     match key {
         Some(key) => push_with_object(out, Keyword::OnionKey, b"", b"RSA PUBLIC KEY", key),
@@ -31,7 +32,8 @@ fn push_onion_key(out: &mut Vec<u8>, key: &Option<Text>) -> Result<(), Memory>
 /// # Errors
 /// `Memory` is want of memory.
 fn push_ntor_key(out: &mut Vec<u8>, alloc: Global, key: &Option<[u8; 32]>) -> Result<(), Memory>
-    ensures { OnOk result (out.new.items ≡ out.old.items ++ items_text (texts.ntor_key_items key.now)) }
+    ensures ok { OnOk result (out.new.items ≡ out.old.items ++ items_text (texts.ntor_key_items key.now)) }
+    ensures err { OnErr result (take (vec_len out.old) out.new.items ≡ out.old.items) }
 {
     let Some(key) = key else {
         return Ok(());
@@ -46,7 +48,8 @@ fn push_ntor_key(out: &mut Vec<u8>, alloc: Global, key: &Option<[u8; 32]>) -> Re
 /// # Errors
 /// `Memory` is want of memory.
 fn push_family(out: &mut Vec<u8>, alloc: Global, family: &Option<Seq<Text>>) -> Result<(), Memory>
-    ensures { OnOk result (out.new.items ≡ out.old.items ++ items_text (texts.family_items family.now)) }
+    ensures ok { OnOk result (out.new.items ≡ out.old.items ++ items_text (texts.family_items family.now)) }
+    ensures err { OnErr result (take (vec_len out.old) out.new.items ≡ out.old.items) }
 {
     let Some(names) = family else {
         return Ok(());
@@ -66,7 +69,8 @@ fn push_ports(
     keyword: Keyword,
     ports: &Option<PortSummary>,
 ) -> Result<(), Memory>
-    ensures { OnOk result (out.new.items ≡ out.old.items ++ items_text (texts.ports_items keyword ports.now)) }
+    ensures ok { OnOk result (out.new.items ≡ out.old.items ++ items_text (texts.ports_items keyword ports.now)) }
+    ensures err { OnErr result (take (vec_len out.old) out.new.items ≡ out.old.items) }
 {
     let Some(ports) = ports else {
         return Ok(());
@@ -81,7 +85,8 @@ fn push_ports(
 /// # Errors
 /// `Memory` is want of memory.
 fn push_identity(rest: &mut Vec<u8>, id: &MicroId) -> Result<(), Memory>
-    ensures { OnOk result (rest.new.items ≡ rest.old.items ++ texts.id_text id.now) }
+    ensures ok { OnOk result (rest.new.items ≡ rest.old.items ++ texts.id_text id.now) }
+    ensures err { OnErr result (take (vec_len rest.old) rest.new.items ≡ rest.old.items) }
 {
     match id {
         MicroId::Ed25519(key) => {
@@ -100,7 +105,8 @@ fn push_identity(rest: &mut Vec<u8>, id: &MicroId) -> Result<(), Memory>
 /// # Errors
 /// `Memory` is want of memory.
 fn push_id(out: &mut Vec<u8>, alloc: Global, id: &Option<MicroId>) -> Result<(), Memory>
-    ensures { OnOk result (out.new.items ≡ out.old.items ++ items_text (texts.id_items id.now)) }
+    ensures ok { OnOk result (out.new.items ≡ out.old.items ++ items_text (texts.id_items id.now)) }
+    ensures err { OnErr result (take (vec_len out.old) out.new.items ≡ out.old.items) }
 {
     let Some(id) = id else {
         return Ok(());

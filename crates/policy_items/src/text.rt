@@ -1,5 +1,5 @@
 // Writing an item of a policy.
-ghost use Rattle.std.specs.Prelude.{◌≡◌, ◌++◌, OnOk};
+ghost use Rattle.std.specs.Prelude.{◌≡◌, ◌++◌, OnOk, OnErr, take, vec_len};
 ghost use Rattle.policy_items.specs.Texts as texts;
 
 use dir_bytes::{Memory, push_address, push_decimal};
@@ -7,7 +7,8 @@ use dir_values::{Net, PolicyItem};
 
 /// Appends an IPv4 address and the number of its bits that count.
 fn push_v4(out: &mut Vec<u8>, address: u32, bits: u8) -> Result<(), Memory>
-    ensures { OnOk result (out.new.items ≡ out.old.items ++ texts.v4_text address bits) }
+    ensures ok { OnOk result (out.new.items ≡ out.old.items ++ texts.v4_text address bits) }
+    ensures err { OnErr result (take (vec_len out.old) out.new.items ≡ out.old.items) }
 {
     if address == 0 && bits == 0 {
         out.extend_from_slice(b"*4")?;
@@ -23,7 +24,8 @@ fn push_v4(out: &mut Vec<u8>, address: u32, bits: u8) -> Result<(), Memory>
 
 /// Appends a net.
 fn push_net(out: &mut Vec<u8>, net: Net) -> Result<(), Memory>
-    ensures { OnOk result (out.new.items ≡ out.old.items ++ texts.net_text net) }
+    ensures ok { OnOk result (out.new.items ≡ out.old.items ++ texts.net_text net) }
+    ensures err { OnErr result (take (vec_len out.old) out.new.items ≡ out.old.items) }
 {
     match net {
         Net::Star => out.extend_from_slice(b"*")?,
@@ -35,7 +37,8 @@ fn push_net(out: &mut Vec<u8>, net: Net) -> Result<(), Memory>
 
 /// Appends ports.
 fn push_ports(out: &mut Vec<u8>, low: u16, high: u16) -> Result<(), Memory>
-    ensures { OnOk result (out.new.items ≡ out.old.items ++ texts.ports_text low high) }
+    ensures ok { OnOk result (out.new.items ≡ out.old.items ++ texts.ports_text low high) }
+    ensures err { OnErr result (take (vec_len out.old) out.new.items ≡ out.old.items) }
 {
     if low == 1 && high == 65535 {
         out.extend_from_slice(b"*")?;
@@ -56,7 +59,8 @@ fn push_ports(out: &mut Vec<u8>, low: u16, high: u16) -> Result<(), Memory>
 /// # Errors
 /// `Memory` is want of memory.
 pub fn push_item(out: &mut Vec<u8>, item: PolicyItem) -> Result<(), Memory>
-    ensures { OnOk result (out.new.items ≡ out.old.items ++ texts.item_text item) }
+    ensures ok { OnOk result (out.new.items ≡ out.old.items ++ texts.item_text item) }
+    ensures err { OnErr result (take (vec_len out.old) out.new.items ≡ out.old.items) }
 {
     push_net(out, item.net)?;
     out.push(b':')?;

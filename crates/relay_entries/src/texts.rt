@@ -1,5 +1,5 @@
 // The texts of what documents that list relays say of a relay.
-ghost use Rattle.std.specs.Prelude.{◌≡◌, ◌++◌, OnOk, decimal};
+ghost use Rattle.std.specs.Prelude.{◌≡◌, ◌++◌, OnOk, decimal, OnErr, take, vec_len};
 ghost use Rattle.relay_entries.specs.Texts as texts;
 
 use crate::said::Bandwidths;
@@ -12,7 +12,8 @@ use frame_values::moment;
 /// # Errors
 /// `Memory` is want of memory.
 pub fn push_named(rest: &mut Vec<u8>, nickname: &[u8], identity: &Fingerprint) -> Result<(), Memory>
-    ensures { OnOk result (rest.new.items ≡ rest.old.items ++ texts.named_text nickname.now identity.now) }
+    ensures ok { OnOk result (rest.new.items ≡ rest.old.items ++ texts.named_text nickname.now identity.now) }
+    ensures err { OnErr result (take (vec_len rest.old) rest.new.items ≡ rest.old.items) }
 {
     rest.extend_from_slice(nickname)?;
     rest.push(b' ')?;
@@ -31,7 +32,8 @@ pub fn push_reached(
     or_port: u16,
     dir_port: u16,
 ) -> Result<(), Memory>
-    ensures { OnOk result (rest.new.items ≡ rest.old.items ++ texts.reached_text published ip or_port dir_port) }
+    ensures ok { OnOk result (rest.new.items ≡ rest.old.items ++ texts.reached_text published ip or_port dir_port) }
+    ensures err { OnErr result (take (vec_len rest.old) rest.new.items ≡ rest.old.items) }
 {
     push_time(rest, moment(published))?;
     rest.push(b' ')?;
@@ -44,7 +46,8 @@ pub fn push_reached(
 
 // Appends a key and a number.
 fn push_number(rest: &mut Vec<u8>, key: &[u8], number: u32) -> Result<(), Memory>
-    ensures { OnOk result (rest.new.items ≡ rest.old.items ++ key.now ++ decimal number) }
+    ensures ok { OnOk result (rest.new.items ≡ rest.old.items ++ key.now ++ decimal number) }
+    ensures err { OnErr result (take (vec_len rest.old) rest.new.items ≡ rest.old.items) }
 {
     rest.extend_from_slice(key)?;
     push_decimal(rest, number as u64)
@@ -55,7 +58,8 @@ fn push_number(rest: &mut Vec<u8>, key: &[u8], number: u32) -> Result<(), Memory
 /// # Errors
 /// `Memory` is want of memory.
 pub fn push_bandwidths(rest: &mut Vec<u8>, w: Bandwidths) -> Result<(), Memory>
-    ensures { OnOk result (rest.new.items ≡ rest.old.items ++ texts.bandwidths_text w) }
+    ensures ok { OnOk result (rest.new.items ≡ rest.old.items ++ texts.bandwidths_text w) }
+    ensures err { OnErr result (take (vec_len rest.old) rest.new.items ≡ rest.old.items) }
 {
     match (w.bandwidth, w.measured) {
         (None, None) => Ok(()),
@@ -63,15 +67,15 @@ pub fn push_bandwidths(rest: &mut Vec<u8>, w: Bandwidths) -> Result<(), Memory>
         (None, Some(number)) => push_number(rest, b"Measured=", number),
         (Some(number), Some(measured)) => {
             push_number(rest, b"Bandwidth=", number)?;
-            rest.push(b' ')?;
-            push_number(rest, b"Measured=", measured)
+            push_number(rest, b" Measured=", measured)
         }
     }
 }
 
 /// Appends methods, with commas between them.
 fn push_methods(rest: &mut Vec<u8>, methods: &[u32]) -> Result<(), Memory>
-    ensures { OnOk result (rest.new.items ≡ rest.old.items ++ texts.methods_text methods.now) }
+    ensures ok { OnOk result (rest.new.items ≡ rest.old.items ++ texts.methods_text methods.now) }
+    ensures err { OnErr result (take (vec_len rest.old) rest.new.items ≡ rest.old.items) }
 {
     let Some((first, others)) = methods.split_first() else {
         return Ok(());
@@ -86,7 +90,8 @@ fn push_methods(rest: &mut Vec<u8>, methods: &[u32]) -> Result<(), Memory>
 
 /// Appends a digest behind the name of its algorithm.
 fn push_sha256(rest: &mut Vec<u8>, digest: Digest2) -> Result<(), Memory>
-    ensures { OnOk result (rest.new.items ≡ rest.old.items ++ texts.sha256_text digest) }
+    ensures ok { OnOk result (rest.new.items ≡ rest.old.items ++ texts.sha256_text digest) }
+    ensures err { OnErr result (take (vec_len rest.old) rest.new.items ≡ rest.old.items) }
 {
     rest.extend_from_slice(b" sha256=")?;
     digest.push(rest)
@@ -97,7 +102,8 @@ fn push_sha256(rest: &mut Vec<u8>, digest: Digest2) -> Result<(), Memory>
 /// # Errors
 /// `Memory` is want of memory.
 pub fn push_micro(rest: &mut Vec<u8>, methods: &[u32], digest: Digest2) -> Result<(), Memory>
-    ensures { OnOk result (rest.new.items ≡ rest.old.items ++ texts.micro_text methods.now digest) }
+    ensures ok { OnOk result (rest.new.items ≡ rest.old.items ++ texts.micro_text methods.now digest) }
+    ensures err { OnErr result (take (vec_len rest.old) rest.new.items ≡ rest.old.items) }
 {
     push_methods(rest, methods)?;
     push_sha256(rest, digest)

@@ -1,5 +1,5 @@
 // The names of a family in a line.
-ghost use Rattle.std.specs.Prelude.{◌≡◌, ◌++◌, OnOk};
+ghost use Rattle.std.specs.Prelude.{◌≡◌, ◌++◌, OnOk, OnErr, take, vec_len};
 ghost use Rattle.relay_family.specs.Families as families;
 
 use dir_bytes::{Memory, Text};
@@ -9,7 +9,8 @@ use dir_bytes::{Memory, Text};
 /// # Errors
 /// `Memory` is want of memory.
 pub fn push_names(rest: &mut Vec<u8>, names: &[Text]) -> Result<(), Memory>
-    ensures { OnOk result (rest.new.items ≡ rest.old.items ++ families.family_text names.now) }
+    ensures ok { OnOk result (rest.new.items ≡ rest.old.items ++ families.family_text names.now) }
+    ensures err { OnErr result (take (vec_len rest.old) rest.new.items ≡ rest.old.items) }
 {
     let Some((first, others)) = names.split_first() else {
         return Ok(());

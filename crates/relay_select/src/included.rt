@@ -1,5 +1,5 @@
 // The identities that a consensus includes.
-ghost use Rattle.std.specs.Prelude.{◌≡◌, ◌++◌, IfOk, OnOk, option_map};
+ghost use Rattle.std.specs.Prelude.{◌≡◌, ◌++◌, IfOk, OnOk, option_map, OnErr};
 ghost use Rattle.std.specs.Option.{option_to_list};
 ghost use Rattle.compute_terms.specs.Identities as terms;
 
@@ -37,7 +37,8 @@ fn push_if(
     rsa: Fingerprint,
     part: Option<EdPart>,
 ) -> Result<(), Memory>
-    ensures { OnOk result (identities.new.items ≡ identities.old.items ++ option_to_list (option_map (λ ed. record { rsa = rsa; ed = ed }) part)) }
+    ensures ok { OnOk result (identities.new.items ≡ identities.old.items ++ option_to_list (option_map (λ ed. record { rsa = rsa; ed = ed }) part)) }
+    ensures err { OnErr result (identities.new.items ≡ identities.old.items) }
 {
     if let Some(ed) = part {
         identities.push(Identity { rsa, ed })?;

@@ -1,5 +1,5 @@
 // The lines of entries, from which one is chosen.
-ghost use Rattle.std.specs.Prelude.{◌≡◌, ◌++◌, OnOk, option_map};
+ghost use Rattle.std.specs.Prelude.{◌≡◌, ◌++◌, OnOk, option_map, OnErr};
 ghost use Rattle.std.specs.Option.{option_to_list};
 ghost use Rattle.std.specs.List.{filter_map};
 ghost use Rattle.compute_terms.specs.Lines as terms;
@@ -65,7 +65,8 @@ pub fn versions<'a>(entries: &[Entry<'a>], lines: &mut Vec<VersionLine<'a>>) -> 
 
 /// Adds a `v` line, where there is one.
 fn push_version<'a>(lines: &mut Vec<VersionLine<'a>>, text: Option<&'a [u8]>) -> Result<(), Memory>
-    ensures { OnOk result (lines.new.items ≡ lines.old.items ++ option_to_list (option_map (λ t. t.now) text.entry)) }
+    ensures ok { OnOk result (lines.new.items ≡ lines.old.items ++ option_to_list (option_map (λ t. t.now) text.entry)) }
+    ensures err { OnErr result (lines.new.items ≡ lines.old.items) }
 {
     if let Some(text) = text {
         lines.push(VersionLine::new(text))?;
@@ -128,7 +129,8 @@ pub fn micros(
 
 /// Adds a text, where there is one.
 fn push_text<'a>(lines: &mut Vec<Line<'a>>, text: Option<&'a [u8]>) -> Result<(), Memory>
-    ensures { OnOk result (lines.new.items ≡ lines.old.items ++ option_to_list (option_map (λ t. t.now) text.entry)) }
+    ensures ok { OnOk result (lines.new.items ≡ lines.old.items ++ option_to_list (option_map (λ t. t.now) text.entry)) }
+    ensures err { OnErr result (lines.new.items ≡ lines.old.items) }
 {
     if let Some(text) = text {
         lines.push(Line::new(text))?;
@@ -138,7 +140,8 @@ fn push_text<'a>(lines: &mut Vec<Line<'a>>, text: Option<&'a [u8]>) -> Result<()
 
 /// Adds a digest, where there is one.
 fn push_micro(digests: &mut Vec<Micro>, digest: Option<Digest2>) -> Result<(), Memory>
-    ensures { OnOk result (digests.new.items ≡ digests.old.items ++ option_to_list digest) }
+    ensures ok { OnOk result (digests.new.items ≡ digests.old.items ++ option_to_list digest) }
+    ensures err { OnErr result (digests.new.items ≡ digests.old.items) }
 {
     if let Some(digest) = digest {
         digests.push(Micro::new(digest))?;

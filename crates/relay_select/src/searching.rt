@@ -1,5 +1,5 @@
 // The entries that belong to an identity.
-ghost use Rattle.std.specs.Prelude.{◌≡◌, ◌<◌, ◌++◌, Some, IfOk, OnOk, length, filter, slice_get};
+ghost use Rattle.std.specs.Prelude.{◌≡◌, ◌<◌, ◌++◌, Some, IfOk, OnOk, length, filter, slice_get, OnErr};
 ghost use Rattle.std.specs.Option.{option_to_list};
 ghost use Rattle.compute_terms.specs.Listings.{AreMembers, listings, listings_at};
 ghost use Rattle.compute_terms.specs.Routers.{belonging_listings};
@@ -57,7 +57,8 @@ fn member(votes: &Accepted, number: usize, identity: &Identity) -> Option<Belong
 
 /// Adds a place, where there is one.
 fn push_if(members: &mut Vec<Belong>, found: Option<Belong>) -> Result<(), Memory>
-    ensures { OnOk result (members.new.items ≡ members.old.items ++ option_to_list found) }
+    ensures ok { OnOk result (members.new.items ≡ members.old.items ++ option_to_list found) }
+    ensures err { OnErr result (members.new.items ≡ members.old.items) }
 {
     if let Some(at) = found {
         members.push(at)?;

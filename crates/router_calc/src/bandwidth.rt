@@ -1,5 +1,5 @@
 // The bandwidth of a relay.
-ghost use Rattle.std.specs.Prelude.{◌≡◌, ◌≤◌, ◌++◌, IfOk, OnOk, count_by, length};
+ghost use Rattle.std.specs.Prelude.{◌≡◌, ◌≤◌, ◌++◌, IfOk, OnOk, count_by, length, OnErr};
 ghost use Rattle.std.specs.Option.{option_to_list};
 ghost use Rattle.compute_terms.specs.Bandwidths as terms;
 
@@ -73,7 +73,8 @@ fn bandwidths(entries: &[Entry<'_>], values: &mut Vec<u32>) -> Result<(), Memory
 
 /// Adds a value, where there is one.
 fn push_if(values: &mut Vec<u32>, value: Option<u32>) -> Result<(), Memory>
-    ensures { OnOk result (values.new.items ≡ values.old.items ++ option_to_list value) }
+    ensures ok { OnOk result (values.new.items ≡ values.old.items ++ option_to_list value) }
+    ensures err { OnErr result (values.new.items ≡ values.old.items) }
 {
     if let Some(value) = value {
         values.push(value)?;

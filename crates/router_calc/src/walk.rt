@@ -1,5 +1,5 @@
 // The walk over all relays.
-ghost use Rattle.std.specs.Prelude.{◌≡◌, ◌≤◌, ◌++◌, All, IfOk, IfSome, OnOk, map};
+ghost use Rattle.std.specs.Prelude.{◌≡◌, ◌≤◌, ◌++◌, All, IfOk, IfSome, OnOk, map, OnErr};
 ghost use Rattle.std.specs.Option.{option_to_list};
 ghost use Rattle.dir_bytes.specs.Causes.{last_moment};
 ghost use Rattle.compute_terms.specs.Flags.{known_flags};
@@ -56,7 +56,8 @@ pub fn routers(
 
 /// Adds a line, where there is one.
 fn push_if(lines: &mut Vec<Routerline>, line: Option<Routerline>) -> Result<(), Memory>
-    ensures { OnOk result (lines.new.items ≡ lines.old.items ++ option_to_list line) }
+    ensures ok { OnOk result (lines.new.items ≡ lines.old.items ++ option_to_list line) }
+    ensures err { OnErr result (lines.new.items ≡ lines.old.items) }
 {
     if let Some(line) = line {
         lines.push(line)?;
@@ -190,7 +191,8 @@ fn keep_belonging(
 
 /// Adds a place, if it is wanted.
 fn push_place(members: &mut Vec<Belong>, at: Belong, wanted: bool) -> Result<(), Memory>
-    ensures { OnOk result (members.new.items ≡ with_place members.old.items at wanted) }
+    ensures ok { OnOk result (members.new.items ≡ with_place members.old.items at wanted) }
+    ensures err { OnErr result (members.new.items ≡ members.old.items) }
 {
     if wanted {
         members.push(at)?;

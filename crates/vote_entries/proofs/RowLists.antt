@@ -1,6 +1,6 @@
 -- Rows over lists that grow.
-use Rattle.std.proofs.Common.{◌≡◌, ℕ, ◌-◌, ◌<◌, ◌≤◌, List, [], ◌∷◌, ◌++◌, length, map, take, drop, Option, Some, refl, ap, ◌∙◌, arith}
-use Rattle.std.proofs.lemmas.List.{drop-append-le, length-append, length-drop, length-map, map-append, take-append-le}
+use Rattle.std.proofs.Common.{◌≡◌, ℕ, ◌-◌, ◌<◌, ◌≤◌, List, [], ◌∷◌, ◌++◌, length, map, take, drop, Option, Some, refl, sym, ap, ◌∙◌, arith}
+use Rattle.std.proofs.lemmas.List.{drop-append-le, length-append, length-drop, length-map, map-append, take-append-drop, take-append-le}
 use Rattle.std.proofs.lemmas.Option.{slice_get-map}
 use Rattle.std.proofs.Math.Seq.{drop-append_seam, take-length}
 use Rattle.std.specs.Prelude.{option_map, slice_get}
@@ -26,7 +26,7 @@ part_stays list more run lies =
     ∙ take-append-le (run.end - run.start) (drop run.start list) more few
 
 -- what is kept of entries stays where more addresses and `m` lines follow
-rows_stay : (addresses others : List Span) (micros more : List KeptMicro) (rows : List EntryRow)
+pub rows_stay : (addresses others : List Span) (micros more : List KeptMicro) (rows : List EntryRow)
     → AreWithin (length addresses) (length micros) rows
     → kept_rows (addresses ++ others) (micros ++ more) rows ≡ kept_rows addresses micros rows
 rows_stay addresses others micros more [] lie = refl
@@ -35,6 +35,18 @@ rows_stay addresses others micros more (row ∷ rows) lie =
     let m = part_stays micros more row.micros lie.1 in
     let rest = rows_stay addresses others micros more rows lie.2 in
     λ i. kept_in row (a i) (m i) ∷ rest i
+
+-- and where the lists of addresses and `m` lines begin as they did
+pub rows_kept : (addresses a : List Span) (micros m : List KeptMicro) (rows : List EntryRow)
+    → AreWithin (length addresses) (length micros) rows
+    → take (length addresses) a ≡ addresses → take (length micros) m ≡ micros
+    → kept_rows a m rows ≡ kept_rows addresses micros rows
+rows_kept addresses a micros m rows lie front_a front_m =
+    let behind_a = drop (length addresses) a in
+    let behind_m = drop (length micros) m in
+    let whole_a : a ≡ addresses ++ behind_a = sym (take-append-drop (length addresses) a) ∙ ap (λ (l : List Span). l ++ behind_a) front_a in
+    let whole_m : m ≡ micros ++ behind_m = sym (take-append-drop (length micros) m) ∙ ap (λ (l : List KeptMicro). l ++ behind_m) front_m in
+    (λ i. kept_rows (whole_a i) (whole_m i) rows) ∙ rows_stay addresses behind_a micros behind_m rows lie
 
 -- the run behind a list is what follows
 part_behind : {X : Type 0} (list more : List X) (run : Run) → run.start ≡ length list → run.end ≡ length (list ++ more)

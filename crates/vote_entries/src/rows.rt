@@ -1,5 +1,5 @@
 // What is kept of the entries of a vote, as flat rows.
-ghost use Rattle.std.specs.Prelude.{◌≡◌, ◌<◌, ◌^◌, ◌++◌, ◌∷◌, [], ℕ, List, true, OnOk, IfOk, length, map, slice_index_or};
+ghost use Rattle.std.specs.Prelude.{◌≡◌, ◌<◌, ◌^◌, ◌++◌, ◌∷◌, [], ℕ, List, true, OnOk, OnErr, IfOk, length, map, slice_index_or};
 ghost use Rattle.vote_terms.specs.Entries.{Ascending};
 ghost use Rattle.vote_entries.specs.Entries.{entry_in};
 ghost use Rattle.vote_entries.specs.Kept as kept;
@@ -65,7 +65,8 @@ impl Rows {
     /// There was no memory.
     fn add(&mut self, taken: &[Taken<Value<VoteValue>>]) -> Result<(), AllocError>
         requires { kept.is_after self.old (kept.entry_of taken.now).relay.identity ≡ true }
-        ensures { OnOk result (self.new ≡ self.old ++ kept.entry_of taken.now ∷ []) }
+        ensures ok { OnOk result (self.new ≡ self.old ++ kept.entry_of taken.now ∷ []) }
+        ensures err { OnErr result (self.new ≡ self.old) }
     {
         let first_address = self.addresses.len();
         let first_micro = self.micros.len();
@@ -88,7 +89,8 @@ impl Rows {
     /// # Errors
     /// There was no memory.
     pub fn push(&mut self, taken: &[Taken<Value<VoteValue>>]) -> Result<(), AllocError>
-        ensures { OnOk result (self.new ≡ kept.with_entry self.old (kept.entry_of taken.now)) }
+        ensures ok { OnOk result (self.new ≡ kept.with_entry self.old (kept.entry_of taken.now)) }
+        ensures err { OnErr result (self.new ≡ self.old) }
     {
         if self.is_after(&relay_at(taken).identity) {
             self.add(taken)?;

@@ -1,5 +1,5 @@
 // What the items of an entry say. Where an item is not there, or says something else, its value is nothing.
-ghost use Rattle.std.specs.Prelude.{◌≡◌, ◌≤◌, ◌++◌, length, OnOk};
+ghost use Rattle.std.specs.Prelude.{◌≡◌, ◌≤◌, ◌++◌, OnErr, OnOk, length, take};
 ghost use Rattle.frame_values.specs.Values.{item_at};
 ghost use Rattle.vote_entries.specs.Saying as saying;
 
@@ -78,6 +78,7 @@ pub fn push_addresses(
     taken: &[Taken<Value<VoteValue>>],
 ) -> Result<(), AllocError>
     ensures ok { OnOk result (out.new.items ≡ out.old.items ++ saying.addresses_in taken.now) }
+    ensures err { OnErr result (take (length out.old.items) out.new.items ≡ out.old.items) }
     ensures grown { length out.old.items ≤ length out.new.items }
 {
     for one in taken {
@@ -117,6 +118,7 @@ pub fn push_micros(
     taken: &[Taken<Value<VoteValue>>],
 ) -> Result<(), AllocError>
     ensures ok { OnOk result (out.new.items ≡ out.old.items ++ saying.micros_in taken.now) }
+    ensures err { OnErr result (take (length out.old.items) out.new.items ≡ out.old.items) }
     ensures grown { length out.old.items ≤ length out.new.items }
 {
     for one in taken {

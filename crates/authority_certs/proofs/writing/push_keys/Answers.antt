@@ -6,8 +6,8 @@ use Rattle.frame_values.specs.Items.{timed, with_object}
 use Rattle.frame_values.proofs.ItemsTexts.{link, last}
 use Rattle.authority_certs.proofs.writing.push_keys.Goals as goal
 
-pub returns : goal.returns
-returns c =
+pub returns-clause-ok : goal.returns-clause-ok
+returns-clause-ok c =
     let facts = c.args.cert.now in
     let out = c.args.out.now.items in
     let text1 : List ℕ = item_text (with_object the.DirIdentityKey [] (codes "RSA PUBLIC KEY") facts.identity_key) in
@@ -21,7 +21,7 @@ returns c =
     let rest3 : List ℕ = text4 ++ [] in
     let rest2 : List ℕ = text3 ++ rest3 in
     let rest1 : List ℕ = text2 ++ rest2 in
-    link out text1 at1 at4 rest1 c.in_ok-push_with_object.ensures
-    (link at1 text2 at2 at4 rest2 c.in_ok-push_timed.ensures
-    (link at2 text3 at3 at4 rest3 c.in_ok-push_timed-2.ensures
-    (last at3 text4 at4 c.in_ok-push_with_object-2.ensures)))
+    link out text1 at1 at4 rest1 c.in_ok-push_with_object.ensures.ok
+    (link at1 text2 at2 at4 rest2 c.in_ok-push_timed.ensures.ok
+    (link at2 text3 at3 at4 rest3 c.in_ok-push_timed-2.ensures.ok
+    (last at3 text4 at4 c.in_ok-push_with_object-2.ensures.ok)))

@@ -6,8 +6,8 @@ use Rattle.frame_values.specs.Items.{with_object}
 use Rattle.frame_values.proofs.ItemsTexts.{link, last}
 use Rattle.authority_certs.proofs.writing.push_proofs.Goals as goal
 
-pub returns : goal.returns
-returns c =
+pub returns-clause-ok : goal.returns-clause-ok
+returns-clause-ok c =
     let facts = c.args.cert.now in
     let out = c.args.out.now.items in
     let text1 : List ℕ = item_text (with_object the.DirKeyCrosscert [] (codes "ID SIGNATURE") facts.crosscert) in
@@ -15,5 +15,5 @@ returns c =
     let at1 = c.push_with_object.new.out.items in
     let at2 = c.push_with_object-2.new.out.items in
     let rest1 : List ℕ = text2 ++ [] in
-    link out text1 at1 at2 rest1 c.in_ok-push_with_object.ensures
-    (last at1 text2 at2 c.in_ok-push_with_object-2.ensures)
+    link out text1 at1 at2 rest1 c.in_ok-push_with_object.ensures.ok
+    (last at1 text2 at2 c.in_ok-push_with_object-2.ensures.ok)

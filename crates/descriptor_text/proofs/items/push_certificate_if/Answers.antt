@@ -18,6 +18,6 @@ returns c =
     let certificate = c.in-Some.certificate in
     let wrote = ap (λ (l : List ℕ). out ++ text_with l) c.in_ok-bytes.ensures in
     last out (text_with (certificate_bytes certificate)) c.push_with_object.new.out.items
-    (c.in_ok-push_with_object.ensures ∙ wrote)
+    (c.in_ok-push_with_object.ensures.ok ∙ wrote)
     ∙ ap (λ (o : Option EdCert). out ++ items_text (object_if the.IdentityEd25519 (codes "ED25519 CERT")
     (option_map certificate_bytes o))) (sym c.in-Some.is)

@@ -19,5 +19,5 @@ returns c =
     let at2 = c.push_with_object.new.out.items in
     let at3 = c.push_key_if.new.out.items in
     link out (items_text onion) at1 at3 (item_text signing ++ items_text ntor) c.in_ok-push_object_if.ensures
-    (link at1 (item_text signing) at2 at3 (items_text ntor) c.in_ok-push_with_object.ensures c.in_ok-push_key_if.ensures)
+    (link at1 (item_text signing) at2 at3 (items_text ntor) c.in_ok-push_with_object.ensures.ok c.in_ok-push_key_if.ensures)
     ∙ ap (λ (l : List ℕ). out ++ l) (sym (sections onion (signing ∷ ntor)))

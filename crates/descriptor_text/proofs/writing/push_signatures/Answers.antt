@@ -16,5 +16,5 @@ returns c =
     let at1 = c.push_ed_signature_if.new.out.items in
     let at2 = c.push_with_object.new.out.items in
     link out (items_text ed) at1 at2 (item_text rsa ++ []) c.in_ok-push_ed_signature_if.ensures
-    (last at1 (item_text rsa) at2 c.in_ok-push_with_object.ensures)
+    (last at1 (item_text rsa) at2 c.in_ok-push_with_object.ensures.ok)
     ∙ ap (λ (l : List ℕ). out ++ l) (sym (sections ed (rsa ∷ [])))

@@ -1,4 +1,5 @@
-use Rattle.std.proofs.Common.{◌≡◌, ◌∙◌, ◌++◌, List, ℕ, ap, sym, append_assoc}
+use Rattle.std.proofs.Common.{◌≡◌, ◌∙◌, ◌++◌, List, ℕ, ap, sym, append_assoc, arith}
+use Rattle.std.proofs.lemmas.Grind.{common_steps}
 use Rattle.std.specs.Prelude.{decimal}
 use Rattle.dir_values.specs.Lending.{after_numbers}
 use Rattle.dir_values.specs.Numbers.{numbers_text}
@@ -10,5 +11,9 @@ numbers-init c =
     let first = c.in-Some.first.now in
     let rest = c.in-Some.others.now in
     let whole : numbers_text c.args.list.now ≡ decimal first ++ after_numbers rest = ap numbers_text c.in-Some.ensures.cases.0 ∙ numbers_text-cons first rest in
-    ap (λ (l : List ℕ). l ++ after_numbers rest) c.in_ok-push_decimal.ensures.ok ∙ append_assoc c.args.out.now.items (decimal first) (after_numbers rest)
-    ∙ ap (λ (l : List ℕ). c.args.out.now.items ++ l) (sym whole)
+    let written = c.in_ok-push_decimal.ensures.ok in
+    record {
+      text = ap (λ (l : List ℕ). l ++ after_numbers rest) written ∙ append_assoc c.args.out.now.items (decimal first) (after_numbers rest)
+          ∙ ap (λ (l : List ℕ). c.args.out.now.items ++ l) (sym whole);
+      front = grind (arith, common_steps, written);
+    }

@@ -28,10 +28,10 @@ returns c =
     let rest2 : List ℕ = text3 ++ rest3 in
     let rest1 : List ℕ = text2 ++ rest2 in
     let whole : List ℕ = text1 ++ rest1 in
-    link start text1 at1 at6 rest1 c.in_ok-push_onion_key.ensures
-    (link at1 text2 at2 at6 rest2 c.in_ok-push_ntor_key.ensures
-    (link at2 text3 at3 at6 rest3 c.in_ok-push_family.ensures
-    (link at3 text4 at4 at6 rest4 c.in_ok-push_ports.ensures
-    (link at4 text5 at5 at6 rest5 c.in_ok-push_ports-2.ensures c.in_ok-push_id.ensures))))
+    link start text1 at1 at6 rest1 c.in_ok-push_onion_key.ensures.ok
+    (link at1 text2 at2 at6 rest2 c.in_ok-push_ntor_key.ensures.ok
+    (link at2 text3 at3 at6 rest3 c.in_ok-push_family.ensures.ok
+    (link at3 text4 at4 at6 rest4 c.in_ok-push_ports.ensures.ok
+    (link at4 text5 at5 at6 rest5 c.in_ok-push_ports-2.ensures.ok c.in_ok-push_id.ensures.ok))))
     ∙ ap (λ (l : List ℕ). l ++ whole) c.new-out.ensures.items
     ∙ sym (parts micro)

@@ -5,4 +5,4 @@ use Rattle.relay_select.proofs.lines.versions.Goals as goal
 
 pub entries-preserved : goal.entries-preserved
 entries-preserved c =
-    found_more (λ (e : EntryFacts). e.version) c.args.entries.now c.entries.entry-index c.entry-item.result c.entries.lines.items c.push_version.new.lines.items _ (omega arith) c.entry-item.is c.entries.invariant c.v.ensures c.in_ok-push_version.ensures
+    found_more (λ (e : EntryFacts). e.version) c.args.entries.now c.entries.entry-index c.entry-item.result c.entries.lines.items c.push_version.new.lines.items _ (omega arith) c.entry-item.is c.entries.invariant c.v.ensures c.in_ok-push_version.ensures.ok

@@ -11,7 +11,7 @@ votes-preserved c =
     let n = c.votes.number in
     ⊎_elim
     (λ (f : (x : ReadVote) × (n < length votes) × (slice_get votes n ≡ Some x) × (get_or votes n x ≡ x)).
-    places_more votes c.args.identity.now n f.0 c.votes.members.items c.push_if.new.members.items c.member.result _ f.2 (c.member.ensures f.0 f.2) c.in_ok-push_if.ensures c.votes.invariant)
+    places_more votes c.args.identity.now n f.0 c.votes.members.items c.push_if.new.members.items c.member.result _ f.2 (c.member.ensures f.0 f.2) c.in_ok-push_if.ensures.ok c.votes.invariant)
     (λ p. absurd (omega (arith, p.0)))
     (slice_get_cases votes n).1
 

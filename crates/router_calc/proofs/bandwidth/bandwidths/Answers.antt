@@ -5,4 +5,4 @@ use Rattle.router_calc.proofs.bandwidth.bandwidths.Goals as goal
 
 pub entries-preserved : goal.entries-preserved
 entries-preserved c =
-    found_more bandwidth_of c.args.entries.now c.entries.entry-index c.entry-item.result c.entries.values.items c.push_if.new.values.items _ (omega arith) c.entry-item.is c.entries.invariant c.bandwidth.ensures c.in_ok-push_if.ensures
+    found_more bandwidth_of c.args.entries.now c.entries.entry-index c.entry-item.result c.entries.values.items c.push_if.new.values.items _ (omega arith) c.entry-item.is c.entries.invariant c.bandwidth.ensures c.in_ok-push_if.ensures.ok

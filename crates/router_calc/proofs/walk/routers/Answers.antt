@@ -44,9 +44,9 @@ relays-preserved c =
     ∙ ap (λ (m : Option ℕ). router_from roster method m votes rsa (listings_at votes c.deref-in-Some-3.result.now)) c.cap_of-most.ensures
     ∙ ap (λ (ls : List Listing). router_from roster method (cap_of c.args.limit votes) votes rsa ls) (ap (listings_at votes) c.deref-in-Some-3.ensures.value ∙ s.listings_are) in
     record {
-      lines = gives_more (router_of roster method c.args.limit votes) c.relays.lines.items c.push_if.new.lines.items c.in_ok-line.line rsa (map (λ (g : Group). g.identity) c.next.new.self.left) (map (λ (g : Group). g.identity) c.relays.walk.left) _ s.identities line c.in_ok-push_if.ensures c.relays.invariant.lines;
+      lines = gives_more (router_of roster method c.args.limit votes) c.relays.lines.items c.push_if.new.lines.items c.in_ok-line.line rsa (map (λ (g : Group). g.identity) c.next.new.self.left) (map (λ (g : Group). g.identity) c.relays.walk.left) _ s.identities line c.in_ok-push_if.ensures.ok c.relays.invariant.lines;
       groups = s.groups;
-      moments = all_more (λ (line : Routerline). line.published ≤ last_moment) c.relays.lines.items c.push_if.new.lines.items c.in_ok-line.line c.relays.invariant.moments c.in_ok-line.ensures.moment c.in_ok-push_if.ensures;
+      moments = all_more (λ (line : Routerline). line.published ≤ last_moment) c.relays.lines.items c.push_if.new.lines.items c.in_ok-line.line c.relays.invariant.moments c.in_ok-line.ensures.moment c.in_ok-push_if.ensures.ok;
       votes = c.in-Some.ensures.gives.1 ∙ c.relays.invariant.votes;
       room = omega (arith, c.in-Some.ensures.capacity, c.relays.invariant.room);
     }

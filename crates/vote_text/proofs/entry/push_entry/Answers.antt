@@ -44,9 +44,9 @@ returns c =
     c.in_ok-push_relay.ensures
     (c.in_ok-push_each.ensures ∙ addresses))
     c.in_ok-push_flags.ensures)
-    c.in_ok-push_if.ensures)
-    c.in_ok-push_if-2.ensures)
+    c.in_ok-push_if.ensures.ok)
+    c.in_ok-push_if-2.ensures.ok)
     c.in_ok-push_bandwidths_if.ensures)
-    c.in_ok-push_if-3.ensures)
+    c.in_ok-push_if-3.ensures.ok)
     (c.in_ok-push_micros.ensures ∙ micros))
     c.in_ok-push_ed.ensures

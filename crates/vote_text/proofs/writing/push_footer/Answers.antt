@@ -18,7 +18,7 @@ returns c =
     let rest_is : c.deref.result.now ≡ signer_text facts =
     c.deref.ensures.value ∙ c.in_ok-push_signer.ensures ∙ ap (λ (l : List ℕ). l ++ signer_text facts) c.new-rest.ensures.items in
     let wrote2 : at2 ≡ at1 ++ text2 =
-    c.in_ok-push_with_object.ensures ∙ ap (λ (rest : List ℕ). at1 ++ item_text (with_object the.DirectorySignature rest (codes "SIGNATURE") facts.signature)) rest_is in
+    c.in_ok-push_with_object.ensures.ok ∙ ap (λ (rest : List ℕ). at1 ++ item_text (with_object the.DirectorySignature rest (codes "SIGNATURE") facts.signature)) rest_is in
     let rest1 : List ℕ = text2 ++ [] in
-    link out text1 at1 at2 rest1 c.in_ok-push_bare.ensures
+    link out text1 at1 at2 rest1 c.in_ok-push_bare.ensures.ok
     (last at1 text2 at2 wrote2)

@@ -24,8 +24,8 @@ returns c =
     let rest3 : List ℕ = text4 ++ rest4 in
     let rest2 : List ℕ = text3 ++ rest3 in
     let rest1 : List ℕ = text2 ++ rest2 in
-    link out text1 at1 at5 rest1 c.in_ok-push_timed.ensures
-    (link at1 text2 at2 at5 rest2 c.in_ok-push_timed-2.ensures
-    (link at2 text3 at3 at5 rest3 c.in_ok-push_timed-3.ensures
-    (link at3 text4 at4 at5 rest4 c.in_ok-push_timed-4.ensures
+    link out text1 at1 at5 rest1 c.in_ok-push_timed.ensures.ok
+    (link at1 text2 at2 at5 rest2 c.in_ok-push_timed-2.ensures.ok
+    (link at2 text3 at3 at5 rest3 c.in_ok-push_timed-3.ensures.ok
+    (link at3 text4 at4 at5 rest4 c.in_ok-push_timed-4.ensures.ok
     (last at4 text5 at5 c.in_ok-push_delays.ensures))))
