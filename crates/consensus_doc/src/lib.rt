@@ -15,6 +15,3 @@ pub use consensus_terms::{
 };
 pub use consensus_text::{digests, write_facts, write_signed};
 pub use reading::{flavour_of, read};
-
-#[cfg(test)]
-mod tests;

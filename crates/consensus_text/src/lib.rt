@@ -15,6 +15,3 @@ mod words;
 pub use facts::write_facts;
 pub use signed::{digests, write_signed};
 pub use unsigned_text::{unsigned, unsigned_both, unsigned_len, write_unsigned};
-
-#[cfg(test)]
-mod tests;

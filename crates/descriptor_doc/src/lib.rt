@@ -19,8 +19,3 @@ pub use head::{Head, head_of};
 pub use kept::Kept;
 pub use reading::read;
 pub use values::{decode_if, ports_if, words_if};
-
-#[cfg(test)]
-mod fixtures;
-#[cfg(test)]
-mod tests;

@@ -1,4 +1,4 @@
-//! Whole runs of `compute` over votes that do not hold, and with verifiers that fail: tests alone, of `authority_daemon::run`.
+//! Whole runs of `compute` over votes that do not hold: tests alone, of `authority_daemon::run`.
 #![tactic(auto)]
 
 #[cfg(test)]

@@ -26,8 +26,3 @@ pub use vote_entries::Entry;
 pub use vote_frame::{VoteFrame, VoteKind, VoteSection, VoteValue};
 pub use vote_terms::{EntryFacts, Rank, SignatureFacts, VoteFacts, VoteLists, VoteWord};
 pub use vote_text::write;
-
-#[cfg(test)]
-mod entry_tests;
-#[cfg(test)]
-mod tests;

@@ -1,5 +1,5 @@
 // Certificates that are shown, each in its one text.
-use super::{ITEMS, assert_faulty, assert_same, assert_shown_as, changed, with_items};
+use super::{ITEMS, assert_same, assert_shown_as, changed, with_items};
 use run_stage::{FOUR_LATER, ONE, THREE, TWO, Vote, certificate};
 use std::alloc::Global;
 use std::test::Fail;
@@ -92,24 +92,4 @@ fn spellings_have_one_text(rt: HostRuntime) -> Result<(), Fail> {
         assert_ordered(rt.alloc(), &order)?;
     }
     Ok(())
-}
-
-// Asserts that the certificate with this signing key is shown with that one.
-fn assert_key_shown(alloc: Global, key: &str, shown: &str) -> Result<(), Fail> {
-    let text = changed(alloc, "c2lnbi0x\n", key)?;
-    assert_shown_as(alloc, &text, &changed(alloc, "c2lnbi0x\n", shown)?)
-}
-
-#[test]
-fn long_keys_have_lines_of_64(rt: HostRuntime) -> Result<(), Fail> {
-    let alloc = rt.alloc();
-    let letters = "AbC+".repeat(alloc, 32)?;
-    let (line, _) = letters.split_at(64);
-    let shown = format!(in alloc; "{line}\n{line}\nAA==\n")?;
-    assert_key_shown(alloc, &shown, &shown)?;
-    let (short, rest) = line.split_at(63);
-    let other = format!(in alloc; "{short}\n{rest}{short}\n{rest}AA==\n")?;
-    assert_key_shown(alloc, &other, &shown)?;
-    let long = format!(in alloc; "{line}A\n{line}\nA==\n")?;
-    assert_faulty(alloc, "c2lnbi0x\n", &long, (311, "object base64"))
 }

@@ -1,11 +1,10 @@
 // Which of several reasons is given.
-use super::assert_verifier_fault;
 use super::refused_votes::{
-    CERTIFICATION_OF_CROSSCERT, CROSSCERT, EXPIRES, OTHER_KEY, OTHER_SIGNATURE, changed, three_with,
+    CERTIFICATION_OF_CROSSCERT, CROSSCERT, EXPIRES, OTHER_KEY, changed, three_with,
 };
 use run_stage::{
-    Given, LATER_TIME, ONE, Piece, THE_FIVE, THE_THREE, THREE, TIME, TWO, WITHOUT_THREE,
-    assert_fault, assert_vote_refused, compute_words, input, text_of, whole,
+    Given, LATER_TIME, ONE, Piece, THE_THREE, THREE, TIME, TWO, WITHOUT_THREE, assert_fault,
+    assert_vote_refused, compute_words, input, whole,
 };
 use std::alloc::Global;
 use std::test::Fail;
@@ -61,15 +60,4 @@ fn a_document_fault_comes_before_a_refused_vote(rt: HostRuntime) -> Result<(), F
     let verifies: &[u64] = &[1];
     let faulty = Given { verifies, ..faulty };
     assert_fault(alloc, faulty, place, "value")
-}
-
-#[test]
-fn a_refused_vote_comes_before_too_few(rt: HostRuntime) -> Result<(), Fail> {
-    let alloc = rt.alloc();
-    let words = compute_words(THE_FIVE);
-    let mut text = text_of(alloc, &ONE)?;
-    text.push_str(&changed(alloc, &THREE, OTHER_SIGNATURE)?)?;
-    let plain = whole(&words, text.as_bytes());
-    assert_vote_refused(alloc, plain, 2, "signature")?;
-    assert_verifier_fault(alloc, plain, 6)
 }

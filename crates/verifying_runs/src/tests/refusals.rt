@@ -1,16 +1,25 @@
-// Votes that do not hold, and a verifier that fails.
-use super::assert_verifier_fault;
+// Votes that do not hold, each with its word; signatures over the hash that they name.
 use super::refused_votes::{
     BAD_CERTIFICATION, BAD_CROSSCERT, BAD_SIGNATURE, EXPIRED, NAMES_SHA256, OTHER_ALGORITHM,
-    OTHER_CERTIFICATE, OTHER_KEY, OTHER_SIGNATURE, OTHER_SIGNER, OTHER_SIGNING_KEY, Refused,
-    SIGNS_SHA256, UNNAMED_ALGORITHM, changed, three_with,
+    OTHER_CERTIFICATE, OTHER_KEY, OTHER_SIGNER, OTHER_SIGNING_KEY, Refused, SIGNS_SHA256,
+    UNNAMED_ALGORITHM, changed, three_with,
 };
 use run_stage::{
-    Given, ONE, PLAIN_CONSENSUS, Piece, THE_THREE, THREE, TWO, WITHOUT_THREE, assert_gives,
-    assert_vote_refused, compute_words, input, text_of, whole,
+    Given, ONE, PLAIN_CONSENSUS, Piece, THE_THREE, THREE, TWO, assert_gives, assert_vote_refused,
+    compute_words, input, whole,
 };
 use std::alloc::{AllocError, Global};
 use std::test::Fail;
+
+// Asserts that a run ends where the verifier fails at the question with this number, from 1.
+fn assert_verifier_fault(alloc: Global, given: Given<'_>, question: u64) -> Result<(), Fail> {
+    let verifies = [question];
+    let given = Given {
+        verifies: &verifies,
+        ..given
+    };
+    assert_gives(alloc, given, 8, "", "verifier fault\n")
+}
 
 // The numbers of the questions behind so many, to the tenth.
 fn questions_behind(alloc: Global, last: u64) -> Result<Vec<u64>, AllocError> {
@@ -42,51 +51,6 @@ fn assert_refused(alloc: Global, refused: &Refused) -> Result<(), Fail> {
         assert_verifier_fault(alloc, given, questions)?;
     }
     Ok(())
-}
-
-#[test]
-fn a_fault_of_the_verifier_ends_the_run(rt: HostRuntime) -> Result<(), Fail> {
-    let alloc = rt.alloc();
-    let words = compute_words(THE_THREE);
-    let votes = input(alloc, &[ONE, TWO, THREE])?;
-    let plain = whole(&words, votes.as_bytes());
-    for question in 1..10 {
-        assert_verifier_fault(alloc, plain, question)?;
-    }
-    // Nine questions are asked of three votes, and each is answered with yes.
-    let verifies: &[u64] = &[10];
-    assert_gives(alloc, Given { verifies, ..plain }, 0, PLAIN_CONSENSUS, "")?;
-    // A vote that comes again is asked about again.
-    let votes = input(alloc, &[ONE, TWO, TWO, THREE])?;
-    let plain = whole(&words, votes.as_bytes());
-    assert_verifier_fault(alloc, plain, 12)?;
-    let verifies: &[u64] = &[13];
-    assert_gives(alloc, Given { verifies, ..plain }, 0, PLAIN_CONSENSUS, "")
-}
-
-// Asserts that a vote between those of the first and the second authority is refused, unless the verifier fails at once.
-fn assert_second_refused(
-    alloc: Global,
-    roster: &str,
-    second: &str,
-    word: &str,
-) -> Result<(), Fail> {
-    let words = compute_words(roster);
-    let mut text = text_of(alloc, &ONE)?;
-    text.push_str(second)?;
-    text.push_str(&text_of(alloc, &TWO)?)?;
-    let given = whole(&words, text.as_bytes());
-    assert_vote_refused(alloc, given, 2, word)?;
-    assert_verifier_fault(alloc, given, 1)
-}
-
-#[test]
-fn strangers_and_wrong_signatures_are_refused(rt: HostRuntime) -> Result<(), Fail> {
-    let alloc = rt.alloc();
-    let right = text_of(alloc, &THREE)?;
-    assert_second_refused(alloc, WITHOUT_THREE, &right, "authority")?;
-    let wrong = changed(alloc, &THREE, OTHER_SIGNATURE)?;
-    assert_second_refused(alloc, THE_THREE, &wrong, "signature")
 }
 
 #[test]

@@ -105,7 +105,7 @@ pub const BAD_CERTIFICATION: Refused = Refused {
 };
 
 /// The last byte of the third authority's signature is another.
-pub const OTHER_SIGNATURE: &[Piece] = &[("KHtpyXzI=", "KHtpyXzM=")];
+const OTHER_SIGNATURE: &[Piece] = &[("KHtpyXzI=", "KHtpyXzM=")];
 
 pub const BAD_SIGNATURE: Refused = Refused {
     number: 3,

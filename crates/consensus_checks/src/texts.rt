@@ -3,11 +3,11 @@ ghost use Rattle.std.specs.Prelude.{◌≤◌, IfOk};
 ghost use Rattle.dir_bytes.specs.Causes.{last_moment};
 ghost use Rattle.consensus_terms.specs.Moments.{HasMoments};
 
-use super::*;
 use consensus_terms::{
     Bandwidth, Consensus, ConsensusFacts, ConsensusLists, Flavour, Routerline, SignatureLine,
     SignedConsensus, SourceLine, Weights,
 };
+use consensus_text::{digests, unsigned, unsigned_both, write_facts, write_signed};
 use dir_bytes::{Seq, Text, read_hex};
 use dir_values::{Digest1, Digest2, Fingerprint, FlagSet};
 use list_values::{Params, ProtoRanges, VersionList};

@@ -1,5 +1,4 @@
 // Votes without relays: what one says, that it is written as it was, and which of two of one authority is held.
-use super::*;
 use bytes::Bytes;
 use dir_bytes::{BadField, Memory, read_hex};
 use dir_values::{Digest1, Digest2, Fingerprint, Roster};
@@ -7,6 +6,7 @@ use frame_terms::ReadRefusal;
 use key_port::TestKeys;
 use std::alloc::Global;
 use std::test::Fail;
+use vote_doc::{Accepted, CheckedVote, Placed, Rank, Vote, VoteLists, check_vote, read, write};
 
 const TIMES: &[u8] = b"network-status-version 3\n\
 vote-status vote\n\

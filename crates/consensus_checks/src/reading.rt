@@ -2,7 +2,7 @@
 ghost use Rattle.std.specs.Prelude.{IfOk};
 ghost use Rattle.consensus_terms.specs.Moments.{HasMoments};
 
-use crate::{Flavour, SignedConsensus, read, write_facts};
+use consensus_doc::{Flavour, SignedConsensus, read, write_facts};
 use std::alloc::Global;
 use std::test::Fail;
 

@@ -1,6 +1,6 @@
 // What no clause says: descriptors from outside, and that calls succeed.
 use crate::fixtures::{expired, lasting, plain, signed};
-use crate::{Descriptor, DescriptorRefusal, check, read};
+use descriptor_doc::{Descriptor, DescriptorRefusal, check, read};
 use dir_bytes::{BadField, Text, read_base64, read_hex};
 use dir_values::{Digest1, Digest2, Fingerprint};
 use frame_terms::{FrameFault, FrameReason, Keyword, ReadRefusal};

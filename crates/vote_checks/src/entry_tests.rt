@@ -1,10 +1,10 @@
 // What the entries of a vote say.
-use super::*;
 use bytes::Bytes;
 use dir_values::{Digest1, Digest2, Fingerprint};
 use frame_terms::ReadRefusal;
 use std::alloc::Global;
 use std::test::Fail;
+use vote_doc::{EdOpinion, Entry, read};
 
 const VOTE: &[u8] = b"network-status-version 3\n\
 vote-status vote\n\
