@@ -1,34 +1,60 @@
--- How what is open of a document, and what is kept of it, change with an item.
-use Rattle.std.specs.Prelude.{◌≡◌, ℕ, List, [], ◌∷◌, ◌++◌, Option, Some, None, Result, Ok, Err}
+-- How what is remembered, open and kept of a document changes with an item.
+use Rattle.std.specs.Prelude.{◌≡◌, ℕ, List, ◌∷◌, Option, Some, None, Result, Ok, Err}
 use Rattle.item_terms.specs.Items.{Item}
 use Rattle.item_terms.specs.declared.fault.DocFault.{DocFault}
+use Rattle.frame_terms.specs.declared.document.Made.{Made}
 use Rattle.frame_terms.specs.declared.document.Open.{Open}
 use Rattle.frame_terms.specs.declared.document.Taken.{Taken}
 use Rattle.frame_terms.specs.declared.fault.ReadRefusal.{ReadRefusal}
-use Rattle.frame_terms.specs.Documents.{with_next, with_inner, without_inner, read_items, finish}
+use Rattle.frame_terms.specs.declared.row.Row.{Row}
+use Rattle.frame_terms.specs.Documents.{Document, after_made, read_items, finish}
 use Rattle.frame_terms.specs.Refusals.{Fails}
+use Rattle.frame_terms.specs.Sections.{accept}
 use Rattle.frame_terms.specs.Tables.{Tables}
+use Rattle.frame_reader.specs.Giving.{given}
 
-module _ {S V : Type 0} where
-  -- a section begins inside another, unless there is no memory
-  abbrev pub Entering : S → Taken V → Open S V → Open S V → Result (Unit {0}) ReadRefusal → Type 0
-  Entering inner one old new (Ok _) = new ≡ with_inner inner one old
-  Entering inner one old new (Err refusal) = Fails {Y = ℕ} refusal (Ok 0)
+module _ {S K V X : Type 0} where
+  -- what is remembered with an item that was read, or why it may not stand
+  abbrev pub noted : Tables S K V X → X → Result (Taken V) ReadRefusal → Result X ReadRefusal
+  noted tables across (Err refusal) = Err refusal
+  noted tables across (Ok one) = given (tables.note across one)
 
-module _ {S V F : Type 0} where
-  -- a section ends and the next begins, unless there is no memory
-  abbrev pub Opening : (F → S → List (Taken V) → F) → S → Taken V → Open S V → F → Open S V → F
+  -- an item of this row is read and remembered, or a fault told, unless there is no memory
+  abbrev pub Takes : Tables S K V X → Row K → List (Taken V) → Item → X → X → Result (Taken V) ReadRefusal → Type 0
+  Takes tables row taken item old new (Ok one) =
+      (accept tables old row taken item ≡ Ok one) × (tables.note old one ≡ Ok new)
+  Takes tables row taken item old new (Err refusal) = Fails refusal (noted tables old (accept tables old row taken item))
+
+  -- an item that makes this is taken, whatever follows it, or a fault told, unless there is no memory
+  abbrev pub Continues : Tables S K V X → Result (Made S V) ReadRefusal → Item → X → Open S V → X → Open S V
       → Result (Unit {0}) ReadRefusal → Type 0
-  Opening with_ next one old facts new kept (Ok _) =
-      (kept ≡ with_ facts old.section old.taken) × (new ≡ with_next next one old)
-  Opening with_ next one old facts new kept (Err refusal) = Fails {Y = ℕ} refusal (Ok 0)
+  Continues tables made item across old remembered new (Ok _) =
+      (more : X → Open S V → Result (Document S V) ReadRefusal)
+      → after_made tables made across old item more ≡ more remembered new
+  Continues tables made item across old remembered new (Err refusal) =
+      (more : X → Open S V → Result (Document S V) ReadRefusal)
+      → Fails refusal (after_made tables made across old item more)
 
-  -- a section ends inside another, unless there is no memory
-  abbrev pub Leaving : (F → S → List (Taken V) → F) → Taken V → Open S V → F → Open S V → F
-      → Result (Unit {0}) ReadRefusal → Type 0
-  Leaving with_ one old facts new kept (Ok _) =
-      (kept ≡ with_ facts old.section (old.taken ++ one ∷ [])) × (new ≡ without_inner old.around old)
-  Leaving with_ one old facts new kept (Err refusal) = Fails {Y = ℕ} refusal (Ok 0)
+module _ {S K V X F : Type 0} where
+  -- the same of one with which a section ends, of which something is kept
+  abbrev pub Goes : (F → S → List (Taken V) → F) → Tables S K V X → Result (Made S V) ReadRefusal → Item → X → Open S V
+      → F → X → Open S V → F → Result (Unit {0}) ReadRefusal → Type 0
+  Goes with_ tables made item across old facts remembered new kept (Ok _) =
+      (more : X → Open S V → Result (Document S V) ReadRefusal)
+      → finish with_ facts (after_made tables made across old item more) ≡ finish with_ kept (more remembered new)
+  Goes with_ tables made item across old facts remembered new kept (Err refusal) =
+      (more : X → Open S V → Result (Document S V) ReadRefusal)
+      → Fails refusal (after_made tables made across old item more)
+
+  -- the same of one with which the document ends, at a place
+  abbrev pub Ends : (F → S → List (Taken V) → F) → Tables S K V X → Result (Made S V) ReadRefusal → Item → X → Open S V
+      → F → F → Result ℕ ReadRefusal → Type 0
+  Ends with_ tables made item across old facts kept (Ok used) =
+      (more : X → Open S V → Result (Document S V) ReadRefusal)
+      → finish with_ facts (after_made tables made across old item more) ≡ Ok (kept, used)
+  Ends with_ tables made item across old facts kept (Err refusal) =
+      (more : X → Open S V → Result (Document S V) ReadRefusal)
+      → Fails refusal (after_made tables made across old item more)
 
 module _ {S K V X F : Type 0} where
   -- an item is taken, whatever items and fault follow it

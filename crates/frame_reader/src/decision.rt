@@ -1,16 +1,17 @@
-// What an item makes of a document.
-ghost use Rattle.std.specs.Prelude.{◌≡◌};
+// How an item is to be taken into a document.
+ghost use Rattle.std.specs.Prelude.{◌≡◌, []};
 ghost use Rattle.dirdoc_grammar.specs.Seen.{seen, IsInside};
 ghost use Rattle.frame_terms.specs.Decisions as decisions;
-ghost use Rattle.frame_reader.specs.Giving.{Tells};
+ghost use Rattle.frame_reader.specs.Steps.{Leads};
 
 use crate::frame::Frame;
 use crate::order::{begins_document, inner, opener};
-use crate::section::{accept_first, refused, row_of, stands};
+use crate::section::{refused, row_of, stands};
 use crate::standing::by_keyword;
+use crate::step::Step;
 use dirdoc_grammar::Item;
 use frame_terms::{
-    FrameFault, FrameReason, Group, Keyword, Limit, Made, Open, ReadRefusal, Taken, keyword_of,
+    FrameFault, FrameReason, Group, Keyword, Limit, Open, ReadRefusal, Taken, keyword_of,
 };
 
 fn beginning_reason<F: Frame>(frame: F, keyword: Option<Keyword>) -> Option<FrameReason>
@@ -37,22 +38,21 @@ pub fn first_fault<F: Frame>(frame: F, item: &Item<'_>) -> Option<FrameFault>
     }
 }
 
-/// The first item of a document.
+/// How an item is to be taken that may be the first of its document.
 fn first_item<F: Frame>(
     frame: F,
-    across: &F::Across,
     item: &Item<'_>,
     keyword: Option<Keyword>,
-) -> Result<Made<F::Section, F::Value>, ReadRefusal>
+) -> Result<Step<F::Section, F::Kind>, ReadRefusal>
     requires { IsInside item.now }
-    ensures { Tells (decisions.first_item (F.tables frame) across.now (seen item.now) keyword) result }
+    ensures { Leads (F.tables frame) [] (seen item.now) result (λ across. decisions.first_item (F.tables frame) across (seen item.now) keyword) }
 {
     let Some(keyword) = keyword else {
-        return Ok(Made::Passes);
+        return Ok(Step::Passes);
     };
     match row_of(frame.rows(frame.first()), keyword) {
-        None => Ok(Made::Passes),
-        Some(row) => Ok(Made::Pushes(accept_first(frame, across, row, item)?)),
+        None => Ok(Step::Passes),
+        Some(row) => Ok(Step::Pushes(row)),
     }
 }
 
@@ -90,10 +90,11 @@ fn section_inside<F: Frame>(
     ensures { result ≡ decisions.section_inside (F.tables frame) section taken.now keyword }
 {
     let keyword = keyword?;
+    let section = inner(frame, section, keyword)?;
     if stands(keyword, taken) {
         None
     } else {
-        inner(frame, section, keyword)
+        Some(section)
     }
 }
 
@@ -127,56 +128,53 @@ fn beyond_inner<F: Frame>(
     }
 }
 
-/// What the first item of a document makes, which is built.
-fn made_first<F: Frame>(
+/// How the first item of a document is to be taken.
+fn step_first<F: Frame>(
     frame: F,
-    across: &F::Across,
     item: &Item<'_>,
     keyword: Option<Keyword>,
-) -> Result<Made<F::Section, F::Value>, ReadRefusal>
+) -> Result<Step<F::Section, F::Kind>, ReadRefusal>
     requires { IsInside item.now }
-    ensures { Tells (decisions.made_first (F.tables frame) across.now (seen item.now) keyword) result }
+    ensures { Leads (F.tables frame) [] (seen item.now) result (λ across. decisions.made_first (F.tables frame) across (seen item.now) keyword) }
 {
     match beginning_reason(frame, keyword) {
         Some(reason) => Err(refused(item.place, reason)),
-        None => first_item(frame, across, item, keyword),
+        None => first_item(frame, item, keyword),
     }
 }
 
-/// What a later item makes, which is built.
-fn made_later<F: Frame>(
+/// How a later item is to be taken.
+fn step_later<F: Frame>(
     frame: F,
-    across: &F::Across,
     state: &Open<F::Section, F::Value>,
     item: &Item<'_>,
     keyword: Option<Keyword>,
-) -> Result<Made<F::Section, F::Value>, ReadRefusal>
+) -> Result<Step<F::Section, F::Kind>, ReadRefusal>
     requires { IsInside item.now }
-    ensures { Tells (decisions.made_later (F.tables frame) across.now state.now (seen item.now) keyword) result }
+    ensures { Leads (F.tables frame) state.now.taken (seen item.now) result (λ across. decisions.made_later (F.tables frame) across state.now (seen item.now) keyword) }
 {
     let taken = state.taken.as_slice();
     match beyond_inner(frame, state.section, taken, &state.around, item, keyword) {
         Some(fault) => Err(ReadRefusal::Frame(fault)),
-        None => by_keyword(frame, across, state, item, keyword),
+        None => by_keyword(frame, state, item, keyword),
     }
 }
 
-/// What an item makes of a document of which this is open.
+/// How an item is to be taken into a document of which this is open.
 ///
 /// # Errors
 /// The first fault that the item has, in the order of `FrameReason`.
-pub fn made_by<F: Frame>(
+pub fn step_by<F: Frame>(
     frame: F,
-    across: &F::Across,
     state: &Open<F::Section, F::Value>,
     item: &Item<'_>,
-) -> Result<Made<F::Section, F::Value>, ReadRefusal>
+) -> Result<Step<F::Section, F::Kind>, ReadRefusal>
     requires { IsInside item.now }
-    ensures { Tells (decisions.made_by (F.tables frame) across.now state.now (seen item.now)) result }
+    ensures { Leads (F.tables frame) state.now.taken (seen item.now) result (λ across. decisions.made_by (F.tables frame) across state.now (seen item.now)) }
 {
     let keyword = keyword_of(item.keyword);
     match state.taken.as_slice() {
-        [] => made_first(frame, across, item, keyword),
-        [_, ..] => made_later(frame, across, state, item, keyword),
+        [] => step_first(frame, item, keyword),
+        [_, ..] => step_later(frame, state, item, keyword),
     }
 }

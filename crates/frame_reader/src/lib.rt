@@ -7,7 +7,10 @@ mod frame;
 mod order;
 mod section;
 mod standing;
+mod step;
+mod turning;
 
-pub use decision::{first_fault, made_by};
+pub use decision::{first_fault, step_by};
 pub use document::{Facts, read_document};
 pub use frame::{Frame, given};
+pub use step::Step;

@@ -1,5 +1,5 @@
 // The items of a section and the rows of its table.
-ghost use Rattle.std.specs.Prelude.{◌≡◌, []};
+ghost use Rattle.std.specs.Prelude.{◌≡◌};
 ghost use Rattle.dirdoc_grammar.specs.Seen.{seen, IsInside};
 ghost use Rattle.frame_terms.specs.Refusals as refusals;
 ghost use Rattle.frame_terms.specs.Sections as sections;
@@ -81,18 +81,4 @@ pub fn accept<F: Frame>(
     }
     let value = frame.value(across, row.kind, item)?;
     Ok(taken_of(row.keyword, item, value))
-}
-
-/// An item of this row, which is its section's first.
-pub fn accept_first<F: Frame>(
-    frame: F,
-    across: &F::Across,
-    row: Row<F::Kind>,
-    item: &Item<'_>,
-) -> Result<Taken<F::Value>, ReadRefusal>
-    requires { IsInside item.now }
-    ensures { Tells (sections.accept (F.tables frame) across.now row [] (seen item.now)) result }
-{
-    let none: [Taken<F::Value>; 0] = [];
-    accept(frame, across, row, &none, item)
 }

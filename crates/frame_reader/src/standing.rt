@@ -1,31 +1,35 @@
-// What an item makes that is not the first of its document.
+// How an item is to be taken that is not the first of its document.
 ghost use Rattle.std.specs.Prelude.{◌≡◌};
 ghost use Rattle.dirdoc_grammar.specs.Seen.{seen, IsInside};
 ghost use Rattle.frame_terms.specs.Order as order;
 ghost use Rattle.frame_terms.specs.Standing as standing;
-ghost use Rattle.frame_reader.specs.Giving.{Tells};
+ghost use Rattle.frame_reader.specs.Steps as steps;
+ghost use Rattle.frame_reader.specs.Steps.{Leads};
 
 use crate::frame::Frame;
 use crate::order::{first_of, following, inner, is_keyword, knows, opened_by, opener, passed_over};
-use crate::section::{accept, accept_first, lacking, lacking_but, refused, row_of};
+use crate::section::{lacking, lacking_but, refused, row_of};
+use crate::step::Step;
 use dirdoc_grammar::Item;
-use frame_terms::{Again, FrameReason, Group, Keyword, Made, Open, ReadRefusal, Row, Taken};
+use frame_terms::{Again, FrameReason, Group, Keyword, Open, ReadRefusal, Row};
 
-fn ends<S, V>(around: &Option<Group<S, V>>, one: Taken<V>) -> Made<S, V>
-    ensures { result ≡ standing.ends around.now one }
+/// The last item of a section, by whether there is one around it.
+fn ends<S, K, V>(around: &Option<Group<S, V>>, row: Row<K>) -> Step<S, K>
+    ensures { result ≡ steps.last_step around.now row }
 {
     match around {
-        Some(_) => Made::Leaves(one),
-        None => Made::Ends(one),
+        Some(_) => Step::Leaves(row),
+        None => Step::Ends(row),
     }
 }
 
-fn enters<S, V>(inner: Option<S>, one: Taken<V>) -> Made<S, V>
-    ensures { result ≡ standing.enters inner one }
+/// An item of a section, and the section that it begins inside it if there is one.
+fn enters<S, K>(inner: Option<S>, row: Row<K>) -> Step<S, K>
+    ensures { result ≡ steps.next_step inner row }
 {
     match inner {
-        None => Made::Pushes(one),
-        Some(section) => Made::Enters(section, one),
+        None => Step::Pushes(row),
+        Some(section) => Step::Enters(section, row),
     }
 }
 
@@ -43,49 +47,46 @@ fn begins_again<F: Frame>(frame: F, section: F::Section, row: Row<F::Kind>) -> A
 /// An item of this row of the section that is open, which does not end with it.
 fn goes_on<F: Frame>(
     frame: F,
-    across: &F::Across,
     state: &Open<F::Section, F::Value>,
     item: &Item<'_>,
     row: Row<F::Kind>,
     again: Again,
-) -> Result<Made<F::Section, F::Value>, ReadRefusal>
+) -> Result<Step<F::Section, F::Kind>, ReadRefusal>
     requires { IsInside item.now }
-    ensures { Tells (standing.goes_on (F.tables frame) across.now state.now (seen item.now) row again) result }
+    ensures { Leads (F.tables frame) state.now.taken (seen item.now) result (λ across. standing.goes_on (F.tables frame) across state.now (seen item.now) row again) }
 {
     if let Again::Nothing = again {
-        let one = accept(frame, across, row, state.taken.as_slice(), item)?;
-        return Ok(enters(inner(frame, state.section, row.keyword), one));
+        return Ok(enters(inner(frame, state.section, row.keyword), row));
     }
     if let Some(missing) = lacking(frame.rows(state.section), state.taken.as_slice()) {
         return Err(refused(item.place, FrameReason::Missing(missing)));
     }
     if let Again::Document = again {
-        return Ok(Made::Stops);
+        return Ok(Step::Stops);
     }
-    Ok(Made::Opens(state.section, accept_first(frame, across, row, item)?))
+    Ok(Step::Opens(state.section, row))
 }
 
 /// An item of this row of the section that is open.
+#[tactic(auto, using(crate::proofs::Stepping::last_made))]
 fn in_section<F: Frame>(
     frame: F,
-    across: &F::Across,
     state: &Open<F::Section, F::Value>,
     item: &Item<'_>,
     row: Row<F::Kind>,
-) -> Result<Made<F::Section, F::Value>, ReadRefusal>
+) -> Result<Step<F::Section, F::Kind>, ReadRefusal>
     requires { IsInside item.now }
-    ensures { Tells (standing.in_section (F.tables frame) across.now state.now (seen item.now) row) result }
+    ensures { Leads (F.tables frame) state.now.taken (seen item.now) result (λ across. standing.in_section (F.tables frame) across state.now (seen item.now) row) }
 {
     let taken = state.taken.as_slice();
     if is_keyword(frame.shape(state.section).last, row.keyword) {
         if let Some(missing) = lacking_but(frame.rows(state.section), row.keyword, taken) {
             return Err(refused(item.place, FrameReason::Missing(missing)));
         }
-        return Ok(ends(&state.around, accept(frame, across, row, taken, item)?));
+        return Ok(ends(&state.around, row));
     }
     goes_on(
         frame,
-        across,
         state,
         item,
         row,
@@ -96,53 +97,51 @@ fn in_section<F: Frame>(
 /// An item of no row of the section that is open.
 fn elsewhere<F: Frame>(
     frame: F,
-    across: &F::Across,
     state: &Open<F::Section, F::Value>,
     item: &Item<'_>,
     keyword: Keyword,
-) -> Result<Made<F::Section, F::Value>, ReadRefusal>
+) -> Result<Step<F::Section, F::Kind>, ReadRefusal>
     requires { IsInside item.now }
-    ensures { Tells (standing.elsewhere (F.tables frame) across.now state.now (seen item.now) keyword (order.opened_by (F.tables frame) keyword (order.following (F.tables frame) state.now.section))) result }
+    ensures { Leads (F.tables frame) state.now.taken (seen item.now) result (λ across. standing.elsewhere (F.tables frame) across state.now (seen item.now) keyword (order.opened_by (F.tables frame) keyword (order.following (F.tables frame) state.now.section))) }
 {
     let later = following(frame, state.section);
     let Some(other) = opened_by(frame, keyword, later) else {
         if knows(frame, keyword) {
             return Err(refused(item.place, FrameReason::Order));
         }
-        return Ok(Made::Passes);
+        return Ok(Step::Passes);
     };
     let missing = lacking(frame.rows(state.section), state.taken.as_slice());
     if let Some(missing) = first_of(missing, passed_over(frame, keyword, later)) {
         return Err(refused(item.place, FrameReason::Missing(missing)));
     }
     match row_of(frame.rows(other), keyword) {
-        None => Ok(Made::Passes),
-        Some(row) => Ok(Made::Opens(other, accept_first(frame, across, row, item)?)),
+        None => Ok(Step::Passes),
+        Some(row) => Ok(Step::Opens(other, row)),
     }
 }
 
-/// What an item makes that is not the first of its document.
+/// How an item is to be taken that is not the first of its document.
 pub fn by_keyword<F: Frame>(
     frame: F,
-    across: &F::Across,
     state: &Open<F::Section, F::Value>,
     item: &Item<'_>,
     keyword: Option<Keyword>,
-) -> Result<Made<F::Section, F::Value>, ReadRefusal>
+) -> Result<Step<F::Section, F::Kind>, ReadRefusal>
     requires { IsInside item.now }
-    ensures { Tells (standing.by_keyword (F.tables frame) across.now state.now (seen item.now) keyword) result }
+    ensures { Leads (F.tables frame) state.now.taken (seen item.now) result (λ across. standing.by_keyword (F.tables frame) across state.now (seen item.now) keyword) }
 {
     let Some(keyword) = keyword else {
-        return Ok(Made::Passes);
+        return Ok(Step::Passes);
     };
     match row_of(frame.rows(state.section), keyword) {
         Some(row) => {
             if frame.ignores(row.kind, item) {
-                Ok(Made::Passes)
+                Ok(Step::Passes)
             } else {
-                in_section(frame, across, state, item, row)
+                in_section(frame, state, item, row)
             }
         }
-        None => elsewhere(frame, across, state, item, keyword),
+        None => elsewhere(frame, state, item, keyword),
     }
 }

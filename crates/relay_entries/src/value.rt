@@ -34,7 +34,44 @@ pub fn too_many_entries(listed: &Listed, kind: EntryKind, item: &Item<'_>) -> Re
     }
 }
 
-/// What an item of an entry says. Its memory is that of what is listed.
+/// What an item of the kind `Relay` says.
+fn relay_value(item: &Item<'_>) -> Result<Value<EntryValue>, ReadRefusal>
+    requires { IsInside item.now }
+    ensures { Gives (at_place (lines.entry_value EntryKind.Relay (seen item.now))) result }
+{
+    let relay = given(at_place(relay_of(item)))?;
+    Ok(Value::Own(EntryValue::Relay(relay)))
+}
+
+/// What an item of the kind `Bandwidths` says.
+fn bandwidths_value(item: &Item<'_>) -> Result<Value<EntryValue>, ReadRefusal>
+    requires { IsInside item.now }
+    ensures { Gives (at_place (lines.entry_value EntryKind.Bandwidths (seen item.now))) result }
+{
+    let said = given(at_place(bandwidths_of(item)))?;
+    Ok(Value::Own(EntryValue::Bandwidths(said)))
+}
+
+/// What an item of the kind `Micro` says.
+fn micro_value(item: &Item<'_>) -> Result<Value<EntryValue>, ReadRefusal>
+    requires { IsInside item.now }
+    ensures { Gives (at_place (lines.entry_value EntryKind.Micro (seen item.now))) result }
+{
+    let micro = given(at_place(micro_of(item)))?;
+    Ok(Value::Own(EntryValue::Micro(micro)))
+}
+
+/// What an item of the kind `Ed` says.
+fn ed_value(item: &Item<'_>) -> Result<Value<EntryValue>, ReadRefusal>
+    requires { IsInside item.now }
+    ensures { Gives (at_place (lines.entry_value EntryKind.Ed (seen item.now))) result }
+{
+    let opinion = given(at_place(ed_of(item)))?;
+    Ok(Value::Own(EntryValue::Ed(opinion)))
+}
+
+/// What an item of an entry says. A kind that says much is read in a function of its own, so that the room for it is taken
+/// for such items alone. Its memory is that of what is listed.
 ///
 /// # Errors
 /// `Value` at the place of what is wrong, or want of memory.
@@ -47,22 +84,13 @@ pub fn entry_value(
     ensures { Gives (at_place (lines.entry_value kind (seen item.now))) result }
 {
     match kind {
-        EntryKind::Relay => {
-            let relay = given(at_place(relay_of(item)))?;
-            Ok(Value::Own(EntryValue::Relay(relay)))
-        }
+        EntryKind::Relay => relay_value(item),
         EntryKind::Address => Ok(Value::Text(given(at_place(address_of(item)))?)),
         EntryKind::Flags => Ok(Value::Text(flags_of(listed.keys.alloc(), item)?)),
         EntryKind::Rest => Ok(Value::Text(rest_of(item))),
-        EntryKind::Bandwidths => {
-            let said = given(at_place(bandwidths_of(item)))?;
-            Ok(Value::Own(EntryValue::Bandwidths(said)))
-        }
-        EntryKind::Micro => {
-            let micro = given(at_place(micro_of(item)))?;
-            Ok(Value::Own(EntryValue::Micro(micro)))
-        }
-        EntryKind::Ed => Ok(Value::Own(EntryValue::Ed(given(at_place(ed_of(item)))?))),
+        EntryKind::Bandwidths => bandwidths_value(item),
+        EntryKind::Micro => micro_value(item),
+        EntryKind::Ed => ed_value(item),
     }
 }
 

@@ -9,7 +9,7 @@ ghost use Rattle.relay_entries.specs.Lines as lines;
 ghost use Rattle.vote_frame.specs.Tables as tables;
 
 use crate::frame::{VoteKind, VoteValue};
-use authority_certs::cert_value;
+use authority_certs::{CertKind, cert_value};
 use dirdoc_grammar::Item;
 use frame_reader::given;
 use frame_terms::{FrameFault, Limit, ReadRefusal};
@@ -18,7 +18,9 @@ use frame_values::{
     too_many,
 };
 use list_lines::{params_of, protocols_of, versions_of};
-use relay_entries::{EntryValue, Listed, entry_value, flags_of, note_entry, too_many_entries};
+use relay_entries::{
+    EntryKind, EntryValue, Listed, entry_value, flags_of, note_entry, too_many_entries,
+};
 
 /// What an item of an entry says, as a vote does.
 fn lifted(said: Value<EntryValue>) -> Value<VoteValue>
@@ -41,7 +43,55 @@ fn at<V>(value: Result<V, u64>) -> Result<V, ReadRefusal>
     given(at_place(value))
 }
 
-/// What an item says, or the place of what is wrong.
+/// What an item of the kind `Delays` says.
+fn delays_value(item: &Item<'_>) -> Result<Value<VoteValue>, ReadRefusal>
+    requires { IsInside item.now }
+    ensures { Gives (faults.at_place (tables.value_at VoteKind.Delays (seen item.now))) result }
+{
+    let (vote, distribution) = at(delays_of(item))?;
+    Ok(Value::Own(VoteValue::Delays(vote, distribution)))
+}
+
+/// What an item of the kind `Source` says.
+fn source_value(item: &Item<'_>) -> Result<Value<VoteValue>, ReadRefusal>
+    requires { IsInside item.now }
+    ensures { Gives (faults.at_place (tables.value_at VoteKind.Source (seen item.now))) result }
+{
+    let source = at(source_of(item))?;
+    Ok(Value::Own(VoteValue::Source(source)))
+}
+
+/// What an item of the kind `Signature` says.
+fn signature_value(item: &Item<'_>) -> Result<Value<VoteValue>, ReadRefusal>
+    requires { IsInside item.now }
+    ensures { Gives (faults.at_place (tables.value_at VoteKind.Signature (seen item.now))) result }
+{
+    let signature = at(signature_of(item))?;
+    Ok(Value::Own(VoteValue::Signature(signature)))
+}
+
+/// What an item of a certificate says.
+fn certificate_value(kind: CertKind, item: &Item<'_>) -> Result<Value<VoteValue>, ReadRefusal>
+    requires { IsInside item.now }
+    ensures { Gives (faults.at_place (tables.value_at (VoteKind.Certificate kind) (seen item.now))) result }
+{
+    at(cert_value(kind, item))
+}
+
+/// What an item of an entry says, as a vote does, or want of memory.
+fn lifted_value(
+    listed: &Listed,
+    kind: EntryKind,
+    item: &Item<'_>,
+) -> Result<Value<VoteValue>, ReadRefusal>
+    requires { IsInside item.now }
+    ensures { Gives (faults.at_place (tables.value_at (VoteKind.Entry kind) (seen item.now))) result }
+{
+    Ok(lifted(entry_value(listed, kind, item)?))
+}
+
+/// What an item says, or the place of what is wrong. A kind that says much is read in a function of its own, so that the
+/// room for it is taken for such items alone.
 pub(crate) fn value_at(
     listed: &Listed,
     kind: VoteKind,
@@ -61,20 +111,17 @@ pub(crate) fn value_at(
         }
         VoteKind::Methods => Ok(Value::Text(at(numbers_of(item))?)),
         VoteKind::Time => Ok(Value::Number(at(time_of(item))?)),
-        VoteKind::Delays => {
-            let (vote, distribution) = at(delays_of(item))?;
-            Ok(Value::Own(VoteValue::Delays(vote, distribution)))
-        }
+        VoteKind::Delays => delays_value(item),
         VoteKind::KnownFlags => Ok(Value::Text(flags_of(listed.keys.alloc(), item)?)),
         VoteKind::Versions => Ok(Value::Text(at(versions_of(item))?)),
         VoteKind::Protocols => Ok(Value::Text(at(protocols_of(item))?)),
         VoteKind::Params => Ok(Value::Text(params_of(listed.keys.alloc(), item)?)),
         VoteKind::Rest => Ok(Value::Text(rest_of(item))),
-        VoteKind::Source => Ok(Value::Own(VoteValue::Source(at(source_of(item))?))),
+        VoteKind::Source => source_value(item),
         VoteKind::Nothing => Ok(Value::Nothing),
-        VoteKind::Signature => Ok(Value::Own(VoteValue::Signature(at(signature_of(item))?))),
-        VoteKind::Certificate(kind) => at(cert_value(kind, item)),
-        VoteKind::Entry(kind) => Ok(lifted(entry_value(listed, kind, item)?)),
+        VoteKind::Signature => signature_value(item),
+        VoteKind::Certificate(kind) => certificate_value(kind, item),
+        VoteKind::Entry(kind) => lifted_value(listed, kind, item),
     }
 }
 
