@@ -1,4 +1,4 @@
-//! Whole runs of `check cert` and `show cert` over forms in memory: tests alone, of `authority_daemon::run`.
+//! Whole runs of `check cert` and `show cert` on texts that are no certificate: tests alone, of `authority_daemon::run`.
 #![tactic(auto)]
 
 #[cfg(test)]

@@ -2,7 +2,9 @@
 //! Only tests stand on it.
 #![tactic(auto)]
 
+mod certificates;
 mod pieces;
+mod refused_votes;
 mod relay_lines;
 mod run;
 mod signing;
@@ -10,7 +12,13 @@ mod texts;
 mod votes;
 mod wanted;
 
+pub use certificates::{CERTIFICATE_ITEMS, certificate_with, changed_certificate};
 pub use pieces::{Piece, place_of, with_pieces};
+pub use refused_votes::{
+    BAD_CERTIFICATION, BAD_CROSSCERT, BAD_SIGNATURE, CERTIFICATION_OF_CROSSCERT, CROSSCERT,
+    EXPIRED, EXPIRES, NAMES_SHA256, OTHER_ALGORITHM, OTHER_CERTIFICATE, OTHER_KEY, OTHER_SIGNER,
+    OTHER_SIGNING_KEY, Refused, SIGNS_SHA256, UNNAMED_ALGORITHM, changed_vote, three_with,
+};
 pub use relay_lines::{KEY_P, SET, X};
 pub use run::{Gave, Given, run_of, whole};
 pub use texts::PLAIN_CONSENSUS;
@@ -19,4 +27,6 @@ pub use votes::{
     THREE_LATER, TIME, TWO, TWO_LATER, Vote, WITHOUT_THREE, certificate, compute_words,
     flavour_words, input, text_of,
 };
-pub use wanted::{assert_fault, assert_gives, assert_vote_refused, computed};
+pub use wanted::{
+    assert_fault, assert_gives, assert_verifier_fault, assert_vote_refused, computed,
+};

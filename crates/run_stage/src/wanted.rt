@@ -69,3 +69,16 @@ pub fn assert_vote_refused(
     let line = format!(in alloc; "vote {number} refused: {word}\n")?;
     assert_gives(alloc, given, 6, "", &line)
 }
+
+/// Asserts that a run ends where the verifier fails at the question with this number, from 1.
+///
+/// # Errors
+/// It ends otherwise, or there was no memory.
+pub fn assert_verifier_fault(alloc: Global, given: Given<'_>, question: u64) -> Result<(), Fail> {
+    let verifies = [question];
+    let given = Given {
+        verifies: &verifies,
+        ..given
+    };
+    assert_gives(alloc, given, 8, "", "verifier fault\n")
+}

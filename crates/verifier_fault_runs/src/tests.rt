@@ -1,28 +1,14 @@
 // Runs of `compute` with verifiers that fail, over votes that hold and over some that do not.
 use run_stage::{
-    Given, ONE, PLAIN_CONSENSUS, Piece, THE_FIVE, THE_THREE, THREE, TWO, Vote, WITHOUT_THREE,
-    assert_gives, assert_vote_refused, compute_words, input, text_of, whole, with_pieces,
+    Given, ONE, PLAIN_CONSENSUS, Piece, THE_FIVE, THE_THREE, THREE, TWO, WITHOUT_THREE,
+    assert_gives, assert_verifier_fault, assert_vote_refused, changed_vote, compute_words, input,
+    text_of, whole,
 };
 use std::alloc::Global;
 use std::test::Fail;
 
 /// The last byte of the third authority's signature is another.
 const OTHER_SIGNATURE: &[Piece] = &[("KHtpyXzI=", "KHtpyXzM=")];
-
-// The text of a vote with other pieces, each of which stands in it.
-fn changed(alloc: Global, vote: &Vote, pieces: &[Piece]) -> Result<String, Fail> {
-    Ok(with_pieces(alloc, &text_of(alloc, vote)?, pieces)?.ok_or("no such piece")?)
-}
-
-// Asserts that a run ends where the verifier fails at the question with this number, from 1.
-fn assert_verifier_fault(alloc: Global, given: Given<'_>, question: u64) -> Result<(), Fail> {
-    let verifies = [question];
-    let given = Given {
-        verifies: &verifies,
-        ..given
-    };
-    assert_gives(alloc, given, 8, "", "verifier fault\n")
-}
 
 #[test]
 fn a_fault_of_the_verifier_ends_the_run(rt: HostRuntime) -> Result<(), Fail> {
@@ -65,7 +51,7 @@ fn strangers_and_wrong_signatures_are_refused(rt: HostRuntime) -> Result<(), Fai
     let alloc = rt.alloc();
     let right = text_of(alloc, &THREE)?;
     assert_second_refused(alloc, WITHOUT_THREE, &right, "authority")?;
-    let wrong = changed(alloc, &THREE, OTHER_SIGNATURE)?;
+    let wrong = changed_vote(alloc, &THREE, OTHER_SIGNATURE)?;
     assert_second_refused(alloc, THE_THREE, &wrong, "signature")
 }
 
@@ -74,7 +60,7 @@ fn a_refused_vote_comes_before_too_few(rt: HostRuntime) -> Result<(), Fail> {
     let alloc = rt.alloc();
     let words = compute_words(THE_FIVE);
     let mut text = text_of(alloc, &ONE)?;
-    text.push_str(&changed(alloc, &THREE, OTHER_SIGNATURE)?)?;
+    text.push_str(&changed_vote(alloc, &THREE, OTHER_SIGNATURE)?)?;
     let plain = whole(&words, text.as_bytes());
     assert_vote_refused(alloc, plain, 2, "signature")?;
     assert_verifier_fault(alloc, plain, 6)

@@ -1,20 +1,25 @@
 // Votes that are refused, among those of the three authorities.
-use run_stage::{ONE, Piece, THREE, TWO, Vote, text_of, with_pieces};
+use crate::pieces::{Piece, with_pieces};
+use crate::votes::{ONE, THREE, TWO, Vote, text_of};
 use std::alloc::Global;
 use std::test::Fail;
 
-/// A vote that stands among those of the three authorities in place of the one with its number, the number of the authority
-/// whose vote it is, with what is changed in it, the word for why it is refused, and how many questions the verifier has
-/// answered by then.
-#[derive(Clone, Copy)]
+/// A vote that stands among those of the three authorities in place of the one with its number, and is refused.
+#[derive(Clone, Copy, Debug)]
 pub struct Refused {
+    /// The number of the vote, from 1.
     pub number: usize,
+    /// The number of the authority whose vote it is, from 1.
     pub author: usize,
+    /// What is changed in it.
     pub pieces: &'static [Piece],
+    /// The word for why it is refused.
     pub word: &'static str,
+    /// How many questions are answered by then.
     pub questions: u64,
 }
 
+/// The certificate expires when the period begins.
 pub const EXPIRES: Piece = ("dir-key-expires 2026-12-01", "dir-key-expires 2026-01-01");
 
 /// The certificate expires when the period begins. It and the vote are signed anew.
@@ -66,8 +71,10 @@ pub const OTHER_CERTIFICATE: Refused = Refused {
     questions: 0,
 };
 
+/// A byte of the third authority's crosscert is another.
 pub const CROSSCERT: Piece = ("0Rv6h1F8", "0Bv6h1F8");
 
+/// The certification of the certificate with that crosscert.
 pub const CERTIFICATION_OF_CROSSCERT: Piece = (
     "r52miFbjO1oB+cqeL+qGraMFJVj+4bkiQa+zUZxox4k=",
     "EeOM6WLlrgBgAfeXlyJ4T4V4zIY3yX82V1MxF/usveQ=",
@@ -107,6 +114,7 @@ pub const BAD_CERTIFICATION: Refused = Refused {
 /// The last byte of the third authority's signature is another.
 const OTHER_SIGNATURE: &[Piece] = &[("KHtpyXzI=", "KHtpyXzM=")];
 
+/// The vote is not signed anew.
 pub const BAD_SIGNATURE: Refused = Refused {
     number: 3,
     author: 3,
@@ -136,8 +144,10 @@ pub const OTHER_SIGNING_KEY: Refused = Refused {
     ..OTHER_SIGNER
 };
 
+/// The line of the signature names SHA-256.
 pub const NAMES_SHA256: Piece = ("directory-signature ", "directory-signature sha256 ");
 
+/// The first authority's signature is over the SHA-256.
 pub const SIGNS_SHA256: Piece = (
     "MqbYcq3B0vw+uX6qJMMwdeX1QHgvqQkqHisTccO6uRg=",
     "HAQgWFXZ4o++ZEsOY1vtEMBhHE8bgp14juvW+Pe8E7I=",
@@ -157,8 +167,11 @@ pub const OTHER_ALGORITHM: Refused = Refused {
     ..OTHER_SIGNER
 };
 
-// The text of a vote with other pieces, each of which stands in it.
-pub fn changed(alloc: Global, vote: &Vote, pieces: &[Piece]) -> Result<String, Fail> {
+/// The text of a vote with other pieces, each of which stands in it.
+///
+/// # Errors
+/// One does not stand in it, or there was no memory.
+pub fn changed_vote(alloc: Global, vote: &Vote, pieces: &[Piece]) -> Result<String, Fail> {
     Ok(with_pieces(alloc, &text_of(alloc, vote)?, pieces)?.ok_or("no such piece")?)
 }
 
@@ -168,10 +181,13 @@ const VOTES: &[Vote] = &[ONE, TWO, THREE];
 // The vote of an authority with other pieces, by the authority's number.
 fn changed_of(alloc: Global, author: usize, pieces: &[Piece]) -> Result<String, Fail> {
     let vote = VOTES.get(author.saturating_sub(1)).ok_or("no author")?;
-    changed(alloc, vote, pieces)
+    changed_vote(alloc, vote, pieces)
 }
 
-// The votes of the three authorities, with one that is refused in place of its own.
+/// The votes of the three authorities, with one that is refused in place of its own.
+///
+/// # Errors
+/// What is changed does not stand in it, or there was no memory.
 pub fn three_with(alloc: Global, refused: &Refused) -> Result<String, Fail> {
     let mut text = String::new(alloc);
     for (before, vote) in VOTES.iter().enumerate() {

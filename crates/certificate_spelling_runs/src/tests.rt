@@ -1,11 +1,28 @@
-// Certificates that are shown, each in its one text.
-use super::{ITEMS, assert_same, assert_shown_as, changed, with_items};
-use run_stage::{FOUR_LATER, ONE, THREE, TWO, Vote, certificate};
+// Runs of `check cert` and `show cert` on certificates, each of which is shown in its one text.
+use run_stage::{
+    CERTIFICATE_ITEMS, FOUR_LATER, ONE, THREE, TWO, Vote, assert_gives, certificate,
+    certificate_with, changed_certificate, whole,
+};
 use std::alloc::Global;
 use std::test::Fail;
 
+const CHECK: [&str; 2] = ["check", "cert"];
+
+const SHOW: [&str; 2] = ["show", "cert"];
+
 /// Votes, of each the certificate is shown as it is.
 const VOTES: &[Vote] = &[ONE, TWO, THREE, FOUR_LATER];
+
+// Asserts that a text is one certificate, and has another as its canonical text.
+fn assert_shown_as(alloc: Global, text: &str, shown: &str) -> Result<(), Fail> {
+    assert_gives(alloc, whole(&CHECK, text.as_bytes()), 0, "ok\n", "")?;
+    assert_gives(alloc, whole(&SHOW, text.as_bytes()), 0, shown, "")
+}
+
+// Asserts that a text is one certificate, with the plain one as its canonical text.
+fn assert_same(alloc: Global, text: &str) -> Result<(), Fail> {
+    assert_shown_as(alloc, text, &CERTIFICATE_ITEMS.concat(alloc)?)
+}
 
 // Asserts that the certificate of a vote is shown as it is.
 fn assert_vote_kept(alloc: Global, vote: &Vote) -> Result<(), Fail> {
@@ -15,14 +32,14 @@ fn assert_vote_kept(alloc: Global, vote: &Vote) -> Result<(), Fail> {
 
 // Asserts that the certificate in which one piece is another is shown as it is.
 fn assert_kept(alloc: Global, from: &str, to: &str) -> Result<(), Fail> {
-    let text = changed(alloc, from, to)?;
+    let text = changed_certificate(alloc, from, to)?;
     assert_shown_as(alloc, &text, &text)
 }
 
 #[test]
 fn a_certificate_is_shown_as_it_is(rt: HostRuntime) -> Result<(), Fail> {
     let alloc = rt.alloc();
-    assert_same(alloc, &ITEMS.concat(alloc)?)?;
+    assert_same(alloc, &CERTIFICATE_ITEMS.concat(alloc)?)?;
     for vote in VOTES {
         assert_vote_kept(alloc, vote)?;
     }
@@ -44,14 +61,14 @@ fn a_certificate_is_shown_as_it_is(rt: HostRuntime) -> Result<(), Fail> {
 
 // Asserts that the certificate in which one piece is another, and with more behind it, has the same text.
 fn assert_spelled(alloc: Global, from: &str, to: &str, behind: &str) -> Result<(), Fail> {
-    let mut text = changed(alloc, from, to)?;
+    let mut text = changed_certificate(alloc, from, to)?;
     text.push_str(behind)?;
     assert_same(alloc, &text)
 }
 
 // Asserts that the certificate whose items stand in this order has the same text.
 fn assert_ordered(alloc: Global, order: &[usize]) -> Result<(), Fail> {
-    let text = with_items(alloc, order)?;
+    let text = certificate_with(alloc, order)?;
     assert_same(alloc, &text)
 }
 

@@ -1,10 +1,8 @@
-// Which of several reasons is given.
-use super::refused_votes::{
-    CERTIFICATION_OF_CROSSCERT, CROSSCERT, EXPIRES, OTHER_KEY, changed, three_with,
-};
+// Runs of `compute`, in which one of several reasons is given.
 use run_stage::{
-    Given, LATER_TIME, ONE, Piece, THE_THREE, THREE, TIME, TWO, WITHOUT_THREE, assert_fault,
-    assert_vote_refused, compute_words, input, whole,
+    CERTIFICATION_OF_CROSSCERT, CROSSCERT, EXPIRES, Given, LATER_TIME, ONE, OTHER_KEY, Piece,
+    THE_THREE, THREE, TIME, TWO, WITHOUT_THREE, assert_fault, assert_vote_refused, changed_vote,
+    compute_words, input, three_with, whole,
 };
 use std::alloc::Global;
 use std::test::Fail;
@@ -16,7 +14,7 @@ type Reason<'a> = (&'a str, &'a str, &'a [Piece], &'a str);
 fn assert_reason(alloc: Global, reason: Reason<'_>) -> Result<(), Fail> {
     let (roster, time, pieces, word) = reason;
     let words = ["compute", "--authorities", roster, "--valid-after", time];
-    let mut text = changed(alloc, &THREE, pieces)?;
+    let mut text = changed_vote(alloc, &THREE, pieces)?;
     text.push_str(&input(alloc, &[ONE, TWO])?)?;
     assert_vote_refused(alloc, whole(&words, text.as_bytes()), 1, word)
 }
