@@ -1,6 +1,6 @@
 // Writing the items of a server descriptor that may be left out or stand several times. Each line is put together in one
 // vector, `rest`, which is used again and again.
-ghost use Rattle.std.specs.Prelude.{◌≡◌, ◌++◌, IfOk, OnOk, codes, map, option_map};
+ghost use Rattle.std.specs.Prelude.{◌≡◌, ◌++◌, IfOk, OnOk, OnErr, codes, map, option_map, take, vec_len};
 ghost use Rattle.dir_bytes.specs.FieldTexts.{base64_text};
 ghost use Rattle.dir_values.specs.Ports.{summary_text};
 ghost use Rattle.dirdoc_grammar.specs.Writing.{items_text};
@@ -26,7 +26,8 @@ pub(crate) fn push_object_if(
     words: &[u8],
     bytes: &Option<Text>,
 ) -> Result<(), Memory>
-    ensures { OnOk result (out.new.items ≡ out.old.items ++ items_text (texts.object_if keyword words.now bytes.now)) }
+    ensures ok { OnOk result (out.new.items ≡ out.old.items ++ items_text (texts.object_if keyword words.now bytes.now)) }
+    ensures err { OnErr result (take (vec_len out.old) out.new.items ≡ out.old.items) }
 {
     match bytes {
         Some(bytes) => push_with_object(out, keyword, b"", words, bytes),
@@ -50,7 +51,8 @@ pub(crate) fn push_certificate_if(
     alloc: Global,
     certificate: &Option<EdCert>,
 ) -> Result<(), Memory>
-    ensures { OnOk result (out.new.items ≡ out.old.items ++ items_text (texts.object_if Keyword.IdentityEd25519 (codes "ED25519 CERT") (option_map texts.certificate_bytes certificate.now))) }
+    ensures ok { OnOk result (out.new.items ≡ out.old.items ++ items_text (texts.object_if Keyword.IdentityEd25519 (codes "ED25519 CERT") (option_map texts.certificate_bytes certificate.now))) }
+    ensures err { OnErr result (take (vec_len out.old) out.new.items ≡ out.old.items) }
 {
     let Some(certificate) = certificate else {
         return Ok(());
@@ -68,7 +70,8 @@ pub(crate) fn push_key_if(
     keyword: Keyword,
     key: &Option<[u8; 32]>,
 ) -> Result<(), Memory>
-    ensures { OnOk result (out.new.items ≡ out.old.items ++ items_text (items.item_if keyword (option_map base64_text key.now))) }
+    ensures ok { OnOk result (out.new.items ≡ out.old.items ++ items_text (items.item_if keyword (option_map base64_text key.now))) }
+    ensures err { OnErr result (take (vec_len out.old) out.new.items ≡ out.old.items) }
 {
     let Some(key) = key else {
         return Ok(());
@@ -84,7 +87,8 @@ pub(crate) fn push_fingerprint_if(
     rest: &mut Vec<u8>,
     identity: &Option<Fingerprint>,
 ) -> Result<(), Memory>
-    ensures { OnOk result (out.new.items ≡ out.old.items ++ items_text (items.item_if Keyword.Fingerprint (option_map lines.groups_text identity.now))) }
+    ensures ok { OnOk result (out.new.items ≡ out.old.items ++ items_text (items.item_if Keyword.Fingerprint (option_map lines.groups_text identity.now))) }
+    ensures err { OnErr result (take (vec_len out.old) out.new.items ≡ out.old.items) }
 {
     let Some(identity) = identity else {
         return Ok(());
@@ -100,7 +104,8 @@ pub(crate) fn push_uptime_if(
     rest: &mut Vec<u8>,
     uptime: Option<u64>,
 ) -> Result<(), Memory>
-    ensures { OnOk result (out.new.items ≡ out.old.items ++ items_text (items.item_if Keyword.Uptime (option_map decimal uptime))) }
+    ensures ok { OnOk result (out.new.items ≡ out.old.items ++ items_text (items.item_if Keyword.Uptime (option_map decimal uptime))) }
+    ensures err { OnErr result (take (vec_len out.old) out.new.items ≡ out.old.items) }
 {
     let Some(seconds) = uptime else {
         return Ok(());
@@ -115,7 +120,8 @@ pub(crate) fn push_hibernating_if(
     out: &mut Vec<u8>,
     hibernating: Option<bool>,
 ) -> Result<(), Memory>
-    ensures { OnOk result (out.new.items ≡ out.old.items ++ items_text (items.item_if Keyword.Hibernating (option_map lines.hibernating_text hibernating))) }
+    ensures ok { OnOk result (out.new.items ≡ out.old.items ++ items_text (items.item_if Keyword.Hibernating (option_map lines.hibernating_text hibernating))) }
+    ensures err { OnErr result (take (vec_len out.old) out.new.items ≡ out.old.items) }
 {
     match hibernating {
         Some(rests) => push_bare(out, Keyword::Hibernating, hibernating_text(rests)),
@@ -140,7 +146,8 @@ pub(crate) fn push_policy(
     rest: &mut Vec<u8>,
     policy: &[PolicyItem],
 ) -> Result<(), Memory>
-    ensures { OnOk result (out.new.items ≡ out.old.items ++ items_text (map texts.policy_item policy.now)) }
+    ensures ok { OnOk result (out.new.items ≡ out.old.items ++ items_text (map texts.policy_item policy.now)) }
+    ensures err { OnErr result (take (vec_len out.old) out.new.items ≡ out.old.items) }
 {
     'policy: for item in policy {
         rest.clear();
@@ -156,7 +163,8 @@ pub(crate) fn push_summary_if(
     rest: &mut Vec<u8>,
     summary: &Option<PortSummary>,
 ) -> Result<(), Memory>
-    ensures { OnOk result (out.new.items ≡ out.old.items ++ items_text (items.item_if Keyword.Ipv6Policy (option_map summary_text summary.now))) }
+    ensures ok { OnOk result (out.new.items ≡ out.old.items ++ items_text (items.item_if Keyword.Ipv6Policy (option_map summary_text summary.now))) }
+    ensures err { OnErr result (take (vec_len out.old) out.new.items ≡ out.old.items) }
 {
     let Some(summary) = summary else {
         return Ok(());
@@ -172,7 +180,8 @@ pub(crate) fn push_family_if(
     rest: &mut Vec<u8>,
     family: &Option<Seq<Text>>,
 ) -> Result<(), Memory>
-    ensures { OnOk result (out.new.items ≡ out.old.items ++ items_text (items.item_if Keyword.Family (option_map lines.family_text family.now))) }
+    ensures ok { OnOk result (out.new.items ≡ out.old.items ++ items_text (items.item_if Keyword.Family (option_map lines.family_text family.now))) }
+    ensures err { OnErr result (take (vec_len out.old) out.new.items ≡ out.old.items) }
 {
     let Some(family) = family else {
         return Ok(());
@@ -184,7 +193,8 @@ pub(crate) fn push_family_if(
 
 /// The items of further addresses.
 pub(crate) fn push_addresses(out: &mut Vec<u8>, addresses: &[Text]) -> Result<(), Memory>
-    ensures { OnOk result (out.new.items ≡ out.old.items ++ items_text (map (items.bare Keyword.OrAddress) addresses.now)) }
+    ensures ok { OnOk result (out.new.items ≡ out.old.items ++ items_text (map (items.bare Keyword.OrAddress) addresses.now)) }
+    ensures err { OnErr result (take (vec_len out.old) out.new.items ≡ out.old.items) }
 {
     'addresses: for address in addresses {
         push_bare(out, Keyword::OrAddress, address.as_bytes())?;
@@ -194,7 +204,8 @@ pub(crate) fn push_addresses(out: &mut Vec<u8>, addresses: &[Text]) -> Result<()
 
 /// An item without arguments, where something holds.
 pub(crate) fn push_mark_if(out: &mut Vec<u8>, keyword: Keyword, holds: bool) -> Result<(), Memory>
-    ensures { OnOk result (out.new.items ≡ out.old.items ++ items_text (texts.mark_if keyword holds)) }
+    ensures ok { OnOk result (out.new.items ≡ out.old.items ++ items_text (texts.mark_if keyword holds)) }
+    ensures err { OnErr result (take (vec_len out.old) out.new.items ≡ out.old.items) }
 {
     if holds {
         push_bare(out, keyword, b"")
@@ -209,7 +220,8 @@ pub(crate) fn push_ed_signature_if(
     rest: &mut Vec<u8>,
     signature: &Option<EdSignature>,
 ) -> Result<(), Memory>
-    ensures { OnOk result (out.new.items ≡ out.old.items ++ items_text (items.item_if Keyword.RouterSigEd25519 (option_map lines.ed_signature_text signature.now))) }
+    ensures ok { OnOk result (out.new.items ≡ out.old.items ++ items_text (items.item_if Keyword.RouterSigEd25519 (option_map lines.ed_signature_text signature.now))) }
+    ensures err { OnErr result (take (vec_len out.old) out.new.items ≡ out.old.items) }
 {
     let Some(signature) = signature else {
         return Ok(());

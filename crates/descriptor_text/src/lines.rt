@@ -1,5 +1,5 @@
 // Writing the rests of a server descriptor's lines.
-ghost use Rattle.std.specs.Prelude.{◌≡◌, ◌++◌, OnOk};
+ghost use Rattle.std.specs.Prelude.{◌≡◌, ◌++◌, OnOk, OnErr, take, vec_len};
 ghost use Rattle.descriptor_text.specs.Lines as texts;
 
 use descriptor_doc::{BandwidthLine, Router};
@@ -8,7 +8,8 @@ use dir_values::Fingerprint;
 
 /// Appends a relay's three ports.
 fn push_ports(rest: &mut Vec<u8>, router: &Router) -> Result<(), Memory>
-    ensures { OnOk result (rest.new.items ≡ rest.old.items ++ texts.ports_text router.now) }
+    ensures ok { OnOk result (rest.new.items ≡ rest.old.items ++ texts.ports_text router.now) }
+    ensures err { OnErr result (take (vec_len rest.old) rest.new.items ≡ rest.old.items) }
 {
     push_decimal(rest, router.or_port as u64)?;
     rest.push(b' ')?;
@@ -19,7 +20,8 @@ fn push_ports(rest: &mut Vec<u8>, router: &Router) -> Result<(), Memory>
 
 /// Appends a relay: its nickname, its IPv4 address and its ports.
 pub(crate) fn push_router(rest: &mut Vec<u8>, router: &Router) -> Result<(), Memory>
-    ensures { OnOk result (rest.new.items ≡ rest.old.items ++ texts.router_text router.now) }
+    ensures ok { OnOk result (rest.new.items ≡ rest.old.items ++ texts.router_text router.now) }
+    ensures err { OnErr result (take (vec_len rest.old) rest.new.items ≡ rest.old.items) }
 {
     rest.extend_from_slice(router.nickname.as_bytes())?;
     rest.push(b' ')?;
@@ -30,7 +32,8 @@ pub(crate) fn push_router(rest: &mut Vec<u8>, router: &Router) -> Result<(), Mem
 
 /// Appends what a relay can carry.
 pub(crate) fn push_bandwidth(rest: &mut Vec<u8>, line: &BandwidthLine) -> Result<(), Memory>
-    ensures { OnOk result (rest.new.items ≡ rest.old.items ++ texts.bandwidth_text line.now) }
+    ensures ok { OnOk result (rest.new.items ≡ rest.old.items ++ texts.bandwidth_text line.now) }
+    ensures err { OnErr result (take (vec_len rest.old) rest.new.items ≡ rest.old.items) }
 {
     push_decimal(rest, line.average)?;
     rest.push(b' ')?;
@@ -41,7 +44,8 @@ pub(crate) fn push_bandwidth(rest: &mut Vec<u8>, line: &BandwidthLine) -> Result
 
 /// Appends an identity in ten groups of four hex digits.
 pub(crate) fn push_groups(rest: &mut Vec<u8>, identity: &Fingerprint) -> Result<(), Memory>
-    ensures { OnOk result (rest.new.items ≡ rest.old.items ++ texts.groups_text identity.now) }
+    ensures ok { OnOk result (rest.new.items ≡ rest.old.items ++ texts.groups_text identity.now) }
+    ensures err { OnErr result (take (vec_len rest.old) rest.new.items ≡ rest.old.items) }
 {
     push_hex_upper(rest, &identity.0[..2])?;
     'groups: for i in 1..10usize {

@@ -1,5 +1,5 @@
 // Writing a server descriptor.
-ghost use Rattle.std.specs.Prelude.{◌≡◌, ◌++◌, IfOk, OnOk};
+ghost use Rattle.std.specs.Prelude.{◌≡◌, ◌++◌, IfOk, OnOk, OnErr, take, vec_len};
 ghost use Rattle.dirdoc_grammar.specs.Writing.{items_text};
 ghost use Rattle.descriptor_text.specs.Texts as texts;
 
@@ -23,7 +23,8 @@ fn push_names(
     rest: &mut Vec<u8>,
     descriptor: &Descriptor,
 ) -> Result<(), Memory>
-    ensures { OnOk result (out.new.items ≡ out.old.items ++ items_text (texts.name_items descriptor.now)) }
+    ensures ok { OnOk result (out.new.items ≡ out.old.items ++ items_text (texts.name_items descriptor.now)) }
+    ensures err { OnErr result (take (vec_len out.old) out.new.items ≡ out.old.items) }
 {
     rest.clear();
     push_router(rest, &descriptor.router)?;
@@ -41,7 +42,8 @@ fn push_origin(
     rest: &mut Vec<u8>,
     descriptor: &Descriptor,
 ) -> Result<(), Memory>
-    ensures { OnOk result (out.new.items ≡ out.old.items ++ items_text (texts.origin_items descriptor.now)) }
+    ensures ok { OnOk result (out.new.items ≡ out.old.items ++ items_text (texts.origin_items descriptor.now)) }
+    ensures err { OnErr result (take (vec_len out.old) out.new.items ≡ out.old.items) }
 {
     push_if(out, Keyword::Platform, &descriptor.platform)?;
     push_timed(out, alloc, Keyword::Published, descriptor.published)?;
@@ -51,7 +53,8 @@ fn push_origin(
 /// For how long the relay runs, what it can carry, and whether it rests.
 #[tactic(auto, using(frame_values::proofs::ItemsTexts::sections))]
 fn push_state(out: &mut Vec<u8>, rest: &mut Vec<u8>, descriptor: &Descriptor) -> Result<(), Memory>
-    ensures { OnOk result (out.new.items ≡ out.old.items ++ items_text (texts.state_items descriptor.now)) }
+    ensures ok { OnOk result (out.new.items ≡ out.old.items ++ items_text (texts.state_items descriptor.now)) }
+    ensures err { OnErr result (take (vec_len out.old) out.new.items ≡ out.old.items) }
 {
     push_uptime_if(out, rest, descriptor.uptime)?;
     rest.clear();
@@ -62,7 +65,8 @@ fn push_state(out: &mut Vec<u8>, rest: &mut Vec<u8>, descriptor: &Descriptor) ->
 
 /// The relay's keys.
 fn push_keys(out: &mut Vec<u8>, rest: &mut Vec<u8>, descriptor: &Descriptor) -> Result<(), Memory>
-    ensures { OnOk result (out.new.items ≡ out.old.items ++ items_text (texts.key_items descriptor.now)) }
+    ensures ok { OnOk result (out.new.items ≡ out.old.items ++ items_text (texts.key_items descriptor.now)) }
+    ensures err { OnErr result (take (vec_len out.old) out.new.items ≡ out.old.items) }
 {
     let words = b"RSA PUBLIC KEY";
     push_object_if(out, Keyword::OnionKey, words, &descriptor.onion_key)?;
@@ -79,7 +83,8 @@ fn push_keys(out: &mut Vec<u8>, rest: &mut Vec<u8>, descriptor: &Descriptor) -> 
 
 /// The relay's exit policy, and the summary of that for IPv6.
 fn push_exits(out: &mut Vec<u8>, rest: &mut Vec<u8>, descriptor: &Descriptor) -> Result<(), Memory>
-    ensures { OnOk result (out.new.items ≡ out.old.items ++ items_text (texts.exit_items descriptor.now)) }
+    ensures ok { OnOk result (out.new.items ≡ out.old.items ++ items_text (texts.exit_items descriptor.now)) }
+    ensures err { OnErr result (take (vec_len out.old) out.new.items ≡ out.old.items) }
 {
     push_policy(out, rest, descriptor.policy.items())?;
     push_summary_if(out, rest, &descriptor.ipv6_policy)?;
@@ -93,7 +98,8 @@ fn push_reached(
     rest: &mut Vec<u8>,
     descriptor: &Descriptor,
 ) -> Result<(), Memory>
-    ensures { OnOk result (out.new.items ≡ out.old.items ++ items_text (texts.address_items descriptor.now)) }
+    ensures ok { OnOk result (out.new.items ≡ out.old.items ++ items_text (texts.address_items descriptor.now)) }
+    ensures err { OnErr result (take (vec_len out.old) out.new.items ≡ out.old.items) }
 {
     push_family_if(out, rest, &descriptor.family)?;
     push_addresses(out, descriptor.or_addresses.as_slice())
@@ -102,7 +108,8 @@ fn push_reached(
 /// Whether the relay answers directory requests over its onion routing port, its protocols and its operator.
 #[tactic(auto, using(frame_values::proofs::ItemsTexts::sections))]
 fn push_service(out: &mut Vec<u8>, descriptor: &Descriptor) -> Result<(), Memory>
-    ensures { OnOk result (out.new.items ≡ out.old.items ++ items_text (texts.service_items descriptor.now)) }
+    ensures ok { OnOk result (out.new.items ≡ out.old.items ++ items_text (texts.service_items descriptor.now)) }
+    ensures err { OnErr result (take (vec_len out.old) out.new.items ≡ out.old.items) }
 {
     let answers = descriptor.tunnelled_dir_server;
     push_mark_if(out, Keyword::TunnelledDirServer, answers)?;
@@ -116,7 +123,8 @@ fn push_signatures(
     rest: &mut Vec<u8>,
     descriptor: &Descriptor,
 ) -> Result<(), Memory>
-    ensures { OnOk result (out.new.items ≡ out.old.items ++ items_text (texts.signature_items descriptor.now)) }
+    ensures ok { OnOk result (out.new.items ≡ out.old.items ++ items_text (texts.signature_items descriptor.now)) }
+    ensures err { OnErr result (take (vec_len out.old) out.new.items ≡ out.old.items) }
 {
     push_ed_signature_if(out, rest, &descriptor.router_sig_ed25519)?;
     push_with_object(
@@ -136,7 +144,8 @@ fn push_front(
     rest: &mut Vec<u8>,
     descriptor: &Descriptor,
 ) -> Result<(), Memory>
-    ensures { OnOk result (out.new.items ≡ out.old.items ++ items_text (texts.front_items descriptor.now)) }
+    ensures ok { OnOk result (out.new.items ≡ out.old.items ++ items_text (texts.front_items descriptor.now)) }
+    ensures err { OnErr result (take (vec_len out.old) out.new.items ≡ out.old.items) }
 {
     push_names(out, alloc, rest, descriptor)?;
     push_origin(out, alloc, rest, descriptor)?;
@@ -147,7 +156,8 @@ fn push_front(
 
 /// The items from the exit policy on.
 fn push_back(out: &mut Vec<u8>, rest: &mut Vec<u8>, descriptor: &Descriptor) -> Result<(), Memory>
-    ensures { OnOk result (out.new.items ≡ out.old.items ++ items_text (texts.back_items descriptor.now)) }
+    ensures ok { OnOk result (out.new.items ≡ out.old.items ++ items_text (texts.back_items descriptor.now)) }
+    ensures err { OnErr result (take (vec_len out.old) out.new.items ≡ out.old.items) }
 {
     push_exits(out, rest, descriptor)?;
     push_reached(out, rest, descriptor)?;

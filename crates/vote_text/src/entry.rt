@@ -1,5 +1,5 @@
 // Writing what a vote says of relays. Each line is put together in one vector, `rest`, which is used again and again.
-ghost use Rattle.std.specs.Prelude.{◌≡◌, ◌++◌, OnOk, option_map};
+ghost use Rattle.std.specs.Prelude.{◌≡◌, ◌++◌, OnOk, OnErr, take, vec_len, option_map};
 ghost use Rattle.dirdoc_grammar.specs.Writing.{items_text};
 ghost use Rattle.frame_values.specs.Items as items;
 ghost use Rattle.relay_entries.specs.Texts.{bandwidths_text, ed_text};
@@ -13,7 +13,8 @@ use vote_terms::{EntryFacts, MicroFacts};
 
 /// The item of the relay itself.
 fn push_relay(out: &mut Vec<u8>, rest: &mut Vec<u8>, entry: &EntryFacts) -> Result<(), Memory>
-    ensures { OnOk result (out.new.items ≡ out.old.items ++ items_text (texts.relay_items entry.now)) }
+    ensures ok { OnOk result (out.new.items ≡ out.old.items ++ items_text (texts.relay_items entry.now)) }
+    ensures err { OnErr result (take (vec_len out.old) out.new.items ≡ out.old.items) }
 {
     rest.clear();
     push_named(rest, entry.nickname.as_bytes(), &entry.identity)?;
@@ -32,7 +33,8 @@ fn push_relay(out: &mut Vec<u8>, rest: &mut Vec<u8>, entry: &EntryFacts) -> Resu
 
 /// An item for each text.
 fn push_each(out: &mut Vec<u8>, keyword: Keyword, list: &[Text]) -> Result<(), Memory>
-    ensures { OnOk result (out.new.items ≡ out.old.items ++ items_text (texts.items_each keyword list.now)) }
+    ensures ok { OnOk result (out.new.items ≡ out.old.items ++ items_text (texts.items_each keyword list.now)) }
+    ensures err { OnErr result (take (vec_len out.old) out.new.items ≡ out.old.items) }
 {
     'texts: for text in list {
         push_bare(out, keyword, text.as_bytes())?;
@@ -42,7 +44,8 @@ fn push_each(out: &mut Vec<u8>, keyword: Keyword, list: &[Text]) -> Result<(), M
 
 /// The item of the flags.
 fn push_flags(out: &mut Vec<u8>, rest: &mut Vec<u8>, entry: &EntryFacts) -> Result<(), Memory>
-    ensures { OnOk result (out.new.items ≡ out.old.items ++ items_text (texts.flag_items entry.now)) }
+    ensures ok { OnOk result (out.new.items ≡ out.old.items ++ items_text (texts.flag_items entry.now)) }
+    ensures err { OnErr result (take (vec_len out.old) out.new.items ≡ out.old.items) }
 {
     rest.clear();
     entry.flags.push(rest)?;
@@ -55,7 +58,8 @@ fn push_bandwidths_if(
     rest: &mut Vec<u8>,
     bandwidths: Option<Bandwidths>,
 ) -> Result<(), Memory>
-    ensures { OnOk result (out.new.items ≡ out.old.items ++ items_text (items.item_if Keyword.W (option_map bandwidths_text bandwidths))) }
+    ensures ok { OnOk result (out.new.items ≡ out.old.items ++ items_text (items.item_if Keyword.W (option_map bandwidths_text bandwidths))) }
+    ensures err { OnErr result (take (vec_len out.old) out.new.items ≡ out.old.items) }
 {
     let Some(w) = bandwidths else {
         return Ok(());
@@ -67,7 +71,8 @@ fn push_bandwidths_if(
 
 /// The items of the microdescriptors.
 fn push_micros(out: &mut Vec<u8>, rest: &mut Vec<u8>, lines: &[MicroFacts]) -> Result<(), Memory>
-    ensures { OnOk result (out.new.items ≡ out.old.items ++ items_text (texts.micro_items lines.now)) }
+    ensures ok { OnOk result (out.new.items ≡ out.old.items ++ items_text (texts.micro_items lines.now)) }
+    ensures err { OnErr result (take (vec_len out.old) out.new.items ≡ out.old.items) }
 {
     'lines: for line in lines {
         rest.clear();
@@ -79,7 +84,8 @@ fn push_micros(out: &mut Vec<u8>, rest: &mut Vec<u8>, lines: &[MicroFacts]) -> R
 
 /// The item of the opinion of its Ed25519 identity, where there is one.
 fn push_ed(out: &mut Vec<u8>, rest: &mut Vec<u8>, opinion: &EdOpinion) -> Result<(), Memory>
-    ensures { OnOk result (out.new.items ≡ out.old.items ++ items_text (items.item_if Keyword.Id (ed_text opinion.now))) }
+    ensures ok { OnOk result (out.new.items ≡ out.old.items ++ items_text (items.item_if Keyword.Id (ed_text opinion.now))) }
+    ensures err { OnErr result (take (vec_len out.old) out.new.items ≡ out.old.items) }
 {
     match opinion {
         EdOpinion::Absent => Ok(()),
@@ -95,7 +101,8 @@ fn push_ed(out: &mut Vec<u8>, rest: &mut Vec<u8>, opinion: &EdOpinion) -> Result
 
 /// The items of an entry, one after the other.
 fn push_entry(out: &mut Vec<u8>, rest: &mut Vec<u8>, entry: &EntryFacts) -> Result<(), Memory>
-    ensures { OnOk result (out.new.items ≡ out.old.items ++ items_text (texts.entry_items entry.now)) }
+    ensures ok { OnOk result (out.new.items ≡ out.old.items ++ items_text (texts.entry_items entry.now)) }
+    ensures err { OnErr result (take (vec_len out.old) out.new.items ≡ out.old.items) }
 {
     push_relay(out, rest, entry)?;
     push_each(out, Keyword::A, entry.addresses.as_slice())?;
@@ -115,7 +122,8 @@ pub fn push_entries(
     rest: &mut Vec<u8>,
     entries: &[EntryFacts],
 ) -> Result<(), Memory>
-    ensures { OnOk result (out.new.items ≡ out.old.items ++ items_text (texts.entries_items entries.now)) }
+    ensures ok { OnOk result (out.new.items ≡ out.old.items ++ items_text (texts.entries_items entries.now)) }
+    ensures err { OnErr result (take (vec_len out.old) out.new.items ≡ out.old.items) }
 {
     'entries: for entry in entries {
         push_entry(out, rest, entry)?;

@@ -1,5 +1,5 @@
 // Writing what a vote says in lists of values. Of a list that the vote has not there is no item; an empty one is its keyword.
-ghost use Rattle.std.specs.Prelude.{◌≡◌, ◌++◌, OnOk, option_map};
+ghost use Rattle.std.specs.Prelude.{◌≡◌, ◌++◌, OnOk, OnErr, take, vec_len, option_map};
 ghost use Rattle.dirdoc_grammar.specs.Writing.{items_text};
 ghost use Rattle.frame_values.specs.Items as items;
 ghost use Rattle.list_values.specs.Params.{params_text};
@@ -21,7 +21,8 @@ fn push_versions_if(
     keyword: Keyword,
     versions: &Option<VersionList>,
 ) -> Result<(), Memory>
-    ensures { OnOk result (out.new.items ≡ out.old.items ++ items_text (items.item_if keyword (option_map versions_text versions.now))) }
+    ensures ok { OnOk result (out.new.items ≡ out.old.items ++ items_text (items.item_if keyword (option_map versions_text versions.now))) }
+    ensures err { OnErr result (take (vec_len out.old) out.new.items ≡ out.old.items) }
 {
     let Some(list) = versions else {
         return Ok(());
@@ -38,7 +39,8 @@ fn push_protocols_if(
     keyword: Keyword,
     protocols: &Option<ProtoRanges>,
 ) -> Result<(), Memory>
-    ensures { OnOk result (out.new.items ≡ out.old.items ++ items_text (items.item_if keyword (option_map protocols_text protocols.now))) }
+    ensures ok { OnOk result (out.new.items ≡ out.old.items ++ items_text (items.item_if keyword (option_map protocols_text protocols.now))) }
+    ensures err { OnErr result (take (vec_len out.old) out.new.items ≡ out.old.items) }
 {
     let Some(list) = protocols else {
         return Ok(());
@@ -54,7 +56,8 @@ pub(crate) fn push_params(
     alloc: Global,
     params: &Option<Params>,
 ) -> Result<(), Memory>
-    ensures { OnOk result (out.new.items ≡ out.old.items ++ items_text (texts.param_items params.now)) }
+    ensures ok { OnOk result (out.new.items ≡ out.old.items ++ items_text (texts.param_items params.now)) }
+    ensures err { OnErr result (take (vec_len out.old) out.new.items ≡ out.old.items) }
 {
     let Some(list) = params else {
         return Ok(());
@@ -70,7 +73,8 @@ pub(crate) fn push_versions(
     alloc: Global,
     lists: &VoteLists,
 ) -> Result<(), Memory>
-    ensures { OnOk result (out.new.items ≡ out.old.items ++ items_text (texts.version_items lists.now)) }
+    ensures ok { OnOk result (out.new.items ≡ out.old.items ++ items_text (texts.version_items lists.now)) }
+    ensures err { OnErr result (take (vec_len out.old) out.new.items ≡ out.old.items) }
 {
     push_versions_if(out, alloc, Keyword::ClientVersions, &lists.client_versions)?;
     push_versions_if(out, alloc, Keyword::ServerVersions, &lists.server_versions)
@@ -78,7 +82,8 @@ pub(crate) fn push_versions(
 
 /// The items of the protocols that are recommended.
 fn push_recommended(out: &mut Vec<u8>, alloc: Global, lists: &VoteLists) -> Result<(), Memory>
-    ensures { OnOk result (out.new.items ≡ out.old.items ++ items_text (texts.recommended_items lists.now)) }
+    ensures ok { OnOk result (out.new.items ≡ out.old.items ++ items_text (texts.recommended_items lists.now)) }
+    ensures err { OnErr result (take (vec_len out.old) out.new.items ≡ out.old.items) }
 {
     let (clients, relays) = (
         &lists.recommended_client_protocols,
@@ -90,7 +95,8 @@ fn push_recommended(out: &mut Vec<u8>, alloc: Global, lists: &VoteLists) -> Resu
 
 /// The items of those that are required.
 fn push_required(out: &mut Vec<u8>, alloc: Global, lists: &VoteLists) -> Result<(), Memory>
-    ensures { OnOk result (out.new.items ≡ out.old.items ++ items_text (texts.required_items lists.now)) }
+    ensures ok { OnOk result (out.new.items ≡ out.old.items ++ items_text (texts.required_items lists.now)) }
+    ensures err { OnErr result (take (vec_len out.old) out.new.items ≡ out.old.items) }
 {
     let (clients, relays) = (
         &lists.required_client_protocols,
@@ -106,7 +112,8 @@ pub(crate) fn push_protocols(
     alloc: Global,
     lists: &VoteLists,
 ) -> Result<(), Memory>
-    ensures { OnOk result (out.new.items ≡ out.old.items ++ items_text (texts.protocol_items lists.now)) }
+    ensures ok { OnOk result (out.new.items ≡ out.old.items ++ items_text (texts.protocol_items lists.now)) }
+    ensures err { OnErr result (take (vec_len out.old) out.new.items ≡ out.old.items) }
 {
     push_recommended(out, alloc, lists)?;
     push_required(out, alloc, lists)

@@ -1,5 +1,5 @@
 // Writing a vote.
-ghost use Rattle.std.specs.Prelude.{◌≡◌, ◌++◌, IfOk, OnOk, codes, option_map};
+ghost use Rattle.std.specs.Prelude.{◌≡◌, ◌++◌, IfOk, OnOk, OnErr, take, vec_len, codes, option_map};
 ghost use Rattle.dirdoc_grammar.specs.Writing.{item_text, items_text};
 ghost use Rattle.dir_values.specs.Numbers.{numbers_text};
 ghost use Rattle.frame_values.specs.Items as items;
@@ -18,7 +18,8 @@ use vote_terms::{SignatureFacts, VoteFacts};
 
 /// The item of a vote's methods, where it names them.
 fn push_methods(out: &mut Vec<u8>, alloc: Global, facts: &VoteFacts) -> Result<(), Memory>
-    ensures { OnOk result (out.new.items ≡ out.old.items ++ items_text (items.item_if Keyword.ConsensusMethods (option_map numbers_text facts.now.methods))) }
+    ensures ok { OnOk result (out.new.items ≡ out.old.items ++ items_text (items.item_if Keyword.ConsensusMethods (option_map numbers_text facts.now.methods))) }
+    ensures err { OnErr result (take (vec_len out.old) out.new.items ≡ out.old.items) }
 {
     let Some(methods) = &facts.methods else {
         return Ok(());
@@ -30,7 +31,8 @@ fn push_methods(out: &mut Vec<u8>, alloc: Global, facts: &VoteFacts) -> Result<(
 
 /// What the document is, and its methods.
 fn push_kind(out: &mut Vec<u8>, alloc: Global, facts: &VoteFacts) -> Result<(), Memory>
-    ensures { OnOk result (out.new.items ≡ out.old.items ++ items_text (texts.kind_items facts.now)) }
+    ensures ok { OnOk result (out.new.items ≡ out.old.items ++ items_text (texts.kind_items facts.now)) }
+    ensures err { OnErr result (take (vec_len out.old) out.new.items ≡ out.old.items) }
 {
     push_bare(out, Keyword::NetworkStatusVersion, b"3")?;
     push_bare(out, Keyword::VoteStatus, b"vote")?;
@@ -39,7 +41,8 @@ fn push_kind(out: &mut Vec<u8>, alloc: Global, facts: &VoteFacts) -> Result<(), 
 
 /// The item of the two delays.
 fn push_delays(out: &mut Vec<u8>, alloc: Global, facts: &VoteFacts) -> Result<(), Memory>
-    ensures { OnOk result (out.new.items ≡ out.old.items ++ item_text (items.bare Keyword.VotingDelay (texts.delays_text facts.now))) }
+    ensures ok { OnOk result (out.new.items ≡ out.old.items ++ item_text (items.bare Keyword.VotingDelay (texts.delays_text facts.now))) }
+    ensures err { OnErr result (take (vec_len out.old) out.new.items ≡ out.old.items) }
 {
     let mut rest = Vec::new(alloc);
     push_decimal(&mut rest, facts.vote_seconds as u64)?;
@@ -50,7 +53,8 @@ fn push_delays(out: &mut Vec<u8>, alloc: Global, facts: &VoteFacts) -> Result<()
 
 /// The times.
 fn push_times(out: &mut Vec<u8>, alloc: Global, facts: &VoteFacts) -> Result<(), Memory>
-    ensures { OnOk result (out.new.items ≡ out.old.items ++ items_text (texts.time_items facts.now)) }
+    ensures ok { OnOk result (out.new.items ≡ out.old.items ++ items_text (texts.time_items facts.now)) }
+    ensures err { OnErr result (take (vec_len out.old) out.new.items ≡ out.old.items) }
 {
     push_timed(out, alloc, Keyword::Published, facts.published)?;
     push_timed(out, alloc, Keyword::ValidAfter, facts.valid_after)?;
@@ -62,7 +66,8 @@ fn push_times(out: &mut Vec<u8>, alloc: Global, facts: &VoteFacts) -> Result<(),
 
 /// The flags.
 fn push_flags(out: &mut Vec<u8>, alloc: Global, facts: &VoteFacts) -> Result<(), Memory>
-    ensures { OnOk result (out.new.items ≡ out.old.items ++ items_text (texts.flag_items facts.now)) }
+    ensures ok { OnOk result (out.new.items ≡ out.old.items ++ items_text (texts.flag_items facts.now)) }
+    ensures err { OnErr result (take (vec_len out.old) out.new.items ≡ out.old.items) }
 {
     let mut rest = Vec::new(alloc);
     facts.known_flags.push(&mut rest)?;
@@ -72,7 +77,8 @@ fn push_flags(out: &mut Vec<u8>, alloc: Global, facts: &VoteFacts) -> Result<(),
 
 /// The preamble.
 fn push_preamble(out: &mut Vec<u8>, alloc: Global, facts: &VoteFacts) -> Result<(), Memory>
-    ensures { OnOk result (out.new.items ≡ out.old.items ++ items_text (texts.preamble_items facts.now)) }
+    ensures ok { OnOk result (out.new.items ≡ out.old.items ++ items_text (texts.preamble_items facts.now)) }
+    ensures err { OnErr result (take (vec_len out.old) out.new.items ≡ out.old.items) }
 {
     push_kind(out, alloc, facts)?;
     push_times(out, alloc, facts)?;
@@ -85,7 +91,8 @@ fn push_preamble(out: &mut Vec<u8>, alloc: Global, facts: &VoteFacts) -> Result<
 
 /// The authority's names.
 fn push_names(rest: &mut Vec<u8>, facts: &VoteFacts) -> Result<(), Memory>
-    ensures { OnOk result (rest.new.items ≡ rest.old.items ++ texts.names_text facts.now) }
+    ensures ok { OnOk result (rest.new.items ≡ rest.old.items ++ texts.names_text facts.now) }
+    ensures err { OnErr result (take (vec_len rest.old) rest.new.items ≡ rest.old.items) }
 {
     rest.extend_from_slice(facts.nickname.as_bytes())?;
     rest.push(b' ')?;
@@ -97,7 +104,8 @@ fn push_names(rest: &mut Vec<u8>, facts: &VoteFacts) -> Result<(), Memory>
 
 /// The authority's IPv4 address and ports.
 fn push_ports(rest: &mut Vec<u8>, facts: &VoteFacts) -> Result<(), Memory>
-    ensures { OnOk result (rest.new.items ≡ rest.old.items ++ texts.ports_text facts.now) }
+    ensures ok { OnOk result (rest.new.items ≡ rest.old.items ++ texts.ports_text facts.now) }
+    ensures err { OnErr result (take (vec_len rest.old) rest.new.items ≡ rest.old.items) }
 {
     push_address(rest, facts.ip)?;
     rest.push(b' ')?;
@@ -108,7 +116,8 @@ fn push_ports(rest: &mut Vec<u8>, facts: &VoteFacts) -> Result<(), Memory>
 
 /// Who the authority is.
 fn push_source(rest: &mut Vec<u8>, facts: &VoteFacts) -> Result<(), Memory>
-    ensures { OnOk result (rest.new.items ≡ rest.old.items ++ texts.source_text facts.now) }
+    ensures ok { OnOk result (rest.new.items ≡ rest.old.items ++ texts.source_text facts.now) }
+    ensures err { OnErr result (take (vec_len rest.old) rest.new.items ≡ rest.old.items) }
 {
     push_names(rest, facts)?;
     rest.push(b' ')?;
@@ -117,7 +126,8 @@ fn push_source(rest: &mut Vec<u8>, facts: &VoteFacts) -> Result<(), Memory>
 
 /// The authority.
 fn push_authority(out: &mut Vec<u8>, alloc: Global, facts: &VoteFacts) -> Result<(), Memory>
-    ensures { OnOk result (out.new.items ≡ out.old.items ++ items_text (texts.authority_items facts.now)) }
+    ensures ok { OnOk result (out.new.items ≡ out.old.items ++ items_text (texts.authority_items facts.now)) }
+    ensures err { OnErr result (take (vec_len out.old) out.new.items ≡ out.old.items) }
 {
     let mut rest = Vec::new(alloc);
     push_source(&mut rest, facts)?;
@@ -127,7 +137,8 @@ fn push_authority(out: &mut Vec<u8>, alloc: Global, facts: &VoteFacts) -> Result
 
 /// The authority's certificate.
 fn push_certificate(out: &mut Vec<u8>, alloc: Global, cert: &Cert) -> Result<(), Memory>
-    ensures { OnOk result (out.new.items ≡ out.old.items ++ cert_text cert.now) }
+    ensures ok { OnOk result (out.new.items ≡ out.old.items ++ cert_text cert.now) }
+    ensures err { OnErr result (take (vec_len out.old) out.new.items ≡ out.old.items) }
 {
     let text = authority_certs::write(alloc, cert)?;
     out.extend_from_slice(&text)?;
@@ -146,7 +157,8 @@ fn algorithm_text(algorithm: Algorithm) -> &'static [u8]
 
 /// By whom a vote is signed, and with which key.
 fn push_signer(rest: &mut Vec<u8>, signature: &SignatureFacts) -> Result<(), Memory>
-    ensures { OnOk result (rest.new.items ≡ rest.old.items ++ texts.signer_text signature.now) }
+    ensures ok { OnOk result (rest.new.items ≡ rest.old.items ++ texts.signer_text signature.now) }
+    ensures err { OnErr result (take (vec_len rest.old) rest.new.items ≡ rest.old.items) }
 {
     rest.extend_from_slice(algorithm_text(signature.algorithm))?;
     push_hex_upper(rest, &signature.identity.0)?;
@@ -156,7 +168,8 @@ fn push_signer(rest: &mut Vec<u8>, signature: &SignatureFacts) -> Result<(), Mem
 
 /// The footer.
 fn push_footer(out: &mut Vec<u8>, alloc: Global, signature: &SignatureFacts) -> Result<(), Memory>
-    ensures { OnOk result (out.new.items ≡ out.old.items ++ items_text (texts.footer_items signature.now)) }
+    ensures ok { OnOk result (out.new.items ≡ out.old.items ++ items_text (texts.footer_items signature.now)) }
+    ensures err { OnErr result (take (vec_len out.old) out.new.items ≡ out.old.items) }
 {
     push_bare(out, Keyword::DirectoryFooter, b"")?;
     let mut rest = Vec::new(alloc);

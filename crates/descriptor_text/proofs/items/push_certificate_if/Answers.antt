@@ -12,8 +12,8 @@ use Rattle.descriptor_text.proofs.items.push_certificate_if.Goals as goal
 abbrev text_with : List ℕ → List ℕ
 text_with bytes = item_text (with_object the.IdentityEd25519 [] (codes "ED25519 CERT") bytes)
 
-pub returns : goal.returns
-returns c =
+pub returns-clause-ok : goal.returns-clause-ok
+returns-clause-ok c =
     let out = c.args.out.now.items in
     let certificate = c.in-Some.certificate in
     let wrote = ap (λ (l : List ℕ). out ++ text_with l) c.in_ok-bytes.ensures in

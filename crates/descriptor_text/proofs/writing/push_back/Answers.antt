@@ -4,8 +4,8 @@ use Rattle.descriptor_text.specs.Texts.{address_items, exit_items, service_items
 use Rattle.descriptor_text.proofs.Appends.{group_and}
 use Rattle.descriptor_text.proofs.writing.push_back.Goals as goal
 
-pub returns : goal.returns
-returns c =
+pub returns-clause-ok : goal.returns-clause-ok
+returns-clause-ok c =
     let d = c.args.descriptor.now in
     let out = c.args.out.now.items in
     let e : List NewItem = exit_items d in
@@ -18,6 +18,6 @@ returns c =
     let after_s = c.push_signatures.new.out.items in
     group_and out after_v after_s (e ++ a ++ v) s
     (group_and out after_a after_v (e ++ a) v
-    (group_and out after_e after_a e a c.in_ok-push_exits.ensures c.in_ok-push_reached.ensures)
-    c.in_ok-push_service.ensures)
-    c.in_ok-push_signatures.ensures
+    (group_and out after_e after_a e a c.in_ok-push_exits.ensures.ok c.in_ok-push_reached.ensures.ok)
+    c.in_ok-push_service.ensures.ok)
+    c.in_ok-push_signatures.ensures.ok

@@ -4,8 +4,8 @@ use Rattle.descriptor_text.specs.Texts.{key_items, name_items, origin_items, sta
 use Rattle.descriptor_text.proofs.Appends.{group_and}
 use Rattle.descriptor_text.proofs.writing.push_front.Goals as goal
 
-pub returns : goal.returns
-returns c =
+pub returns-clause-ok : goal.returns-clause-ok
+returns-clause-ok c =
     let d = c.args.descriptor.now in
     let out = c.args.out.now.items in
     let n : List NewItem = name_items d in
@@ -18,6 +18,6 @@ returns c =
     let after_k = c.push_keys.new.out.items in
     group_and out after_s after_k (n ++ o ++ s) k
     (group_and out after_o after_s (n ++ o) s
-    (group_and out after_n after_o n o c.in_ok-push_names.ensures c.in_ok-push_origin.ensures)
-    c.in_ok-push_state.ensures)
-    c.in_ok-push_keys.ensures
+    (group_and out after_n after_o n o c.in_ok-push_names.ensures.ok c.in_ok-push_origin.ensures.ok)
+    c.in_ok-push_state.ensures.ok)
+    c.in_ok-push_keys.ensures.ok

@@ -10,5 +10,5 @@ returns c =
     let at1 = c.push_front.new.out.items in
     let at2 = c.push_back.new.out.items in
     let begins : at1 ≡ [] ++ items_text (front_items d) =
-    c.in_ok-push_front.ensures ∙ ap (λ (l : List ℕ). l ++ items_text (front_items d)) c.new-out.ensures.items in
-    group_and [] at1 at2 (front_items d) (back_items d) begins c.in_ok-push_back.ensures
+    c.in_ok-push_front.ensures.ok ∙ ap (λ (l : List ℕ). l ++ items_text (front_items d)) c.new-out.ensures.items in
+    group_and [] at1 at2 (front_items d) (back_items d) begins c.in_ok-push_back.ensures.ok

@@ -8,8 +8,8 @@ use Rattle.frame_values.specs.Items.{bare, item_if}
 use Rattle.relay_entries.specs.Texts.{ed_text}
 use Rattle.vote_text.proofs.entry.push_ed.Goals as goal
 
-pub returns-in_ok-push_base64-in-Key : goal.returns-in_ok-push_base64-in-Key
-returns-in_ok-push_base64-in-Key c =
+pub returns-in_ok-push_base64-in-Key-clause-ok : goal.returns-in_ok-push_base64-in-Key-clause-ok
+returns-in_ok-push_base64-in-Key-clause-ok c =
     let out = c.args.out.now.items in
     let key = c.in-Key.key in
     let text = codes "ed25519 " ++ base64_text key in

@@ -1,4 +1,5 @@
-use Rattle.std.proofs.Common.{◌∙◌, ◌++◌, List, ℕ, ap, append_assoc, drop, ◌+◌}
+use Rattle.std.proofs.Common.{◌∙◌, ◌++◌, List, ℕ, ap, append_assoc, arith, drop, ◌+◌}
+use Rattle.std.proofs.lemmas.Grind.{common_steps}
 use Rattle.dirdoc_grammar.specs.Writing.{items_text}
 use Rattle.vote_text.specs.Entries.{entries_items, entry_items}
 use Rattle.vote_text.proofs.EntryTexts.{entries_text-drop}
@@ -12,7 +13,11 @@ entries-preserved c =
     let before = c.entries.out.items in
     let one = items_text (entry_items entry) in
     let behind = items_text (entries_items (drop (i + 1) entries)) in
-    ap (λ (l : List ℕ). l ++ behind) c.in_ok-push_entry.ensures
-    ∙ append_assoc before one behind
-    ∙ ap (λ (l : List ℕ). before ++ l) (entries_text-drop entries i entry c.entries-test.true c.entry-item.is)
-    ∙ c.entries.invariant
+    let written = c.in_ok-push_entry.ensures.ok in
+    record {
+      text = ap (λ (l : List ℕ). l ++ behind) written
+          ∙ append_assoc before one behind
+          ∙ ap (λ (l : List ℕ). before ++ l) (entries_text-drop entries i entry c.entries-test.true c.entry-item.is)
+          ∙ c.entries.invariant.text;
+      front = grind (arith, common_steps, written);
+    }

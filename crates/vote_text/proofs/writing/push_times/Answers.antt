@@ -6,8 +6,8 @@ use Rattle.vote_text.specs.Texts.{delays_text}
 use Rattle.frame_values.proofs.ItemsTexts.{link, last}
 use Rattle.vote_text.proofs.writing.push_times.Goals as goal
 
-pub returns : goal.returns
-returns c =
+pub returns-clause-ok : goal.returns-clause-ok
+returns-clause-ok c =
     let facts = c.args.facts.now in
     let out = c.args.out.now.items in
     let text1 : List ℕ = item_text (timed the.Published facts.published) in
@@ -28,4 +28,4 @@ returns c =
     (link at1 text2 at2 at5 rest2 c.in_ok-push_timed-2.ensures.ok
     (link at2 text3 at3 at5 rest3 c.in_ok-push_timed-3.ensures.ok
     (link at3 text4 at4 at5 rest4 c.in_ok-push_timed-4.ensures.ok
-    (last at4 text5 at5 c.in_ok-push_delays.ensures))))
+    (last at4 text5 at5 c.in_ok-push_delays.ensures.ok))))
