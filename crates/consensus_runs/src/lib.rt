@@ -1,4 +1,4 @@
-//! Whole runs of `compute`, `check` and `show` on consensuses: tests alone, of `authority_daemon::run`.
+//! Whole runs of `check` and `show` on consensuses: tests alone, of `authority_daemon::run`.
 #![tactic(auto)]
 
 #[cfg(test)]

@@ -1,4 +1,4 @@
-//! Whole runs of `check` and `show` on server descriptors and microdescriptors: tests alone, of `authority_daemon::run`.
+//! Whole runs of `check` and `show` on server descriptors: tests alone, of `authority_daemon::run`.
 #![tactic(auto)]
 
 #[cfg(test)]

@@ -1,4 +1,4 @@
-//! Whole runs of `check` and `compute` at the limits of what is read: tests alone, of `authority_daemon::run`.
+//! Whole runs of `check` and `compute` at the limits of what is read of votes and inputs: tests alone, of `authority_daemon::run`.
 #![tactic(auto)]
 
 #[cfg(test)]

@@ -1,4 +1,3 @@
 // Runs on what is as long as it may be, and on what is longer.
-mod certificates;
 mod inputs;
 mod votes;

@@ -3,6 +3,7 @@
 #![tactic(auto)]
 
 mod certificates;
+mod listings;
 mod pieces;
 mod refused_votes;
 mod relay_lines;
@@ -13,13 +14,14 @@ mod votes;
 mod wanted;
 
 pub use certificates::{CERTIFICATE_ITEMS, certificate_with, changed_certificate};
+pub use listings::{Listing, assert_lists};
 pub use pieces::{Piece, place_of, with_pieces};
 pub use refused_votes::{
     BAD_CERTIFICATION, BAD_CROSSCERT, BAD_SIGNATURE, CERTIFICATION_OF_CROSSCERT, CROSSCERT,
     EXPIRED, EXPIRES, NAMES_SHA256, OTHER_ALGORITHM, OTHER_CERTIFICATE, OTHER_KEY, OTHER_SIGNER,
     OTHER_SIGNING_KEY, Refused, SIGNS_SHA256, UNNAMED_ALGORITHM, changed_vote, three_with,
 };
-pub use relay_lines::{KEY_P, SET, X};
+pub use relay_lines::{KEY_P, SET, SET_BARE, VALID, X};
 pub use run::{Gave, Given, run_of, whole};
 pub use texts::PLAIN_CONSENSUS;
 pub use votes::{

@@ -7,5 +7,11 @@ pub const X: &str =
 /// The flags of a relay that is listed.
 pub const SET: &str = "s Running Valid\n";
 
+/// The flags of a relay that is not running.
+pub const VALID: &str = "s Valid\n";
+
+/// The flags of a consensus for a relay that is listed without an Ed25519 part.
+pub const SET_BARE: &str = "s NoEdConsensus Running Valid\n";
+
 /// An Ed25519 identity.
 pub const KEY_P: &str = "id ed25519 AwMDAwMDAwMDAwMDAwMDAwMDAwMDAwMDAwMDAwMDAwM\n";

@@ -152,29 +152,25 @@ pub const FIVE: Vote = Vote {
     entries: &[],
 };
 
+/// A vote that is another but for these fields.
+#[macro_export]
+macro_rules! vote {
+    ($vote:expr, $($field:ident: $value:expr),+) => {
+        $crate::Vote { $($field: $value,)+ ..$vote }
+    };
+}
+
 /// The second authority's vote, where the consensus is to be fresh until ten past one.
-pub const TWO_LATER: Vote = Vote {
-    fresh: "01:10:00",
-    ..TWO
-};
+pub const TWO_LATER: Vote = vote!(TWO, fresh: "01:10:00");
 
 /// The third authority's vote, where it is to be fresh until twenty past one.
-pub const THREE_LATER: Vote = Vote {
-    fresh: "01:20:00",
-    ..THREE
-};
+pub const THREE_LATER: Vote = vote!(THREE, fresh: "01:20:00");
 
 /// The fourth authority's vote, where it is to be fresh until half past one.
-pub const FOUR_LATER: Vote = Vote {
-    fresh: "01:30:00",
-    ..FOUR
-};
+pub const FOUR_LATER: Vote = vote!(FOUR, fresh: "01:30:00");
 
 /// A vote of the first authority with another contact.
-pub const ONE_AGAIN: Vote = Vote {
-    contact: "another",
-    ..ONE
-};
+pub const ONE_AGAIN: Vote = vote!(ONE, contact: "another");
 
 /// The votes, one after the other.
 ///

@@ -1,5 +1,5 @@
 // Lines of one relay, and votes that list it.
-use run_stage::{FIVE, FOUR, KEY_P, ONE, SET, THREE, TWO, Vote, X};
+use run_stage::{FIVE, FOUR, KEY_P, ONE, SET, THREE, TWO, VALID, Vote, X, vote};
 
 /// The first line of the relay with a later descriptor.
 pub const X_LATER: &str =
@@ -8,8 +8,6 @@ pub const X_LATER: &str =
 /// The first line of the relay with another descriptor of the same moment, whose digest is greater.
 pub const X_GREATER: &str =
     "r relay1 AQEBAQEBAQEBAQEBAQEBAQEBAQE BwcHBwcHBwcHBwcHBwcHBwcHBwc 2025-12-31 22:00:00 198.51.100.7 9001 0\n";
-
-pub const VALID: &str = "s Valid\n";
 
 pub const EXIT: &str = "s Exit Running Valid\n";
 
@@ -27,9 +25,7 @@ pub const PR_B: &str = "pr b=1\n";
 
 pub const PR_A: &str = "pr a=1\n";
 
-/// Lines of a consensus for a relay that is included without an Ed25519 part.
-pub const SET_BARE: &str = "s NoEdConsensus Running Valid\n";
-
+/// The flags of a consensus for an exit that is listed without an Ed25519 part.
 pub const EXIT_BARE: &str = "s Exit NoEdConsensus Running Valid\n";
 
 pub const ONE_X: Vote = vote!(ONE, entries: &[X, SET]);

@@ -1,5 +1,5 @@
 // Runs of `compute` over votes with lists of versions, protocols and params.
-use run_stage::{ONE, THE_THREE, THREE, TWO, Vote, compute_words, computed};
+use run_stage::{ONE, THE_THREE, THREE, TWO, Vote, compute_words, computed, vote};
 use std::test::Fail;
 
 /// Lists of three votes, and the preamble's lines from the flags on.
@@ -20,18 +20,9 @@ dir-source auth1 ";
 
 /// Votes with these lists.
 const WITH_LISTS: [Vote; 3] = [
-    Vote {
-        lists: FIRST,
-        ..ONE
-    },
-    Vote {
-        lists: SECOND,
-        ..TWO
-    },
-    Vote {
-        lists: THIRD,
-        ..THREE
-    },
+    vote!(ONE, lists: FIRST),
+    vote!(TWO, lists: SECOND),
+    vote!(THREE, lists: THIRD),
 ];
 
 #[test]
@@ -45,18 +36,9 @@ const EMPTY: &str = "params\nclient-versions\nrequired-relay-protocols\n";
 
 /// Votes whose lists have no members.
 const WITH_EMPTY_LISTS: [Vote; 3] = [
-    Vote {
-        lists: EMPTY,
-        ..ONE
-    },
-    Vote {
-        lists: EMPTY,
-        ..TWO
-    },
-    Vote {
-        lists: EMPTY,
-        ..THREE
-    },
+    vote!(ONE, lists: EMPTY),
+    vote!(TWO, lists: EMPTY),
+    vote!(THREE, lists: EMPTY),
 ];
 
 #[test]

@@ -1,5 +1,7 @@
 // Runs of `compute` that write one flavour or both.
-use run_stage::{KEY_P, ONE, PLAIN_CONSENSUS, SET, THREE, TWO, Vote, X, computed, flavour_words};
+use run_stage::{
+    KEY_P, ONE, PLAIN_CONSENSUS, SET, THREE, TWO, Vote, X, computed, flavour_words, vote,
+};
 use std::test::Fail;
 
 const M: &str = "m 32 sha256=BQUFBQUFBQUFBQUFBQUFBQUFBQUFBQUFBQUFBQUFBQU\n";
@@ -22,34 +24,16 @@ const ENTRY_WITHOUT_DIGEST: &[&str] = &[X, SET, KEY_P];
 
 /// Votes that say the digest of a relay's microdescriptor.
 const WITH_DIGEST: [Vote; 3] = [
-    Vote {
-        entries: ENTRY_WITH_DIGEST,
-        ..ONE
-    },
-    Vote {
-        entries: ENTRY_WITH_DIGEST,
-        ..TWO
-    },
-    Vote {
-        entries: ENTRY_WITH_DIGEST,
-        ..THREE
-    },
+    vote!(ONE, entries: ENTRY_WITH_DIGEST),
+    vote!(TWO, entries: ENTRY_WITH_DIGEST),
+    vote!(THREE, entries: ENTRY_WITH_DIGEST),
 ];
 
 /// Votes that say none.
 const WITHOUT_DIGEST: [Vote; 3] = [
-    Vote {
-        entries: ENTRY_WITHOUT_DIGEST,
-        ..ONE
-    },
-    Vote {
-        entries: ENTRY_WITHOUT_DIGEST,
-        ..TWO
-    },
-    Vote {
-        entries: ENTRY_WITHOUT_DIGEST,
-        ..THREE
-    },
+    vote!(ONE, entries: ENTRY_WITHOUT_DIGEST),
+    vote!(TWO, entries: ENTRY_WITHOUT_DIGEST),
+    vote!(THREE, entries: ENTRY_WITHOUT_DIGEST),
 ];
 
 #[test]

@@ -1,8 +1,7 @@
 // Runs of `compute` over votes that say a relay's bandwidth.
-use super::relay_votes::{SET_BARE, VALID};
-use super::relays::{Case, assert_lists};
 use run_stage::{
-    FIVE, FOUR, ONE, SET, THE_FIVE, THE_THREE, THREE, TWO, Vote, X, compute_words, computed,
+    FIVE, FOUR, Listing, ONE, SET, SET_BARE, THE_FIVE, THE_THREE, THREE, TWO, VALID, Vote, X,
+    assert_lists, compute_words, computed, vote,
 };
 use std::test::Fail;
 
@@ -56,8 +55,8 @@ const THREE_WITH_LIMIT: Vote = vote!(THREE_MEASURES_ONE, lists: LIMIT);
 
 #[test]
 fn what_three_votes_measure_limits_what_is_not_measured(rt: HostRuntime) -> Result<(), Fail> {
-    let cases: [Case; 3] = [
-        Case {
+    let cases: [Listing; 3] = [
+        Listing {
             roster: THE_FIVE,
             votes: &[
                 ONE_MEASURES_BOTH,
@@ -69,7 +68,7 @@ fn what_three_votes_measure_limits_what_is_not_measured(rt: HostRuntime) -> Resu
             flags: "NoEdConsensus Running Valid",
             relays: &[X, SET_BARE, "w Bandwidth=20 Unmeasured=1\n"],
         },
-        Case {
+        Listing {
             roster: THE_FIVE,
             votes: &[
                 ONE_WITH_LIMIT,
@@ -81,7 +80,7 @@ fn what_three_votes_measure_limits_what_is_not_measured(rt: HostRuntime) -> Resu
             flags: "NoEdConsensus Running Valid",
             relays: &[X, SET_BARE, "w Bandwidth=100 Unmeasured=1\n"],
         },
-        Case {
+        Listing {
             roster: THE_FIVE,
             votes: &[
                 ONE_MEASURES_BOTH,
@@ -93,15 +92,15 @@ fn what_three_votes_measure_limits_what_is_not_measured(rt: HostRuntime) -> Resu
             relays: &[X, SET_BARE, "w Bandwidth=500 Unmeasured=1\n"],
         },
     ];
-    for case in &cases {
-        assert_lists(&rt, rt.alloc(), case)?;
+    for listing in &cases {
+        assert_lists(rt.alloc(), listing)?;
     }
     Ok(())
 }
 
 #[test]
 fn a_bandwidth_of_three_measures_is_their_low_median(rt: HostRuntime) -> Result<(), Fail> {
-    let case = Case {
+    let listing = Listing {
         roster: THE_FIVE,
         votes: &[
             ONE_SAYS_700,
@@ -113,7 +112,7 @@ fn a_bandwidth_of_three_measures_is_their_low_median(rt: HostRuntime) -> Result<
         flags: "NoEdConsensus Running Valid",
         relays: &[X, SET_BARE, "w Bandwidth=800\n"],
     };
-    assert_lists(&rt, rt.alloc(), &case)
+    assert_lists(rt.alloc(), &listing)
 }
 
 /// Entries and flags of a relay that all that is known is set on.
@@ -139,7 +138,7 @@ const MIDDLE_WEIGHTS: &str =
 
 #[test]
 fn a_middle_relay_weighs_in_the_middle_alone(rt: HostRuntime) -> Result<(), Fail> {
-    let case = Case {
+    let listing = Listing {
         roster: THE_THREE,
         votes: SETTING_ALL,
         flags: "BadExit Exit Guard MiddleOnly NoEdConsensus Running Valid",
@@ -149,7 +148,7 @@ fn a_middle_relay_weighs_in_the_middle_alone(rt: HostRuntime) -> Result<(), Fail
             "w Bandwidth=1000 Unmeasured=1\n",
         ],
     };
-    assert_lists(&rt, rt.alloc(), &case)
+    assert_lists(rt.alloc(), &listing)
 }
 
 #[test]

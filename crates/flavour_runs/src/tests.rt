@@ -1,0 +1,3 @@
+// Runs of `compute` in each flavour, and with lists.
+mod flavours;
+mod lists;

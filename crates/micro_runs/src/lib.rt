@@ -1,0 +1,5 @@
+//! Whole runs of `check` and `show` on microdescriptors: tests alone, of `authority_daemon::run`.
+#![tactic(auto)]
+
+#[cfg(test)]
+mod tests;
