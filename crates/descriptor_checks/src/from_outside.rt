@@ -52,31 +52,69 @@ fn key(text: &[u8]) -> Result<[u8; 32], BadField> {
     Ok(key)
 }
 
+/// What a descriptor says of its relay and its keys, in plain values.
+#[derive(Clone, Copy, Debug, PartialEq, Eq)]
+struct Found {
+    identity: Fingerprint,
+    fingerprint: Option<Fingerprint>,
+    digest: Digest1,
+    covered: Option<Digest2>,
+    master_key: Option<[u8; 32]>,
+    signer: Option<[u8; 32]>,
+}
+
+/// The digest that the Ed25519 signature is over, where there is one.
+fn covered(read: &Descriptor) -> Option<Digest2> {
+    match &read.router_sig_ed25519 {
+        Some(signature) => Some(signature.covered),
+        None => None,
+    }
+}
+
+/// The key that signed the Ed25519 certificate, where there is one.
+fn signer(read: &Descriptor) -> Option<[u8; 32]> {
+    match &read.identity_ed25519 {
+        Some(certificate) => Some(certificate.signer),
+        None => None,
+    }
+}
+
+/// What the descriptor says that holds, with Ed25519 items.
+fn said(alloc: Global) -> Result<Found, ReadRefusal> {
+    let read = right(alloc)?;
+    Ok(Found {
+        identity: read.identity,
+        fingerprint: read.fingerprint,
+        digest: read.digest,
+        covered: covered(&read),
+        master_key: read.master_key_ed25519,
+        signer: signer(&read),
+    })
+}
+
 #[test]
 fn a_descriptor_has_its_digests(rt: HostRuntime) -> Result<(), Fail> {
-    let read = right(rt.alloc())?;
+    let found = said(rt.alloc())?;
     let identity = Fingerprint(digest(b"438BF08F85C084DE978824AE225C6DD09DB3BF03")?);
-    assert_eq!(rt; read.identity, identity);
-    assert_eq!(rt; read.fingerprint, Some(identity));
+    assert_eq!(rt; found.identity, identity);
+    assert_eq!(rt; found.fingerprint, Some(identity));
     let signed = Digest1(digest(b"689fa9e979e8e9bb4b6b580c63261f2f4a5597dd")?);
-    assert_eq!(rt; read.digest, signed);
-    let signature = read.router_sig_ed25519.as_ref().ok_or("signature")?;
+    assert_eq!(rt; found.digest, signed);
     let mut covered = [0; 32];
     read_hex(
         b"012da0110c02f08ee07da6ece73420959c6ed51c1fe7254fe6d835939971fa50",
         &mut covered,
     )?;
-    assert_eq!(rt; signature.covered, Digest2(covered));
+    assert_eq!(rt; found.covered, Some(Digest2(covered)));
     Ok(())
 }
 
 #[test]
 fn a_certificate_names_the_master_key(rt: HostRuntime) -> Result<(), Fail> {
-    let read = right(rt.alloc())?;
-    let signer = key(b"kZ2goXUuismypQfg1OXWAOgCGZmuORh6IhpfyN3VS7A")?;
-    assert_eq!(rt; read.master_key_ed25519, Some(signer));
-    let certificate = read.identity_ed25519.as_ref().ok_or("certificate")?;
-    assert_eq!(rt; certificate.signer, signer);
+    let found = said(rt.alloc())?;
+    let signer = Some(key(b"kZ2goXUuismypQfg1OXWAOgCGZmuORh6IhpfyN3VS7A")?);
+    assert_eq!(rt; found.master_key, signer);
+    assert_eq!(rt; found.signer, signer);
     Ok(())
 }
 
