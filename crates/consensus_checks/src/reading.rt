@@ -94,17 +94,20 @@ fn what_was_written_is_read_again(rt: HostRuntime) -> Result<(), Fail> {
     Ok(())
 }
 
+/// Where the signed part of a consensus begins and ends, where it is signed, and how many signatures it has.
+fn signed_part(alloc: Global, text: &str) -> Result<(Option<(u64, u64)>, usize), Fail> {
+    let (consensus, _) = consensus_of(alloc, text)?;
+    Ok((consensus.signed, consensus.signatures.len()))
+}
+
 #[test]
 fn the_first_signature_ends_the_signed_part(rt: HostRuntime) -> Result<(), Fail> {
     let alloc = rt.alloc();
     let unsigned = ["network-status-version 3\n", HEAD, NS_ROUTER, FOOTER].concat(alloc)?;
     let unknown = "directory-signature md5 x\n";
     let text = ["\n", unsigned.as_str(), unknown, SIGNATURES].concat(alloc)?;
-    let (consensus, _) = consensus_of(alloc, &text)?;
     let end = 1 + unsigned.len() + "directory-signature ".len();
-    assert_eq!(rt; consensus.signed, Some((1, end as u64)));
-    assert_eq!(rt; consensus.signatures.len(), 2);
-    let (none, _) = consensus_of(alloc, &unsigned)?;
-    assert_eq!(rt; none.signed, None);
+    assert_eq!(rt; signed_part(alloc, &text)?, (Some((1, end as u64)), 2));
+    assert_eq!(rt; signed_part(alloc, &unsigned)?, (None, 0));
     Ok(())
 }

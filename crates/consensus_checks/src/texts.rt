@@ -234,18 +234,24 @@ fn signatures_ascend_by_identity(rt: HostRuntime) -> Result<(), Fail> {
     Ok(())
 }
 
+/// What is written of a consensus that was read, whose weights say these words.
+fn written_with(alloc: Global, weights: &[u8]) -> Result<Vec<u8>, Fail> {
+    let read = SignedConsensus {
+        flavour: Flavour::Ns,
+        facts: facts(alloc, None)?,
+        weights: Some(Text::copy_of(alloc, weights)?),
+        signatures: Seq::new(signatures(alloc)?),
+        signed: None,
+    };
+    Ok(write_facts(alloc, &read)?)
+}
+
 #[test]
 fn a_consensus_that_was_read_is_written_with_its_weights_as_they_stood(
     rt: HostRuntime,
 ) -> Result<(), Fail> {
     let alloc = rt.alloc();
-    let read = SignedConsensus {
-        flavour: Flavour::Ns,
-        facts: facts(alloc, None)?,
-        weights: Some(Text::copy_of(alloc, b"Wbd=1 Wzz=2")?),
-        signatures: Seq::new(signatures(alloc)?),
-        signed: None,
-    };
+    let text = written_with(alloc, b"Wbd=1 Wzz=2")?;
     let footer = b"directory-footer\nbandwidth-weights Wbd=1 Wzz=2\n".as_slice();
     let parts: &[&[u8]] = &[
         b"network-status-version 3\n",
@@ -254,9 +260,6 @@ fn a_consensus_that_was_read_is_written_with_its_weights_as_they_stood(
         footer,
         SIGNATURES,
     ];
-    assert_eq!(rt;
-        write_facts(alloc, &read)?.as_slice(),
-        joined(alloc, parts)?.as_slice()
-    );
+    assert_eq!(rt; text.as_slice(), joined(alloc, parts)?.as_slice());
     Ok(())
 }
