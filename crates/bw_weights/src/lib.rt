@@ -11,6 +11,3 @@ mod table;
 pub use position_weights::Weights;
 pub use sums::Sums;
 pub use table::weights;
-
-#[cfg(test)]
-mod tests;

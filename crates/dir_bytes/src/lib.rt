@@ -40,6 +40,3 @@ pub use sink::{Sink, WriteAnswer};
 pub use source::{ReadAnswer, Source};
 pub use text::Text;
 pub use writing::{WriteAll, write_all};
-
-#[cfg(test)]
-mod tests;

@@ -35,6 +35,3 @@ pub use refusal::ValueRefusal;
 pub use roster::{Roster, RosterFault};
 pub use tor_version::{TorVersion, compare_named};
 pub use word_set::WordSet;
-
-#[cfg(test)]
-mod tests;

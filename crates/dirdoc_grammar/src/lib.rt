@@ -16,6 +16,3 @@ pub use item_terms::{DocFault, DocReason};
 pub use items::Items;
 pub use laws::stand_in_place;
 pub use writer::{Stage, Writer, push_line, push_object};
-
-#[cfg(test)]
-mod tests;

@@ -29,8 +29,3 @@ pub use protocol_votes::protocols;
 pub use text_ballot::most_common;
 pub use version_line::VersionLine;
 pub use version_votes::versions;
-
-#[cfg(test)]
-mod list_tests;
-#[cfg(test)]
-mod tests;

@@ -18,6 +18,3 @@ pub use service_keys::ServiceKeys;
 pub use test_keys::TestKeys;
 pub use unix_dial::UnixDial;
 pub use verifier::{KeyKind, Verifier, VerifyAnswer};
-
-#[cfg(test)]
-mod tests;

@@ -24,6 +24,3 @@ pub use parts::Parts;
 pub use proto_ranges::ProtoRanges;
 pub use protocol_list::wrong_protocol;
 pub use version_list::{VersionList, wrong_version_list};
-
-#[cfg(test)]
-mod tests;

@@ -13,6 +13,3 @@ mod storied;
 pub use lock::Shared;
 pub use pass::Pass;
 pub use storied::{Event, Storied};
-
-#[cfg(test)]
-mod tests;

@@ -5,6 +5,3 @@ mod page;
 mod room;
 
 pub use page::Page;
-
-#[cfg(test)]
-mod tests;
