@@ -14,6 +14,3 @@ pub use frame::{CertFrame, CertKind, cert_shape, cert_value};
 pub use head::{CertHead, cert_at, head_of, no_head};
 pub use reading::read;
 pub use writing::write;
-
-#[cfg(test)]
-mod tests;

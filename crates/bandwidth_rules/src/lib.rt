@@ -9,6 +9,3 @@ mod weighing;
 pub use class::Class;
 pub use limits::unmeasured_limit;
 pub use weighing::relay_weights;
-
-#[cfg(test)]
-mod tests;

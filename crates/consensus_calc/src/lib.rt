@@ -10,6 +10,3 @@ mod version_lists;
 mod weights;
 
 pub use record::{CalcFault, compute};
-
-#[cfg(test)]
-mod tests;

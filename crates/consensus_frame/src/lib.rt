@@ -12,6 +12,3 @@ pub use across::Across;
 pub use frame::ConsensusFrame;
 pub use rows::{ConsensusKind, ConsensusSection};
 pub use value::ConsensusValue;
-
-#[cfg(test)]
-mod tests;

@@ -8,6 +8,3 @@ mod values;
 
 pub use command::{Command, Compute, Flavours, Kind, command_of};
 pub use keys::{Keys, keys_of};
-
-#[cfg(test)]
-mod tests;

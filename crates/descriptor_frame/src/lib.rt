@@ -10,6 +10,3 @@ pub use fields::key;
 pub use frame::DescriptorFrame;
 pub use lines::{key_of, ports_of};
 pub use said::{BandwidthLine, DescriptorKind, DescriptorValue, RouterLine};
-
-#[cfg(test)]
-mod tests;

@@ -6,6 +6,3 @@ mod lines;
 mod writing;
 
 pub use writing::write;
-
-#[cfg(test)]
-mod tests;

@@ -5,6 +5,3 @@ mod certificate;
 mod extensions;
 
 pub use certificate::{EdCert, is_certificate};
-
-#[cfg(test)]
-mod tests;

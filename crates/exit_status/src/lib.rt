@@ -13,6 +13,3 @@ pub use status::{Refusal, Status};
 pub use status_line::report;
 pub use stop::{Stop, of_kind};
 pub use vote_refusal::VoteListRefusal;
-
-#[cfg(test)]
-mod tests;

@@ -12,6 +12,3 @@ pub use laws::{
     summaries_accept_no_more, summaries_are_short,
 };
 pub use summaries::summary;
-
-#[cfg(test)]
-mod tests;

@@ -26,8 +26,3 @@ pub use laws::{
 pub use operator::{OperatorList, OperatorRule};
 pub use relay::{Measured, RelayFacts, RuledRelay};
 pub use ruling::Ruling;
-
-#[cfg(test)]
-mod boundary_tests;
-#[cfg(test)]
-mod tests;

@@ -7,6 +7,3 @@ mod listed;
 
 pub use lines::{params_of, protocols_of, versions_of};
 pub use listed::{params_if, params_in, protocols_if, protocols_in, versions_if, versions_in};
-
-#[cfg(test)]
-mod tests;

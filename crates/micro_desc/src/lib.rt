@@ -14,8 +14,3 @@ pub use micro::Micro;
 pub use micro_frame::MicroId;
 pub use reading::read;
 pub use writing::{digest, write};
-
-#[cfg(test)]
-mod fixtures;
-#[cfg(test)]
-mod tests;

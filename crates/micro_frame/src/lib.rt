@@ -7,6 +7,3 @@ mod said;
 
 pub use frame::MicroFrame;
 pub use said::{MicroId, MicroKind, MicroValue};
-
-#[cfg(test)]
-mod tests;

@@ -12,6 +12,3 @@ pub use item::item_of;
 pub use last::{after_last, before_last, has_last};
 pub use policy::{Policy, has_net_bits};
 pub use text::push_item;
-
-#[cfg(test)]
-mod tests;

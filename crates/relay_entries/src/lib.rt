@@ -21,6 +21,3 @@ pub use listed::{Listed, none_listed, note_entry};
 pub use said::{Bandwidths, EdOpinion, EntryKind, EntryValue, MicroLine, RelayLine};
 pub use texts::{push_bandwidths, push_micro, push_named, push_reached};
 pub use value::{entry_value, is_ignored, too_many_entries};
-
-#[cfg(test)]
-mod tests;

@@ -9,6 +9,3 @@ mod text;
 pub use family::canonical_family;
 pub use laws::{families_ascend, families_have_their_names};
 pub use text::push_names;
-
-#[cfg(test)]
-mod tests;

@@ -22,6 +22,3 @@ pub use members::{eds_at, entries_at, entry_at};
 pub use merge::Merge;
 pub use parts::{belongs, included_part};
 pub use searching::belonging;
-
-#[cfg(test)]
-mod tests;

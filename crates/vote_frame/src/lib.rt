@@ -6,10 +6,3 @@ mod frame;
 mod value;
 
 pub use frame::{VoteFrame, VoteKind, VoteSection, VoteValue};
-
-#[cfg(test)]
-mod entry_tests;
-#[cfg(test)]
-mod frame_tests;
-#[cfg(test)]
-mod list_tests;

@@ -6,6 +6,3 @@ mod lists;
 mod writing;
 
 pub use writing::write;
-
-#[cfg(test)]
-mod tests;
