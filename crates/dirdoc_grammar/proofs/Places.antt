@@ -133,7 +133,7 @@ keyword_stands place bytes line more h =
       keyword = ap (take (length (keyword line.text))) first ∙ front_part (keyword_len line.text) line.text (end_of line.ended ++ more);
       arguments = arguments_stand place bytes line.text (end_of line.ended ++ more) first;
       object = tt;
-      in_order = record { some_bytes = omega (arith, some); arguments_end = omega (arith, some, until); object_ends = tt };
+      in_order = record { some_bytes = omega (arith, some); arguments_end = omega (arith, some, until); line_ends = omega arith; object_ends = tt };
       within = line_within place bytes line more h;
     }
 
@@ -229,7 +229,7 @@ object_stands place bytes item object line more h i o =
       keyword = i.0.keyword;
       arguments = i.0.arguments;
       object = ap (take (length object.text)) o.text ∙ take-append_seam object.text (drop place bytes);
-      in_order = record { some_bytes = omega (arith, order.some_bytes, i.1); arguments_end = omega (arith, order.arguments_end, i.1); object_ends = omega (arith, o.end) };
+      in_order = record { some_bytes = omega (arith, order.some_bytes, i.1); arguments_end = omega (arith, order.arguments_end, i.1); line_ends = omega (arith, order.line_ends, i.1); object_ends = omega (arith, o.end) };
       within = line_within place bytes line more h;
     }
 

@@ -5,3 +5,6 @@ pub mod Bodies
 pub mod Writing
 pub mod Writers
 pub mod InPlace
+pub mod Moving
+pub mod Feeding
+pub mod Cursors

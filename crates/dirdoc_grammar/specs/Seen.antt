@@ -43,6 +43,7 @@ Gives old (Err fault) new = (old ≡ model.failed fault) × (new ≡ old)
 pub record LiesInOrder (item : model.Item) : Type 0 where
   pub some_bytes : item.place < item.after
   pub arguments_end : item.start + length item.arguments ≤ item.after
+  pub line_ends : item.line_end ≤ item.after
   pub object_ends : IfSome item.object (λ object. object.start + length object.text ≤ item.after)
 
 -- an item lies within an input of fewer than 2 ^ 62 bytes

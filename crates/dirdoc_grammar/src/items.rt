@@ -4,9 +4,8 @@ ghost use Rattle.std.specs.Prelude.{◌≤◌, ◌<◌, ◌≡◌, ◌^◌, drop
 ghost use Rattle.item_terms.specs.Items.{contents, items_of, items_from, nothing, Contents};
 ghost use Rattle.dirdoc_grammar.specs.Seen.{seen, Gives, LiesInOrder};
 
+use crate::front::whole_item;
 use crate::item::Item;
-use crate::line::line_at;
-use crate::object::with_object;
 use item_terms::DocFault;
 use std::marker::Model;
 
@@ -63,15 +62,13 @@ impl<'a> Items<'a> {
         ensures given { Gives self.old result self.new }
         ensures inside { IfOk result (λ item. IfSome item (λ i. LiesInOrder (seen i) × (i.after < 2 ^ 62))) }
     {
-        'lines: while self.place < self.bytes.len() {
-            let (item, place) = line_at(self.bytes, self.place, self.limit)?;
-            if let Some(item) = item {
-                let item = with_object(self.bytes, item, self.limit)?;
+        match whole_item(self.bytes, self.place, self.limit) {
+            Ok(Some(item)) => {
                 self.place = item.after as usize;
-                return Ok(Some(item));
+                Ok(Some(item))
             }
-            self.place = place;
+            Ok(None) => Ok(None),
+            Err(fault) => Err(fault),
         }
-        Ok(None)
     }
 }

@@ -3,17 +3,18 @@
 ghost use Rattle.std.specs.Prelude.{◌+◌, ◌<◌, ◌≡◌, ◌≤◌, ◌^◌, drop, Err, IfNone, IfOk, IfSome, length, MatchResult, None, Ok, Some, true};
 ghost use Rattle.item_terms.specs.Steps.{object_step};
 ghost use Rattle.item_terms.specs.Words as line_words;
-ghost use Rattle.dirdoc_grammar.specs.Reading.{last_step, object_of, BeginsObject, FindsObjectLine, ReadsObject};
+ghost use Rattle.dirdoc_grammar.specs.Reading.{last_step, object_of, BeginsObject, FindsLines, FindsObject, FindsObjectLine, IfWhole, IsFault};
 ghost use Rattle.dirdoc_grammar.specs.Seen.{seen, LiesInOrder};
 
 use crate::base64_text::is_body;
 use crate::bytes::{are_words, begins_dash, line_size};
+use crate::front::{Found, Phase, Stop};
 use crate::item::{Item, ObjectText};
 use crate::line::{MAX_LINE, at, first_line_of};
 use item_terms::{DocFault, DocReason};
 
 /// The bytes that an object may have, from its BEGIN line through its END line.
-const MAX_OBJECT: u64 = 65_536;
+pub const MAX_OBJECT: u64 = 65_536;
 
 /// The words of a line that begins an object.
 fn begin_words(text: &[u8]) -> Option<&[u8]>
@@ -38,7 +39,7 @@ fn is_end_line(words: &[u8], text: &[u8]) -> bool
 }
 
 /// A line of the object whose BEGIN line stands at `begin`, without its NL.
-fn object_line(bytes: &[u8], begin: usize, place: usize, limit: u64) -> Result<&[u8], DocFault>
+pub fn object_line(bytes: &[u8], begin: usize, place: usize, limit: u64) -> Result<&[u8], DocFault>
     requires order { begin ≤ place }
     requires inside { place < length bytes.now }
     requires short { length bytes.now < 2 ^ 62 }
@@ -117,31 +118,91 @@ fn first_object_line(bytes: &[u8], begin: usize, limit: u64) -> Result<(&[u8], u
     Ok((words, begin + line.len() + 1))
 }
 
-/// The item of a keyword line with the object after it, if there is one.
-pub fn with_object<'a>(bytes: &'a [u8], item: Item<'a>, limit: u64) -> Result<Item<'a>, DocFault>
-    requires inside { item.after ≤ length bytes.now }
+/// What a fault says that was found in the line at a place.
+fn stopped<'a>(fault: DocFault, line: usize, phase: Phase) -> Found<'a>
+    ensures fault { IsFault result fault line phase }
+    ensures order { IfWhole result (λ whole. LiesInOrder (seen whole)) }
+{
+    match fault.reason {
+        DocReason::Unterminated => Found::Open(
+            Stop {
+                item: 0,
+                line,
+                phase,
+            },
+            None,
+        ),
+        _ => Found::Fault(fault),
+    }
+}
+
+/// The item whose object has these words and lines from a place on.
+fn lines_of<'a>(
+    bytes: &'a [u8],
+    item: Item<'a>,
+    words: &'a [u8],
+    first: usize,
+    limit: u64,
+) -> Found<'a>
+    requires begins { item.after < first }
+    requires inside { first ≤ length bytes.now }
     requires short { length bytes.now < 2 ^ 62 }
     requires order { LiesInOrder (seen item) }
-    ensures object { ReadsObject limit bytes.now item.entry result }
-    ensures order { IfOk result (λ whole. LiesInOrder (seen whole)) }
+    ensures object { FindsLines limit bytes.now item.entry words.entry.now first result }
+    ensures order { IfWhole result (λ whole. LiesInOrder (seen whole)) }
 {
     let begin = item.after as usize;
-    if !begins_dash(&bytes[begin..]) {
-        return Ok(item);
-    }
-    let (words, first) = first_object_line(bytes, begin, limit)?;
     let mut place = first;
     'lines: while place < bytes.len() {
-        let text = object_line(bytes, begin, place, limit)?;
+        let text = match object_line(bytes, begin, place, limit) {
+            Ok(text) => text,
+            Err(fault) => return stopped(fault, place, Phase::Object(begin)),
+        };
         if begins_dash(text) {
             let body = Body {
                 words,
                 start: first as u64,
                 lines: &bytes[first..place],
             };
-            return end_of_object(item, body, begin as u64, place as u64, text);
+            return match end_of_object(item, body, begin as u64, place as u64, text) {
+                Ok(whole) => Found::Whole(whole),
+                Err(fault) => Found::Fault(fault),
+            };
         }
         place += text.len() + 1;
     }
-    Err(at(place as u64, DocReason::Unterminated))
+    Found::Open(
+        Stop {
+            item: 0,
+            line: place,
+            phase: Phase::Object(begin),
+        },
+        None,
+    )
+}
+
+/// The item of a keyword line with the object after it, if there is one.
+pub fn with_object<'a>(bytes: &'a [u8], item: Item<'a>, limit: u64) -> Found<'a>
+    requires inside { item.after ≤ length bytes.now }
+    requires short { length bytes.now < 2 ^ 62 }
+    requires order { LiesInOrder (seen item) }
+    ensures object { FindsObject limit bytes.now item.entry result }
+    ensures order { IfWhole result (λ whole. LiesInOrder (seen whole)) }
+{
+    let begin = item.after as usize;
+    if begin == bytes.len() {
+        let stop = Stop {
+            item: 0,
+            line: begin,
+            phase: Phase::Keyword,
+        };
+        return Found::Open(stop, Some(item));
+    }
+    if !begins_dash(&bytes[begin..]) {
+        return Found::Whole(item);
+    }
+    match first_object_line(bytes, begin, limit) {
+        Ok((words, first)) => lines_of(bytes, item, words, first, limit),
+        Err(fault) => stopped(fault, begin, Phase::Keyword),
+    }
 }

@@ -1,3 +1,4 @@
 pub mod Closing
+pub mod Arrivals
 pub mod Stepping
 pub mod Within

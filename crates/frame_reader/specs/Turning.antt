@@ -7,7 +7,7 @@ use Rattle.frame_terms.specs.declared.document.Open.{Open}
 use Rattle.frame_terms.specs.declared.document.Taken.{Taken}
 use Rattle.frame_terms.specs.declared.fault.ReadRefusal.{ReadRefusal}
 use Rattle.frame_terms.specs.declared.row.Row.{Row}
-use Rattle.frame_terms.specs.Documents.{Document, after_made, read_items, finish}
+use Rattle.frame_terms.specs.Documents.{Document, after_made, at_end, read_items, finish}
 use Rattle.frame_terms.specs.Refusals.{Fails}
 use Rattle.frame_terms.specs.Sections.{accept}
 use Rattle.frame_terms.specs.Tables.{Tables}
@@ -70,3 +70,9 @@ module _ {S K V X F : Type 0} where
   Turns with_ tables item across old facts remembered new kept (Err refusal) =
       (length : ℕ) (fault : Option DocFault) (items : List Item)
       → Fails refusal (finish with_ facts (read_items tables length across old fault (item ∷ items)))
+
+module _ {S K V X F : Type 0} where
+  -- the document ends behind its last item, at the end of an input of so many bytes
+  abbrev pub Closes : (F → S → List (Taken V) → F) → Tables S K V X → ℕ → Open S V → F → F → Result ℕ ReadRefusal → Type 0
+  Closes with_ tables length open_ facts kept (Ok used) = finish with_ facts (at_end tables length open_ None) ≡ Ok (kept, used)
+  Closes with_ tables length open_ facts kept (Err refusal) = Fails refusal (finish with_ facts (at_end tables length open_ None))

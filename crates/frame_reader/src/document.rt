@@ -7,11 +7,10 @@ ghost use Rattle.frame_reader.specs.Reading.{EndsWithin};
 
 use crate::frame::Frame;
 use crate::order::{first_of, following, must_open};
-use crate::section::{lacking, refused};
-use crate::turning::turn;
-use dir_bytes::Seq;
+use crate::reader::Reader;
+use crate::section::lacking;
 use dirdoc_grammar::Items;
-use frame_terms::{FrameReason, Keyword, Open, ReadRefusal, Taken};
+use frame_terms::{Keyword, ReadRefusal, Taken};
 use std::alloc::{AllocError, Global};
 
 /// What is kept of a document of a kind. Its sections are handed over one after the other, in the order in which they end.
@@ -28,7 +27,7 @@ pub trait Facts<F: Frame> {
 }
 
 /// What is missing where the input ends in a section.
-fn missing_at_end<F: Frame>(
+pub fn missing_at_end<F: Frame>(
     frame: F,
     section: F::Section,
     taken: &[Taken<F::Value>],
@@ -42,7 +41,7 @@ fn missing_at_end<F: Frame>(
 }
 
 /// Reads a document, as `read_document` does.
-#[tactic(auto, unfolding(frame_terms::specs::Documents::read_items), using(crate::proofs::Closing::closes))]
+#[tactic(auto, unfolding(frame_terms::specs::Documents::read_items))]
 fn read<F: Frame, K: Facts<F>>(
     alloc: Global,
     frame: F,
@@ -52,22 +51,13 @@ fn read<F: Frame, K: Facts<F>>(
 ) -> Result<u64, ReadRefusal>
     ensures { Folds K.with (F.tables frame) length items.old facts.old facts.new result }
 {
-    let mut state = Open {
-        section: frame.first(),
-        taken: Seq::new(Vec::new(alloc)),
-        around: None,
-    };
-    let mut across = frame.start(alloc);
+    let mut reader = Reader::new(alloc, frame);
     'items: while let Some(item) = items.next()? {
-        if let Some(used) = turn(alloc, frame, &mut across, &mut state, facts, &item)? {
+        if let Some(used) = reader.take(alloc, frame, facts, &item)? {
             return Ok(used);
         }
     }
-    if let Some(missing) = missing_at_end(frame, state.section, state.taken.as_slice()) {
-        return Err(refused(length, FrameReason::Missing(missing)));
-    }
-    facts.close(state.section, state.taken.as_slice())?;
-    Ok(length)
+    reader.end(frame, length, facts)
 }
 
 /// Reads a document of a kind from the items of an input of so many bytes: keeps what its sections
