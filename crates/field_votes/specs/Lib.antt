@@ -2,6 +2,7 @@ pub mod Leading
 pub mod Plain
 pub mod Flags
 pub mod Lists
+pub mod Methods
 pub mod Versions
 pub mod VersionKeys
 pub mod VersionSets

@@ -1,5 +1,5 @@
 //! What several votes say of one field: the value that stands most often, low medians, the flags of a majority,
-//! and the params, versions and protocols that lists agree on.
+//! the params, versions and protocols that lists agree on, and the method that most have.
 #![tactic(auto)]
 
 mod ballot;
@@ -9,6 +9,7 @@ mod laws;
 mod line;
 mod majorities;
 mod medians;
+mod method_votes;
 mod param_votes;
 mod protocol_votes;
 mod text_ballot;
@@ -24,6 +25,7 @@ pub use laws::{chosen_is_chosen, voted_versions_are_those_of_most};
 pub use line::Line;
 pub use majorities::majority_flags;
 pub use medians::{low_median_i32, low_median_u64};
+pub use method_votes::method;
 pub use param_votes::params;
 pub use protocol_votes::protocols;
 pub use text_ballot::most_common;
