@@ -19,7 +19,8 @@ pub struct Assigned {
     pub flags: Seq<Flags>,
 }
 
-/// Asks the hook once for each relay, and assigns the flags under its rulings (dir-spec, "Assigning flags in a vote").
+/// Assigns the flags under rulings that the hook gives (dir-spec, "Assigning flags in a vote"); as it stands it asks once for each
+/// relay.
 /// `now` is the moment of the vote, in seconds since 1970-01-01 00:00:00 UTC.
 pub fn assign<R: Rules, F: Fn(RelayFacts) -> Ruling>(
     alloc: Global,

@@ -29,7 +29,8 @@ impl<T: Storied> Model for Shared<T> {
 }
 
 impl<T: Storied + Drop> Shared<T> {
-    /// A lock round a value to which nothing was added, with its passes. It fails for want of memory alone, and the value is then dropped.
+    /// A lock round a value to which nothing was added, with its passes. As it stands it fails for want of memory, and the value is
+    /// then dropped.
     pub fn new(
         alloc: Global,
         value: T,
