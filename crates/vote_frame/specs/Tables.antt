@@ -21,12 +21,17 @@ use Rattle.list_lines.specs.Lines.{params_of, protocols_of, versions_of}
 use Rattle.authority_certs.specs.Tables.{cert_rows, cert_shape, cert_value}
 use Rattle.relay_entries.specs.declared.listed.Listed.{Listed}
 use Rattle.relay_entries.specs.Lines.{entry_value, is_ignored, lifted}
-use Rattle.relay_entries.specs.Listing.{none_listed, too_many_entries, note_entry}
+use Rattle.relay_entries.specs.Listing.{too_many_entries, note_entry}
 use Rattle.relay_entries.specs.Tables.{entry_rows, entry_shape}
+use Rattle.random_lines.specs.Lines.{random_of}
+use Rattle.random_lines.specs.declared.line.RandomLine.TheVariants as line
+use Rattle.vote_frame.specs.Across.{nothing_across, note_random, with_listed}
+use Rattle.vote_frame.specs.declared.across.Across.{Across}
 use Rattle.vote_frame.specs.declared.frame.VoteKind.{VoteKind}
 use Rattle.vote_frame.specs.declared.frame.VoteKind.TheVariants.{Version, Status, Methods, Time, Delays, KnownFlags}
 use Rattle.vote_frame.specs.declared.frame.VoteKind.TheVariants.{Versions, Protocols, Params}
-use Rattle.vote_frame.specs.declared.frame.VoteKind.TheVariants.{Rest, Source, Nothing, Signature, Certificate, Entry}
+use Rattle.vote_frame.specs.declared.frame.VoteKind.TheVariants.{Rest, Source, Random, Nothing, Signature}
+use Rattle.vote_frame.specs.declared.frame.VoteKind.TheVariants.{Certificate, Entry}
 use Rattle.vote_frame.specs.declared.frame.VoteSection.{VoteSection}
 use Rattle.vote_frame.specs.declared.frame.VoteSection.TheVariants.{Preamble, Authority, Footer}
 use Rattle.vote_frame.specs.declared.frame.VoteSection.TheVariants.{Certificate as CertificateSection}
@@ -54,10 +59,14 @@ rows Preamble =
     ∷ row the.RequiredClientProtocols Optional Protocols
     ∷ row the.RequiredRelayProtocols Optional Protocols
     ∷ row the.Params Optional Params
+    ∷ row the.SharedRandPreviousValue Optional (Random line.Previous)
+    ∷ row the.SharedRandCurrentValue Optional (Random line.Current)
     ∷ []
 rows Authority =
     row the.DirSource One Source
     ∷ row the.Contact Optional Rest
+    ∷ row the.SharedRandPreviousValue Optional (Random line.Previous)
+    ∷ row the.SharedRandCurrentValue Optional (Random line.Current)
     ∷ row the.DirKeyCertificateVersion One Version
     ∷ []
 rows CertificateSection = cert_rows Certificate
@@ -79,7 +88,8 @@ shape CertificateSection = cert_shape
 shape EntrySection = entry_shape
 shape Footer = record (plain the.DirectoryFooter) { last = Some the.DirectorySignature }
 
--- what an item says, or the place of what is wrong
+-- What an item says, or the place of what is wrong. Of a shared random value it is told when it is noted, since that one
+-- stands already comes before it.
 abbrev pub value_at : VoteKind → Item → Result (Value VoteValue) ℕ
 value_at Version item = next (literal (codes "3") item) (λ _. Ok value.Nothing)
 value_at Status item = next (literal (codes "vote") item) (λ _. Ok value.Nothing)
@@ -92,6 +102,7 @@ value_at Protocols item = next (protocols_of item) (λ text. Ok (value.Text text
 value_at Params item = next (params_of item) (λ text. Ok (value.Text text))
 value_at Rest item = Ok (value.Text (rest_of item))
 value_at Source item = next (source_of item) (λ source. Ok (value.Own (own.Source source)))
+value_at (Random of) item = Ok (value.Own (own.Random of (random_of item)))
 value_at Nothing item = Ok value.Nothing
 value_at Signature item = next (signature_of item) (λ signature. Ok (value.Own (own.Signature signature)))
 value_at (Certificate kind) item = cert_value kind item
@@ -110,20 +121,21 @@ abbrev pub ignores : VoteKind → Item → Bool
 ignores (Entry kind) item = is_ignored kind item
 ignores _ item = false
 
--- what is listed with what an item says that begins at a place, or why it may not stand
-abbrev pub note_value : Listed → ℕ → Value VoteValue → Result Listed FrameFault
-note_value listed place (value.Own (own.Entry said)) = note_entry listed place said
-note_value listed place _ = Ok listed
+-- what is remembered with what an item says that begins at a place, or why it may not stand
+abbrev pub note_value : Across → ℕ → Value VoteValue → Result Across FrameFault
+note_value across place (value.Own (own.Entry said)) = with_listed across (note_entry across.listed place said)
+note_value across place (value.Own (own.Random of read)) = note_random across place of read
+note_value across place _ = Ok across
 
 -- the tables of a vote
-abbrev pub vote_tables : Tables VoteSection VoteKind (Value VoteValue) Listed
+abbrev pub vote_tables : Tables VoteSection VoteKind (Value VoteValue) Across
 vote_tables = record {
   first = Preamble;
   sections = Preamble ∷ Authority ∷ EntrySection ∷ Footer ∷ [];
   shape = shape;
   rows = rows;
   ignores = ignores;
-  value_of = λ listed kind item. unless_fault (over_limit listed kind item) (at_place (value_at kind item));
-  start = none_listed;
-  note = λ listed one. note_value listed one.place one.value;
+  value_of = λ across kind item. unless_fault (over_limit across.listed kind item) (at_place (value_at kind item));
+  start = nothing_across;
+  note = λ across one. note_value across one.place one.value;
 }

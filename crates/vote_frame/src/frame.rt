@@ -2,15 +2,15 @@
 ghost use Rattle.std.specs.Prelude.{◌≡◌};
 ghost use Rattle.vote_frame.specs.Tables as tables;
 
+use crate::across::{Across, nothing_across};
 use crate::value::{note_value, over_limit, value_at};
 use authority_certs::{CertKind, cert_rows, cert_shape};
 use dirdoc_grammar::Item;
 use frame_reader::{Frame, given};
 use frame_terms::{Again, Count, Keyword, ReadRefusal, Row, Shape, Taken};
 use frame_values::{DirSource, Value, VoteSignature};
-use relay_entries::{
-    EntryKind, EntryValue, Listed, entry_rows, entry_shape, is_ignored, none_listed,
-};
+use random_lines::{RandomLine, SharedRandom};
+use relay_entries::{EntryKind, EntryValue, entry_rows, entry_shape, is_ignored};
 use std::alloc::Global;
 
 /// A vote, as a kind of document.
@@ -57,6 +57,8 @@ pub enum VoteKind {
     Rest,
     /// Who the authority is.
     Source,
+    /// A shared random value: a number below 2 ^ 32, and 32 bytes in base64.
+    Random(RandomLine),
     /// Nothing: its arguments are ignored.
     Nothing,
     /// An algorithm or none, an identity, the digest of a signing key, and a signature.
@@ -74,6 +76,8 @@ pub enum VoteValue {
     Delays(u32, u32),
     /// Who the authority is.
     Source(DirSource),
+    /// A shared random value, or the place of what is wrong with it.
+    Random(RandomLine, Result<SharedRandom, u64>),
     /// The signature.
     Signature(VoteSignature),
     /// What an item of an entry says.
@@ -91,7 +95,7 @@ macro_rules! row {
     };
 }
 
-const PREAMBLE: [Row<VoteKind>; 17] = [
+const PREAMBLE: [Row<VoteKind>; 19] = [
     row!(NetworkStatusVersion, One, VoteKind::Version),
     row!(VoteStatus, One, VoteKind::Status),
     row!(ConsensusMethods, Optional, VoteKind::Methods),
@@ -109,11 +113,31 @@ const PREAMBLE: [Row<VoteKind>; 17] = [
     row!(RequiredClientProtocols, Optional, VoteKind::Protocols),
     row!(RequiredRelayProtocols, Optional, VoteKind::Protocols),
     row!(Params, Optional, VoteKind::Params),
+    row!(
+        SharedRandPreviousValue,
+        Optional,
+        VoteKind::Random(RandomLine::Previous)
+    ),
+    row!(
+        SharedRandCurrentValue,
+        Optional,
+        VoteKind::Random(RandomLine::Current)
+    ),
 ];
 
-const AUTHORITY: [Row<VoteKind>; 3] = [
+const AUTHORITY: [Row<VoteKind>; 5] = [
     row!(DirSource, One, VoteKind::Source),
     row!(Contact, Optional, VoteKind::Rest),
+    row!(
+        SharedRandPreviousValue,
+        Optional,
+        VoteKind::Random(RandomLine::Previous)
+    ),
+    row!(
+        SharedRandCurrentValue,
+        Optional,
+        VoteKind::Random(RandomLine::Current)
+    ),
     row!(DirKeyCertificateVersion, One, VoteKind::Version),
 ];
 
@@ -153,7 +177,7 @@ impl Frame for VoteFrame {
 
     type Value = Value<VoteValue>;
 
-    type Across = Listed;
+    type Across = Across;
 
     ghost tables = { λ _. tables.vote_tables };
 
@@ -200,19 +224,19 @@ impl Frame for VoteFrame {
 
     fn value(
         self,
-        listed: &Listed,
+        across: &Across,
         kind: VoteKind,
         item: &Item<'_>,
     ) -> Result<Value<VoteValue>, ReadRefusal> {
-        given(over_limit(listed, kind, item))?;
-        value_at(listed, kind, item)
+        given(over_limit(&across.listed, kind, item))?;
+        value_at(&across.listed, kind, item)
     }
 
-    fn start(self, alloc: Global) -> Listed {
-        none_listed(alloc)
+    fn start(self, alloc: Global) -> Across {
+        nothing_across(alloc)
     }
 
-    fn note(self, listed: &mut Listed, one: &Taken<Value<VoteValue>>) -> Result<(), ReadRefusal> {
-        note_value(listed, one.place, one.value)
+    fn note(self, across: &mut Across, one: &Taken<Value<VoteValue>>) -> Result<(), ReadRefusal> {
+        note_value(across, one.place, one.value)
     }
 }

@@ -2,7 +2,9 @@
 //! status document formats").
 #![tactic(auto)]
 
+mod across;
 mod frame;
 mod value;
 
+pub use across::Across;
 pub use frame::{VoteFrame, VoteKind, VoteSection, VoteValue};

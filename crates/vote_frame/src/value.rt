@@ -8,6 +8,7 @@ ghost use Rattle.frame_values.specs.Faults as faults;
 ghost use Rattle.relay_entries.specs.Lines as lines;
 ghost use Rattle.vote_frame.specs.Tables as tables;
 
+use crate::across::{Across, note_random};
 use crate::frame::{VoteKind, VoteValue};
 use authority_certs::{CertKind, cert_value};
 use dirdoc_grammar::Item;
@@ -18,6 +19,7 @@ use frame_values::{
     too_many,
 };
 use list_lines::{params_of, protocols_of, versions_of};
+use random_lines::random_of;
 use relay_entries::{
     EntryKind, EntryValue, Listed, entry_value, flags_of, note_entry, too_many_entries,
 };
@@ -118,6 +120,7 @@ pub(crate) fn value_at(
         VoteKind::Params => Ok(Value::Text(params_of(listed.keys.alloc(), item)?)),
         VoteKind::Rest => Ok(Value::Text(rest_of(item))),
         VoteKind::Source => source_value(item),
+        VoteKind::Random(line) => Ok(Value::Own(VoteValue::Random(line, random_of(item)))),
         VoteKind::Nothing => Ok(Value::Nothing),
         VoteKind::Signature => signature_value(item),
         VoteKind::Certificate(kind) => certificate_value(kind, item),
@@ -141,14 +144,15 @@ pub(crate) fn over_limit(listed: &Listed, kind: VoteKind, item: &Item<'_>) -> Re
 
 /// Remembers what an item says that begins at a place.
 pub(crate) fn note_value(
-    listed: &mut Listed,
+    across: &mut Across,
     place: u64,
     value: Value<VoteValue>,
 ) -> Result<(), ReadRefusal>
-    ensures { Becomes (tables.note_value listed.old place value) listed.new result }
+    ensures { Becomes (tables.note_value across.old place value) across.new result }
 {
     match value {
-        Value::Own(VoteValue::Entry(said)) => note_entry(listed, place, said),
+        Value::Own(VoteValue::Entry(said)) => note_entry(&mut across.listed, place, said),
+        Value::Own(VoteValue::Random(line, read)) => note_random(across, place, line, read),
         _ => Ok(()),
     }
 }

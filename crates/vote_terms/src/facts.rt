@@ -4,6 +4,7 @@ use crate::lists::VoteLists;
 use authority_certs::Cert;
 use dir_bytes::{Seq, Text};
 use dir_values::{Algorithm, Digest1, Fingerprint, FlagSet};
+use random_lines::SharedRandom;
 
 /// What a `directory-signature` says.
 #[derive(Debug, Drop)]
@@ -56,6 +57,10 @@ pub struct VoteFacts {
     pub or_port: u16,
     /// The text of the authority's contact, where the vote gives it.
     pub contact: Option<Text>,
+    /// The shared random value of the period before the one that begins, where the vote gives it.
+    pub random_previous: Option<SharedRandom>,
+    /// The shared random value of the period that begins, where the vote gives it.
+    pub random_current: Option<SharedRandom>,
     /// The authority's certificate.
     pub certificate: Cert,
     /// What it says of relays, strictly ascending by identity.

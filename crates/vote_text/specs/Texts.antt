@@ -10,6 +10,7 @@ use Rattle.dir_values.specs.Numbers.{numbers_text}
 use Rattle.dirdoc_grammar.specs.Writing.{NewItem, items_text}
 use Rattle.frame_terms.specs.declared.keyword.Keyword.TheVariants as the
 use Rattle.authority_certs.specs.Texts.{cert_items}
+use Rattle.random_lines.specs.Values.{random_text}
 use Rattle.vote_terms.specs.declared.facts.SignatureFacts.{SignatureFacts}
 use Rattle.vote_terms.specs.declared.facts.VoteFacts.{VoteFacts}
 use Rattle.frame_values.specs.Items.{bare, with_object, item_if, timed}
@@ -68,9 +69,16 @@ preamble_items facts =
     kind_items facts ++ time_items facts ++ version_items facts.lists ++ flag_items facts ++ protocol_items facts.lists
     ++ param_items facts.lists.params
 
--- its authority
+-- its shared random values
+abbrev pub random_items : VoteFacts → List NewItem
+random_items facts =
+    item_if the.SharedRandPreviousValue (option_map random_text facts.random_previous)
+    ++ item_if the.SharedRandCurrentValue (option_map random_text facts.random_current)
+
+-- its authority, and its shared random values
 abbrev pub authority_items : VoteFacts → List NewItem
-authority_items facts = bare the.DirSource (source_text facts) ∷ item_if the.Contact facts.contact
+authority_items facts =
+    bare the.DirSource (source_text facts) ∷ item_if the.Contact facts.contact ++ random_items facts
 
 -- the footer
 abbrev pub footer_items : SignatureFacts → List NewItem

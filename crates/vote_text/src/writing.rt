@@ -4,6 +4,7 @@ ghost use Rattle.dirdoc_grammar.specs.Writing.{item_text, items_text};
 ghost use Rattle.dir_values.specs.Numbers.{numbers_text};
 ghost use Rattle.frame_values.specs.Items as items;
 ghost use Rattle.authority_certs.specs.Texts.{cert_text};
+ghost use Rattle.random_lines.specs.Values.{random_text};
 ghost use Rattle.vote_text.specs.Texts as texts;
 
 use crate::entry::push_entries;
@@ -13,6 +14,7 @@ use dir_bytes::{Memory, push_address, push_decimal, push_hex_upper};
 use dir_values::{Algorithm, push_numbers};
 use frame_terms::Keyword;
 use frame_values::{push_bare, push_if, push_timed, push_with_object};
+use random_lines::SharedRandom;
 use std::alloc::Global;
 use vote_terms::{SignatureFacts, VoteFacts};
 
@@ -124,7 +126,44 @@ fn push_source(rest: &mut Vec<u8>, facts: &VoteFacts) -> Result<(), Memory>
     push_ports(rest, facts)
 }
 
-/// The authority.
+/// The item of a shared random value, where there is one.
+fn push_random_if(
+    out: &mut Vec<u8>,
+    alloc: Global,
+    keyword: Keyword,
+    random: &Option<SharedRandom>,
+) -> Result<(), Memory>
+    ensures ok { OnOk result (out.new.items ≡ out.old.items ++ items_text (items.item_if keyword (option_map random_text random.now))) }
+    ensures err { OnErr result (take (vec_len out.old) out.new.items ≡ out.old.items) }
+{
+    let Some(random) = random else {
+        return Ok(());
+    };
+    let mut rest = Vec::new(alloc);
+    random.push(&mut rest)?;
+    push_bare(out, keyword, &rest)
+}
+
+/// The shared random values.
+fn push_randoms(out: &mut Vec<u8>, alloc: Global, facts: &VoteFacts) -> Result<(), Memory>
+    ensures ok { OnOk result (out.new.items ≡ out.old.items ++ items_text (texts.random_items facts.now)) }
+    ensures err { OnErr result (take (vec_len out.old) out.new.items ≡ out.old.items) }
+{
+    push_random_if(
+        out,
+        alloc,
+        Keyword::SharedRandPreviousValue,
+        &facts.random_previous,
+    )?;
+    push_random_if(
+        out,
+        alloc,
+        Keyword::SharedRandCurrentValue,
+        &facts.random_current,
+    )
+}
+
+/// The authority, and the shared random values.
 fn push_authority(out: &mut Vec<u8>, alloc: Global, facts: &VoteFacts) -> Result<(), Memory>
     ensures ok { OnOk result (out.new.items ≡ out.old.items ++ items_text (texts.authority_items facts.now)) }
     ensures err { OnErr result (take (vec_len out.old) out.new.items ≡ out.old.items) }
@@ -132,7 +171,8 @@ fn push_authority(out: &mut Vec<u8>, alloc: Global, facts: &VoteFacts) -> Result
     let mut rest = Vec::new(alloc);
     push_source(&mut rest, facts)?;
     push_bare(out, Keyword::DirSource, &rest)?;
-    push_if(out, Keyword::Contact, &facts.contact)
+    push_if(out, Keyword::Contact, &facts.contact)?;
+    push_randoms(out, alloc, facts)
 }
 
 /// The authority's certificate.
