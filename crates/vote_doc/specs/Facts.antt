@@ -59,6 +59,8 @@ facts_of bytes kept = let head = kept.head in let values = values_of bytes head 
   dir_port = head.source.dir_port;
   or_port = head.source.or_port;
   contact = option_map (part bytes) head.contact;
+  random_previous = head.random_previous;
+  random_current = head.random_current;
   certificate = values.certificate;
   entries = map (entry_in bytes) kept.entries;
   signature = values.signature;

@@ -1,9 +1,11 @@
 -- What is kept of a vote's sections. The tables of the document see to it that each item is there which has to stand;
 -- where one is not, its value is nothing.
 use Rattle.std.specs.Prelude.{ℕ, ◌+◌, ◌-◌, ◌^◌, min, List, Option, Some, None}
+use Rattle.std.specs.Option.{option_or}
 use Rattle.frame_terms.specs.declared.keyword.Keyword.TheVariants.{NetworkStatusVersion, ConsensusMethods, Published}
 use Rattle.frame_terms.specs.declared.keyword.Keyword.TheVariants.{ValidAfter, FreshUntil, ValidUntil, VotingDelay}
 use Rattle.frame_terms.specs.declared.keyword.Keyword.TheVariants.{KnownFlags, FlagThresholds, Contact}
+use Rattle.frame_terms.specs.declared.keyword.Keyword.TheVariants.{SharedRandPreviousValue, SharedRandCurrentValue}
 use Rattle.frame_terms.specs.declared.keyword.Keyword.TheVariants.{DirSource as DirSourceLine, DirectorySignature}
 use Rattle.frame_terms.specs.declared.document.Taken.{Taken}
 use Rattle.frame_values.specs.declared.values.Value.{Value}
@@ -14,7 +16,7 @@ use Rattle.vote_frame.specs.declared.frame.VoteSection.{VoteSection}
 use Rattle.vote_frame.specs.declared.frame.VoteSection.TheVariants.{Preamble, Authority, Certificate, Entry, Footer}
 use Rattle.vote_frame.specs.declared.frame.VoteValue.{VoteValue}
 use Rattle.vote_doc.specs.Lists.{lists_in, no_lists}
-use Rattle.vote_doc.specs.Saying.{delays_in, no_source, source_in, no_signature, signature_in}
+use Rattle.vote_doc.specs.Saying.{delays_in, no_source, source_in, random_in, no_signature, signature_in}
 
 -- what is kept where nothing was read
 abbrev pub no_head : Head
@@ -32,6 +34,8 @@ no_head = record {
   lists = no_lists;
   source = no_source;
   contact = None;
+  random_previous = None;
+  random_current = None;
   certificate = cert.no_head;
   signature = no_signature;
   signed_end = 0;
@@ -52,12 +56,18 @@ with_preamble head taken = record head {
   known_flags = text_in (text_if (item_at taken KnownFlags));
   flag_thresholds = text_if (item_at taken FlagThresholds);
   lists = lists_in taken;
+  random_previous = random_in (item_at taken SharedRandPreviousValue);
+  random_current = random_in (item_at taken SharedRandCurrentValue);
 }
 
--- what is kept after the section of the authority
+-- what is kept after the section of the authority; a shared random value stands there or in the preamble
 abbrev pub with_authority : Head → List (Taken (Value VoteValue)) → Head
-with_authority head taken =
-    record head { source = source_in (item_at taken DirSourceLine); contact = text_if (item_at taken Contact) }
+with_authority head taken = record head {
+  source = source_in (item_at taken DirSourceLine);
+  contact = text_if (item_at taken Contact);
+  random_previous = option_or head.random_previous (random_in (item_at taken SharedRandPreviousValue));
+  random_current = option_or head.random_current (random_in (item_at taken SharedRandCurrentValue));
+}
 
 -- what is kept after a certificate
 abbrev pub with_certificate : Head → List (Taken (Value VoteValue)) → Head

@@ -1,12 +1,13 @@
 -- What items of a vote alone say, in its sections. Where an item is not there, its value is nothing.
-use Rattle.std.specs.Prelude.{ℕ, Option, Some, None}
+use Rattle.std.specs.Prelude.{ℕ, Option, Some, None, Ok}
 use Rattle.frame_terms.specs.declared.document.Taken.{Taken}
 use Rattle.frame_values.specs.declared.values.Value.{Value}
 use Rattle.frame_values.specs.Values.{own_in, nowhere, no_digest}
 use Rattle.frame_values.specs.declared.found.DirSource.{DirSource}
 use Rattle.frame_values.specs.declared.found.VoteSignature.{VoteSignature}
 use Rattle.vote_frame.specs.declared.frame.VoteValue.{VoteValue}
-use Rattle.vote_frame.specs.declared.frame.VoteValue.TheVariants.{Delays, Source, Signature}
+use Rattle.random_lines.specs.declared.value.SharedRandom.{SharedRandom}
+use Rattle.vote_frame.specs.declared.frame.VoteValue.TheVariants.{Delays, Source, Random, Signature}
 
 -- the two numbers of seconds that a value is, and 0 of another kind
 abbrev pub delays_of_value : Option VoteValue → ℕ × ℕ
@@ -29,6 +30,15 @@ source_of_value _ = no_source
 -- the authority that an item speaks of
 abbrev pub source_in : Option (Taken (Value VoteValue)) → DirSource
 source_in item = source_of_value (own_in item)
+
+-- the shared random value that a value is
+abbrev pub random_of_value : Option VoteValue → Option SharedRandom
+random_of_value (Some (Random line (Ok random))) = Some random
+random_of_value _ = None
+
+-- the shared random value that an item has
+abbrev pub random_in : Option (Taken (Value VoteValue)) → Option SharedRandom
+random_in item = random_of_value (own_in item)
 
 -- a signature of nothing
 abbrev pub no_signature : VoteSignature

@@ -49,6 +49,8 @@ fn facts_of(alloc: Global, bytes: &[u8], kept: &Kept) -> Result<VoteFacts, Memor
         dir_port: head.source.dir_port,
         or_port: head.source.or_port,
         contact: copy_part_if(alloc, bytes, head.contact)?,
+        random_previous: head.random_previous,
+        random_current: head.random_current,
         certificate: values.certificate,
         entries: kept.entries.facts(alloc, bytes)?,
         signature: values.signature,

@@ -4,13 +4,14 @@ ghost use Rattle.frame_values.specs.Values as values;
 ghost use Rattle.vote_doc.specs.Heads as heads;
 
 use crate::lists::{ListSpans, lists_at, no_lists};
-use crate::says::{delays_at, no_signature, no_source, signature_at, source_at};
+use crate::says::{delays_at, no_signature, no_source, random_at, signature_at, source_at};
 use authority_certs::{CertHead, head_of, no_head};
 use frame_terms::{Keyword, Taken};
 use frame_values::{
     DirSource, Span, Value, VoteSignature, after_at, item_at, nowhere, number_at, place_at,
     text_at, text_if,
 };
+use random_lines::SharedRandom;
 use vote_frame::{VoteSection, VoteValue};
 
 /// What a vote's items say, and where its texts stand in its bytes. Moments are seconds since 1970-01-01 00:00:00 UTC.
@@ -42,6 +43,10 @@ pub(crate) struct Head {
     pub source: DirSource,
     /// The authority's contact.
     pub contact: Option<Span>,
+    /// The previous shared random value.
+    pub random_previous: Option<SharedRandom>,
+    /// The current shared random value.
+    pub random_current: Option<SharedRandom>,
     /// The authority's certificate.
     pub certificate: CertHead,
     /// The signature.
@@ -70,6 +75,8 @@ pub(crate) fn empty_head() -> Head
         lists: no_lists(),
         source: no_source(),
         contact: None,
+        random_previous: None,
+        random_current: None,
         certificate: no_head(),
         signature: no_signature(),
         signed_end: 0,
@@ -94,17 +101,25 @@ fn with_preamble(head: Head, taken: &[Taken<Value<VoteValue>>]) -> Head
         known_flags: text_at(taken, Keyword::KnownFlags),
         flag_thresholds: text_if(taken, Keyword::FlagThresholds),
         lists: lists_at(taken),
+        random_previous: random_at(taken, Keyword::SharedRandPreviousValue),
+        random_current: random_at(taken, Keyword::SharedRandCurrentValue),
         ..head
     }
 }
 
-/// What is kept after the section of the authority.
+/// What is kept after the section of the authority. A shared random value stands there or in the preamble.
 fn with_authority(head: Head, taken: &[Taken<Value<VoteValue>>]) -> Head
     ensures { result ≡ heads.with_authority head taken.now }
 {
     Head {
         source: source_at(taken),
         contact: text_if(taken, Keyword::Contact),
+        random_previous: head
+            .random_previous
+            .or(random_at(taken, Keyword::SharedRandPreviousValue)),
+        random_current: head
+            .random_current
+            .or(random_at(taken, Keyword::SharedRandCurrentValue)),
         ..head
     }
 }

@@ -6,6 +6,7 @@ ghost use Rattle.vote_doc.specs.Saying as saying;
 use dir_values::{Digest1, Fingerprint};
 use frame_terms::{Keyword, Taken};
 use frame_values::{DirSource, Value, VoteSignature, nowhere, own_at};
+use random_lines::SharedRandom;
 use vote_frame::VoteValue;
 
 /// The seconds for exchanging votes and signatures.
@@ -39,6 +40,16 @@ pub fn source_at(taken: &[Taken<Value<VoteValue>>]) -> DirSource
     match own_at(taken, Keyword::DirSource) {
         Some(VoteValue::Source(source)) => source,
         _ => no_source(),
+    }
+}
+
+/// The shared random value of an item.
+pub fn random_at(taken: &[Taken<Value<VoteValue>>], keyword: Keyword) -> Option<SharedRandom>
+    ensures { result ≡ saying.random_in (item_at taken.now keyword) }
+{
+    match own_at(taken, keyword) {
+        Some(VoteValue::Random(_, Ok(random))) => Some(random),
+        _ => None,
     }
 }
 

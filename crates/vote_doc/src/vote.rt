@@ -11,6 +11,7 @@ use authority_certs::Cert;
 use bytes::Bytes;
 use dir_values::{Digest1, Digest2, Fingerprint, FlagSet};
 use frame_values::{between, moment, part, part_if};
+use random_lines::SharedRandom;
 use sha1::Sha1;
 use sha2::{Digest, Sha256};
 use std::marker::Model;
@@ -195,6 +196,20 @@ impl Vote {
         ensures { option_map (λ text. text.now) result ≡ self.now.says.contact }
     {
         part_if(&self.bytes, self.kept.head.contact)
+    }
+
+    /// The shared random value of the period before the one that begins, where there is one.
+    pub fn random_previous(&self) -> Option<SharedRandom>
+        ensures { result ≡ self.now.says.random_previous }
+    {
+        self.kept.head.random_previous
+    }
+
+    /// The shared random value of the period that begins, where there is one.
+    pub fn random_current(&self) -> Option<SharedRandom>
+        ensures { result ≡ self.now.says.random_current }
+    {
+        self.kept.head.random_current
     }
 
     /// How many entries there are.
