@@ -1,7 +1,8 @@
 -- Lines that consensuses and votes have in common are read again (dir-spec, "Vote and consensus status document
--- formats", the `voting-delay`, `known-flags`, `s` and `dir-source` lines).
+-- formats", the `voting-delay`, `known-flags`, `s`, `dir-source` and `shared-rand-` lines).
 use Rattle.std.specs.Prelude.{◌≡◌, ℕ, ◌+◌, ◌<◌, ◌≤◌, ◌^◌, true, List, [], ◌∷◌, ◌++◌, length, All, Ok, decimal}
 use Rattle.std.specs.List.{join_with_byte}
+use Rattle.base64.specs.GeneralPurpose.{IsBytes}
 use Rattle.item_terms.specs.Bytes.{space}
 use Rattle.item_terms.specs.Words.{argument_start, words_of}
 use Rattle.dir_bytes.specs.FieldTexts.{address_text, hex_text}
@@ -17,6 +18,9 @@ use Rattle.frame_values.specs.Items.{bare}
 use Rattle.frame_values.specs.Lines.{delays_of, flags_of, source_of}
 use Rattle.frame_values.specs.Ranges.{AreTwenty}
 use Rattle.frame_values.specs.declared.found.DirSource.{DirSource}
+use Rattle.random_lines.specs.Lines.{random_of}
+use Rattle.random_lines.specs.Values.{random_text}
+use Rattle.random_lines.specs.declared.value.SharedRandom.{SharedRandom}
 
 -- where the rest of a line begins that was written at a place
 abbrev pub rest_start : ℕ → Keyword → List ℕ → ℕ
@@ -87,3 +91,16 @@ SourceLinesAreReadAgain = (place : ℕ) (keyword : Keyword) (nickname : List ℕ
     → source_of (written place (bare keyword (source_text nickname identity address ip dir_port or_port)))
     ≡ Ok (source_at (rest_start place keyword (source_text nickname identity address ip dir_port or_port))
     nickname identity address ip dir_port or_port)
+
+-- ---- a shared random value
+
+-- a count below 2 ^ 32, and 32 bytes
+pub record IsRandomInRange (random : SharedRandom) : Type 0 where
+  pub count : random.count ≤ 4294967295
+  pub length_is : length random.value.0 ≡ 32
+  pub each : IsBytes random.value.0
+
+-- it is read as it was written
+abbrev pub RandomLinesAreReadAgain : Type 0
+RandomLinesAreReadAgain = (place : ℕ) (keyword : Keyword) (random : SharedRandom) → IsRandomInRange random
+    → random_of (written place (bare keyword (random_text random))) ≡ Ok random

@@ -6,5 +6,6 @@
 mod laws;
 
 pub use laws::{
-    delay_lines_are_read_again, flag_lines_are_read_again, source_lines_are_read_again,
+    delay_lines_are_read_again, flag_lines_are_read_again, random_lines_are_read_again,
+    source_lines_are_read_again,
 };
