@@ -27,6 +27,7 @@ use Rattle.relay_entries.specs.declared.said.EntryValue.TheVariants as said
 use Rattle.relay_entries.specs.Lines.{entry_value, is_ignored, lifted}
 use Rattle.relay_entries.specs.Listing.{none_listed, note_entry}
 use Rattle.relay_entries.specs.Tables.{entry_shape}
+use Rattle.random_lines.specs.Lines.{random_of}
 use Rattle.consensus_terms.specs.declared.flavour.Flavour.{Flavour}
 use Rattle.consensus_terms.specs.declared.flavour.Flavour.TheVariants.{Ns, Microdesc}
 use Rattle.consensus_frame.specs.declared.across.Across.{Across}
@@ -34,7 +35,7 @@ use Rattle.consensus_frame.specs.declared.rows.ConsensusKind.{ConsensusKind}
 use Rattle.consensus_frame.specs.declared.rows.ConsensusKind.TheVariants.{Version, Status, Method, Time, Delays}
 use Rattle.consensus_frame.specs.declared.rows.ConsensusKind.TheVariants.{Versions}
 use Rattle.consensus_frame.specs.declared.rows.ConsensusKind.TheVariants.{KnownFlags, Protocols, Params, Rest}
-use Rattle.consensus_frame.specs.declared.rows.ConsensusKind.TheVariants.{VoteDigest}
+use Rattle.consensus_frame.specs.declared.rows.ConsensusKind.TheVariants.{VoteDigest, Random}
 use Rattle.consensus_frame.specs.declared.rows.ConsensusKind.TheVariants.{Nothing, Signature, Relay, Bandwidth}
 use Rattle.consensus_frame.specs.declared.rows.ConsensusKind.TheVariants.{MicroDigest, Entry}
 use Rattle.consensus_frame.specs.declared.rows.ConsensusKind.TheVariants.{Source as SourceKind}
@@ -70,6 +71,8 @@ rows flavour Preamble =
     ∷ row the.RequiredClientProtocols Optional Protocols
     ∷ row the.RequiredRelayProtocols Optional Protocols
     ∷ row the.Params Optional Params
+    ∷ row the.SharedRandPreviousValue Optional Random
+    ∷ row the.SharedRandCurrentValue Optional Random
     ∷ []
 rows flavour Source =
     row the.DirSource One SourceKind
@@ -132,6 +135,7 @@ value_at flavour across Versions item = next (versions_of item) (λ text. Ok (va
 value_at flavour across KnownFlags item = next (flags_of item) (λ text. Ok (value.Text text))
 value_at flavour across Protocols item = next (protocols_of item) (λ text. Ok (value.Text text))
 value_at flavour across Params item = next (params_of item) (λ text. Ok (value.Text text))
+value_at flavour across Random item = next (random_of item) (λ random. Ok (value.Own (own.Random random)))
 value_at flavour across SourceKind item = next (source_of item) (λ source. Ok (value.Own (own.Source source)))
 value_at flavour across Rest item = Ok (value.Text (rest_of item))
 value_at flavour across VoteDigest item =

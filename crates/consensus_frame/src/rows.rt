@@ -40,6 +40,8 @@ pub enum ConsensusKind {
     Protocols,
     /// Params, none of them twice.
     Params,
+    /// A shared random value: a number below 2 ^ 32, and 32 bytes in base64.
+    Random,
     /// Who an authority is.
     Source,
     /// The rest of the line as it stands, which is read no further.
@@ -88,7 +90,7 @@ macro_rules! router_rows {
     };
 }
 
-const PREAMBLE: [Row<ConsensusKind>; 15] = [
+const PREAMBLE: [Row<ConsensusKind>; 17] = [
     row!(NetworkStatusVersion, One, ConsensusKind::Version),
     row!(VoteStatus, One, ConsensusKind::Status),
     row!(ConsensusMethod, One, ConsensusKind::Method),
@@ -112,6 +114,8 @@ const PREAMBLE: [Row<ConsensusKind>; 15] = [
     row!(RequiredClientProtocols, Optional, ConsensusKind::Protocols),
     row!(RequiredRelayProtocols, Optional, ConsensusKind::Protocols),
     row!(Params, Optional, ConsensusKind::Params),
+    row!(SharedRandPreviousValue, Optional, ConsensusKind::Random),
+    row!(SharedRandCurrentValue, Optional, ConsensusKind::Random),
 ];
 
 const SOURCE: [Row<ConsensusKind>; 3] = [

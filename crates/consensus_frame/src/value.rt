@@ -21,6 +21,7 @@ use frame_values::{
     source_of, space_of, time_of,
 };
 use list_lines::{params_of, protocols_of, versions_of};
+use random_lines::{SharedRandom, random_of};
 use relay_entries::{EntryValue, entry_value, flags_of, note_entry};
 
 /// What only items of a consensus say.
@@ -30,6 +31,8 @@ pub enum ConsensusValue {
     Delays(u32, u32),
     /// Who an authority is.
     Source(DirSource),
+    /// A shared random value.
+    Random(SharedRandom),
     /// The digest of a vote.
     VoteDigest(Digest1),
     /// The bandwidth of a relay.
@@ -131,6 +134,7 @@ pub(crate) fn value_at(
         }
         ConsensusKind::Protocols => Ok(Value::Text(at(protocols_of(item))?)),
         ConsensusKind::Params => Ok(Value::Text(params_of(across.listed.keys.alloc(), item)?)),
+        ConsensusKind::Random => Ok(Value::Own(ConsensusValue::Random(at(random_of(item))?))),
         ConsensusKind::Source => Ok(Value::Own(ConsensusValue::Source(at(source_of(item))?))),
         ConsensusKind::Rest => Ok(Value::Text(rest_of(item))),
         ConsensusKind::VoteDigest => {

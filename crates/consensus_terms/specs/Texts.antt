@@ -1,11 +1,13 @@
 -- The text of a consensus without its signatures (dir-spec, "Vote and consensus status document formats").
-use Rattle.std.specs.Prelude.{ℕ, List, [], ◌∷◌, ◌++◌, Option, codes, decimal}
+use Rattle.std.specs.Prelude.{ℕ, List, [], ◌∷◌, ◌++◌, Option, Some, None, codes, decimal}
 use Rattle.std.specs.List.{flat_map}
 use Rattle.bw_weights.specs.declared.position_weights.Weights.{Weights}
 use Rattle.dir_bytes.specs.FieldTexts.{moment_text, hex_text, address_text}
 use Rattle.list_values.specs.Params.{params_text}
 use Rattle.list_values.specs.Protocols.{protocols_text}
 use Rattle.list_values.specs.VersionLists.{versions_text}
+use Rattle.random_lines.specs.Values.{padded_text}
+use Rattle.random_lines.specs.declared.value.SharedRandom.{SharedRandom}
 use Rattle.consensus_terms.specs.declared.consensus.Consensus.{Consensus}
 use Rattle.consensus_terms.specs.declared.consensus.ConsensusFacts.{ConsensusFacts}
 use Rattle.consensus_terms.specs.declared.consensus.ConsensusLists.{ConsensusLists}
@@ -53,11 +55,22 @@ protocol_lines lists =
     ++ list_line protocols_text (codes "required-client-protocols") lists.required_client_protocols
     ++ list_line protocols_text (codes "required-relay-protocols") lists.required_relay_protocols
 
+-- the line of a shared random value, where there is one
+abbrev pub random_line : List ℕ → Option SharedRandom → List ℕ
+random_line keyword None = []
+random_line keyword (Some random) = line keyword (decimal random.count ∷ padded_text random.value ∷ [])
+
+-- the two shared random values
+abbrev pub random_lines : ConsensusFacts → List ℕ
+random_lines c =
+    random_line (codes "shared-rand-previous-value") c.random_previous
+    ++ random_line (codes "shared-rand-current-value") c.random_current
+
 -- the preamble
 abbrev pub preamble : Flavour → ConsensusFacts → List ℕ
 preamble flavour c =
     kind_lines flavour c.method ++ time_lines c ++ version_lines c.lists ++ line (codes "known-flags") c.known_flags
-    ++ protocol_lines c.lists ++ list_line params_text (codes "params") c.lists.params
+    ++ protocol_lines c.lists ++ list_line params_text (codes "params") c.lists.params ++ random_lines c
 
 -- ---- the authorities
 

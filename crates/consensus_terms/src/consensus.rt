@@ -6,6 +6,7 @@ use bw_weights::Weights;
 use dir_bytes::{Seq, Text};
 use dir_values::{Digest1, Fingerprint, FlagSet};
 use list_values::{Params, ProtoRanges, VersionList};
+use random_lines::SharedRandom;
 
 /// What the lines of a consensus's preamble say that are lists of values. An empty list has no line.
 #[derive(Debug, Drop)]
@@ -46,6 +47,10 @@ pub struct ConsensusFacts {
     pub known_flags: FlagSet,
     /// Its versions, protocols and params.
     pub lists: ConsensusLists,
+    /// The shared random value of the period before the one that begins, where there is one.
+    pub random_previous: Option<SharedRandom>,
+    /// The shared random value of the period that begins, where there is one.
+    pub random_current: Option<SharedRandom>,
     /// One line for each held vote, ascending by identity.
     pub sources: Seq<SourceLine>,
     /// One line for each relay that is listed, ascending by RSA identity.

@@ -22,7 +22,7 @@ use Rattle.frame_laws.proofs.WrittenItems.{start_of}
 use Rattle.relay_entries.specs.Lines.{lifted}
 use Rattle.relay_entries.specs.Listing.{fault_at}
 use Rattle.relay_entries.specs.Texts.{bandwidths_text, ed_text}
-use Rattle.relay_entries.specs.declared.listed.Listed.{Listed}
+use Rattle.vote_frame.specs.declared.across.Across.{Across}
 use Rattle.relay_entries.specs.declared.said.Bandwidths.{Bandwidths}
 use Rattle.relay_entries.specs.declared.said.EdOpinion.{EdOpinion}
 use Rattle.relay_entries.specs.declared.said.EntryKind.TheVariants as entry
@@ -83,16 +83,16 @@ has_room count place few =
     below : (count : ℕ) → count < 65535 → nat_lt count 65535 ≡ true
     below count few = grind arith
 
-pub suits_relay : (e : EntryFacts) → IsEntryInRange e → (listed : Listed) (p : ℕ) → listed.count < 65535
-    → Suits vote_tables listed (row the.R One (kind.Entry entry.Relay)) p (relay_entry e)
-suits_relay e are listed p few =
+pub suits_relay : (e : EntryFacts) → IsEntryInRange e → (across : Across) (p : ℕ) → across.listed.count < 65535
+    → Suits vote_tables across (row the.R One (kind.Entry entry.Relay)) p (relay_entry e)
+suits_relay e are across p few =
     let item = written p (item_of (relay_entry e)) in
     record {
       keyword = refl;
       known = refl;
       value =
           ap (λ (r : Result (Unit {0}) FrameFault). unless_fault r (at_place (value_at (kind.Entry entry.Relay) item)))
-          (has_room listed.count p few)
+          (has_room across.listed.count p few)
           ∙ ap (λ (r : Result RelayLine ℕ). at_place (says (λ (relay : RelayLine). value.Own (said.Relay relay)) r))
           (relay_again p the.R e.nickname e.identity e.digest e.published e.ip e.or_port e.dir_port are.relay);
     }

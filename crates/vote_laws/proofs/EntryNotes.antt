@@ -32,7 +32,9 @@ use Rattle.relay_entries.specs.declared.said.EdOpinion.TheVariants as opinion
 use Rattle.vote_terms.specs.Entries.{Ascending}
 use Rattle.vote_terms.specs.declared.entry.EntryFacts.{EntryFacts}
 use Rattle.vote_terms.specs.declared.entry.MicroFacts.{MicroFacts}
+use Rattle.vote_frame.specs.Across.{with_listed}
 use Rattle.vote_frame.specs.Tables.{vote_tables}
+use Rattle.vote_frame.specs.declared.across.Across.{Across}
 use Rattle.vote_frame.specs.declared.frame.VoteSection.{VoteSection}
 use Rattle.vote_frame.specs.declared.frame.VoteSection.TheVariants as section
 use Rattle.vote_frame.specs.declared.frame.VoteValue.{VoteValue}
@@ -43,6 +45,11 @@ use Rattle.vote_laws.proofs.EntryRows.{entry_parts, relay_row, taken_parts}
 use Rattle.vote_laws.proofs.Heard.{forgotten, is_quiet, is_quiet_kind, kinds_pass}
 
 -- ---- what is remembered after an entry
+
+-- these relays are listed, and the shared random values stand as before
+abbrev pub knowing : Across → Listed → Across
+knowing across listed =
+    record { listed = listed; has_previous = across.has_previous; has_current = across.has_current }
 
 -- with an opinion of an Ed25519 identity
 abbrev pub after_ed : Listed → EdOpinion → Listed
@@ -70,53 +77,60 @@ abbrev pub IsFree : Listed → EdOpinion → Type 0
 IsFree listed (opinion.Key key) = set.contains listed.keys key ≡ false
 IsFree listed _ = Unit {0}
 
-notes_relay : (listed : Listed) (place : ℕ) (e : EntryFacts) → is_next listed.last e.identity ≡ true
-    → vote_tables.note listed (taken_at place (relay_entry e)) ≡ Ok (after_relay listed e)
-notes_relay listed place e is =
+notes_relay : (across : Across) (listed : Listed) (place : ℕ) (e : EntryFacts) → is_next listed.last e.identity ≡ true
+    → vote_tables.note (knowing across listed) (taken_at place (relay_entry e)) ≡ Ok (knowing across (after_relay listed e))
+notes_relay across listed place e is =
     let no : Result Listed FrameFault = Err (fault_at place Unsorted) in
-    ap (λ b. if b then Ok (after_relay listed e) else no) is
+    ap (λ b. with_listed (knowing across listed) (if b then Ok (after_relay listed e) else no)) is
 
-notes_micros : (listed : Listed) (place : ℕ) (lines : List MicroFacts)
-    → Notes vote_tables listed (all_taken place (map micro_entry lines)) listed
-notes_micros listed place [] = refl
-notes_micros listed place (line ∷ lines) =
-    (listed, refl, notes_micros listed (after_one place (micro_entry line)) lines)
+notes_micros : (across : Across) (place : ℕ) (lines : List MicroFacts)
+    → Notes vote_tables across (all_taken place (map micro_entry lines)) across
+notes_micros across place [] = refl
+notes_micros across place (line ∷ lines) =
+    (across, refl, notes_micros across (after_one place (micro_entry line)) lines)
 
-notes_ed : (listed : Listed) (place : ℕ) (said : EdOpinion) → IsFree listed said
-    → Notes vote_tables listed (all_taken place (ed_if said (ed_text said))) (after_ed listed said)
-notes_ed listed place (opinion.Key key) free =
-    let no : Result Listed FrameFault = Err (fault_at place DuplicateEd) in
-    (with_key listed key, ap (λ b. if b then no else Ok (with_key listed key)) free, refl)
-notes_ed listed place opinion.None free = (listed, refl, refl)
-notes_ed listed place opinion.Absent free = refl
+notes_ed : (across : Across) (listed : Listed) (place : ℕ) (said : EdOpinion) → IsFree listed said
+    → Notes vote_tables (knowing across listed) (all_taken place (ed_if said (ed_text said)))
+    (knowing across (after_ed listed said))
+notes_ed across listed place (opinion.Key key) free =
+    let no : Result Listed FrameFault = Err (fault_at place DuplicateEd) in (
+      knowing across (with_key listed key),
+      ap (λ b. with_listed (knowing across listed) (if b then no else Ok (with_key listed key))) free,
+      refl,
+    )
+notes_ed across listed place opinion.None free = (knowing across listed, refl, refl)
+notes_ed across listed place opinion.Absent free = refl
 
 -- the items behind the relay's
-notes_others : (listed : Listed) (place : ℕ) (e : EntryFacts) → IsEntryInRange e → IsFree listed e.ed
-    → Notes vote_tables listed (all_taken place (entries_of (front_rows e ++ last_rows e))) (after_ed listed e.ed)
-notes_others listed place e are free =
+notes_others : (across : Across) (listed : Listed) (place : ℕ) (e : EntryFacts) → IsEntryInRange e → IsFree listed e.ed
+    → Notes vote_tables (knowing across listed) (all_taken place (entries_of (front_rows e ++ last_rows e)))
+    (knowing across (after_ed listed e.ed))
+notes_others across listed place e are free =
+    let now = knowing across listed in
+    let after = knowing across (after_ed listed e.ed) in
     let front = entries_of (front_rows e) in
     let micros = map micro_entry e.micros in
     let keys = ed_if e.ed (ed_text e.ed) in
     let next = after_all place front in
     let quiet = rows_pass vote_tables is_quiet is_quiet_kind kinds_pass (front_rows e) refl (front_said e are) in
     let last =
-    notes_both vote_tables listed listed (all_taken next micros) (all_taken (after_all next micros) keys)
-    (after_ed listed e.ed) (notes_micros listed next e.micros)
-    (notes_ed listed (after_all next micros) e.ed free) in
+    notes_both vote_tables now now (all_taken next micros) (all_taken (after_all next micros) keys)
+    after (notes_micros now next e.micros)
+    (notes_ed across listed (after_all next micros) e.ed free) in
     let whole =
-    notes_both vote_tables listed listed (all_taken place front)
-    (all_taken next micros ++ all_taken (after_all next micros) keys) (after_ed listed e.ed)
-    (notes_passing vote_tables is_quiet forgotten listed place front quiet) last in
-    subst (λ (l : List (Taken (Value VoteValue))). Notes vote_tables listed l (after_ed listed e.ed))
+    notes_both vote_tables now now (all_taken place front)
+    (all_taken next micros ++ all_taken (after_all next micros) keys) after
+    (notes_passing vote_tables is_quiet forgotten now place front quiet) last in
+    subst (λ (l : List (Taken (Value VoteValue))). Notes vote_tables now l after)
     (sym (taken_parts place front micros keys) ∙ ap (all_taken place) (entry_parts e)) whole
 
-notes_entry : (listed : Listed) (place : ℕ) (e : EntryFacts) → IsEntryInRange e
+notes_entry : (across : Across) (listed : Listed) (place : ℕ) (e : EntryFacts) → IsEntryInRange e
     → is_next listed.last e.identity ≡ true → IsFree listed e.ed
-    → Notes vote_tables listed (taken_in place (entry_section e)) (entry_listed listed e)
-notes_entry listed place e are is free = (
-  after_relay listed e,
-  notes_relay listed place e is,
-  notes_others (after_relay listed e) (second_place place (entry_section e)) e are (still listed e e.ed free),
+    → Notes vote_tables (knowing across listed) (taken_in place (entry_section e)) (knowing across (entry_listed listed e))
+notes_entry across listed place e are is free = (
+  knowing across (after_relay listed e),
+  notes_relay across listed place e is,
+  notes_others across (after_relay listed e) (second_place place (entry_section e)) e are (still listed e e.ed free),
 )
   where
     still : (listed : Listed) (e : EntryFacts) (said : EdOpinion) → IsFree listed said
@@ -205,24 +219,25 @@ others_may listed e list may =
     more now before n step room = omega (arith, step, room)
 
 -- Entries that may stand follow one another, and the section before them.
-pub entries_next : (listed : Listed) (before : VoteSection) (place : ℕ) (list : List EntryFacts)
+pub entries_next : (across : Across) (listed : Listed) (before : VoteSection) (place : ℕ) (list : List EntryFacts)
     → MayFollow vote_tables before section.Entry relay_row → MayStand listed list
-    → AreNext vote_tables listed before place (map entry_section list) (all_listed listed list)
-entries_next listed before place [] follows may = refl
-entries_next listed before place (e ∷ list) follows may =
+    → AreNext vote_tables (knowing across listed) before place (map entry_section list)
+    (knowing across (all_listed listed list))
+entries_next across listed before place [] follows may = refl
+entries_next across listed before place (e ∷ list) follows may =
     let are = All-head IsEntryInRange e list may.each in
     let room : listed.count + suc (length list) ≤ 65535 = may.room in
     let few : listed.count < 65535 = omega (arith, room) in (
-      entry_listed listed e,
+      knowing across (entry_listed listed e),
       record {
         follows = follows;
         written = entry_written e are;
-        suits = suits_relay e are listed place few;
+        suits = suits_relay e are (knowing across listed) place few;
         notes =
-            notes_entry listed place e are may.comes
+            notes_entry across listed place e are may.comes
             (All-head (λ (one : EntryFacts). IsFree listed one.ed) e list may.free);
       },
-      entries_next (entry_listed listed e) section.Entry (end_of place (entry_section e)) list next_follows
+      entries_next across (entry_listed listed e) section.Entry (end_of place (entry_section e)) list next_follows
           (others_may listed e list may),
     )
 

@@ -102,6 +102,7 @@ no_micro (value.Fingerprint identity) is = refl
 no_micro (value.Object lines) is = refl
 no_micro (value.Own (own.Delays a b)) is = refl
 no_micro (value.Own (own.Source source)) is = refl
+no_micro (value.Own (own.Random line read)) is = refl
 no_micro (value.Own (own.Signature signature)) is = refl
 no_micro (value.Own (own.Entry (said.Relay relay))) is = refl
 no_micro (value.Own (own.Entry (said.Bandwidths w))) is = refl

@@ -16,7 +16,7 @@ use Rattle.authority_certs.specs.Tables.{cert_value}
 use Rattle.authority_certs.specs.declared.frame.CertKind.{CertKind}
 use Rattle.authority_certs.specs.declared.frame.CertKind.TheVariants as cert
 use Rattle.relay_entries.specs.Lines.{address_of, bandwidths_of, lifted}
-use Rattle.relay_entries.specs.declared.listed.Listed.{Listed}
+use Rattle.vote_frame.specs.declared.across.Across.{Across}
 use Rattle.relay_entries.specs.declared.said.EntryKind.{EntryKind}
 use Rattle.relay_entries.specs.declared.said.EntryKind.TheVariants as entry
 use Rattle.relay_entries.specs.declared.said.EntryValue.{EntryValue}
@@ -32,6 +32,7 @@ abbrev pub is_quiet : Value VoteValue → Bool
 is_quiet (value.Own (own.Entry (said.Relay relay))) = false
 is_quiet (value.Own (own.Entry (said.Micro line))) = false
 is_quiet (value.Own (own.Entry (said.Ed opinion))) = false
+is_quiet (value.Own (own.Random line read)) = false
 is_quiet _ = true
 
 -- the kinds whose items say none of these
@@ -39,27 +40,29 @@ abbrev pub is_quiet_kind : VoteKind → Bool
 is_quiet_kind (kind.Entry entry.Relay) = false
 is_quiet_kind (kind.Entry entry.Micro) = false
 is_quiet_kind (kind.Entry entry.Ed) = false
+is_quiet_kind (kind.Random line) = false
 is_quiet_kind _ = true
 
 -- ---- nothing is remembered of it
 
-unheard : (listed : Listed) (place : ℕ) (v : Value VoteValue) → is_quiet v ≡ true
-    → note_value listed place v ≡ Ok listed
-unheard listed place value.Nothing is = refl
-unheard listed place (value.Text text) is = refl
-unheard listed place (value.Number number) is = refl
-unheard listed place (value.Fingerprint identity) is = refl
-unheard listed place (value.Object lines) is = refl
-unheard listed place (value.Own (own.Delays a b)) is = refl
-unheard listed place (value.Own (own.Source source)) is = refl
-unheard listed place (value.Own (own.Signature signature)) is = refl
-unheard listed place (value.Own (own.Entry (said.Relay relay))) is = absurd cc
-unheard listed place (value.Own (own.Entry (said.Bandwidths w))) is = refl
-unheard listed place (value.Own (own.Entry (said.Micro line))) is = absurd cc
-unheard listed place (value.Own (own.Entry (said.Ed opinion))) is = absurd cc
+unheard : (across : Across) (place : ℕ) (v : Value VoteValue) → is_quiet v ≡ true
+    → note_value across place v ≡ Ok across
+unheard across place value.Nothing is = refl
+unheard across place (value.Text text) is = refl
+unheard across place (value.Number number) is = refl
+unheard across place (value.Fingerprint identity) is = refl
+unheard across place (value.Object lines) is = refl
+unheard across place (value.Own (own.Delays a b)) is = refl
+unheard across place (value.Own (own.Source source)) is = refl
+unheard across place (value.Own (own.Random line read)) is = absurd cc
+unheard across place (value.Own (own.Signature signature)) is = refl
+unheard across place (value.Own (own.Entry (said.Relay relay))) is = absurd cc
+unheard across place (value.Own (own.Entry (said.Bandwidths w))) is = refl
+unheard across place (value.Own (own.Entry (said.Micro line))) is = absurd cc
+unheard across place (value.Own (own.Entry (said.Ed opinion))) is = absurd cc
 
 pub forgotten : IsForgotten vote_tables is_quiet
-forgotten listed one is = unheard listed one.place one.value is
+forgotten across one is = unheard across one.place one.value is
 
 -- ---- kinds
 
@@ -134,6 +137,7 @@ kind_quiet kind.Rest item v quiet is =
     subst (λ (w : Value VoteValue). is_quiet w ≡ true) (same_value (value.Text (rest_of item)) v is) refl
 kind_quiet kind.Source item v quiet is =
     by_next (source_of item) (λ source. value.Own (own.Source source)) v (λ a. refl) is
+kind_quiet (kind.Random line) item v quiet is = absurd cc
 kind_quiet kind.Nothing item v quiet is =
     subst (λ (w : Value VoteValue). is_quiet w ≡ true) (same_value value.Nothing v is) refl
 kind_quiet kind.Signature item v quiet is =
@@ -142,5 +146,5 @@ kind_quiet (kind.Certificate of) item v quiet is = certificate_quiet of item v i
 kind_quiet (kind.Entry of) item v quiet is = entry_quiet of item v quiet is
 
 pub kinds_pass : KindsPass vote_tables is_quiet is_quiet_kind
-kinds_pass listed of item v quiet is =
-    kind_quiet of item v quiet (no_fault (over_limit listed of item) (value_at of item) v is)
+kinds_pass across of item v quiet is =
+    kind_quiet of item v quiet (no_fault (over_limit across.listed of item) (value_at of item) v is)

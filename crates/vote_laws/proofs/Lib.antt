@@ -2,6 +2,7 @@ pub mod WrittenSources
 pub mod WrittenValues
 pub mod VoteItems
 pub mod VoteLists
+pub mod VoteRandoms
 pub mod VoteRows
 pub mod EntryItems
 pub mod EntryRows

@@ -1,5 +1,5 @@
 -- A vote that was written is read again.
-use Rattle.std.proofs.Common.{◌≡◌, ℕ, ◌+◌, ◌≤◌, false, List, [], ◌∷◌, ◌++◌, length, take, drop, refl, sym, ap, subst}
+use Rattle.std.proofs.Common.{◌≡◌, ℕ, ◌+◌, ◌≤◌, false, None, List, [], ◌∷◌, ◌++◌, length, take, drop, refl, sym, ap, subst}
 use Rattle.std.proofs.Common.{◌∙◌, append_assoc}
 use Rattle.std.specs.Prelude.{◌&&◌, map}
 use Rattle.std.proofs.lemmas.List.{length-append, map-append}
@@ -25,6 +25,7 @@ use Rattle.vote_terms.specs.declared.facts.VoteFacts.{VoteFacts}
 use Rattle.vote_text.specs.Texts.{vote_text}
 use Rattle.vote_doc.specs.Facts.{facts_of, vote_in}
 use Rattle.vote_doc.specs.Lists.{lists_in, vote_lists}
+use Rattle.random_lines.specs.declared.line.RandomLine.TheVariants as line
 use Rattle.vote_doc.specs.Reading.{max_vote}
 use Rattle.vote_frame.specs.Tables.{vote_tables}
 use Rattle.vote_frame.specs.declared.frame.VoteKind.TheVariants as kind
@@ -39,6 +40,7 @@ use Rattle.vote_laws.proofs.VotePlaces.{in_preamble, vote_kept}
 use Rattle.vote_laws.proofs.VoteRead.{among, begins_at, closed, used_of, vote_read}
 use Rattle.vote_laws.proofs.VoteRows.{authority, authority_written, certificate_row, footer, footer_ended}
 use Rattle.vote_laws.proofs.VoteRows.{has_certificate, preamble, preamble_written, signature_row}
+use Rattle.vote_laws.proofs.VoteRandoms.{kept_random, random_said}
 use Rattle.vote_laws.proofs.VoteSame.{footer_entries, in_cert, in_list, vote_entries, vote_same}
 use Rattle.vote_laws.proofs.VoteSigned.{signed_is}
 use Rattle.vote_laws.proofs.VoteSays.{delays_said, flags_said, methods_said, signature_said, source_said}
@@ -166,6 +168,14 @@ kept_says front facts rest are =
       dir_port = source.dir_port i;
       or_port = source.or_port i;
       contact = text_if_said _ facts.contact (row_read the.Contact authority_read refl) i;
+      random_previous =
+          kept_random (random_said line.Previous None (row_read the.SharedRandPreviousValue preamble_read refl))
+          (random_said line.Previous facts.random_previous
+          (row_read the.SharedRandPreviousValue authority_read refl)) i;
+      random_current =
+          kept_random (random_said line.Current None (row_read the.SharedRandCurrentValue preamble_read refl))
+          (random_said line.Current facts.random_current
+          (row_read the.SharedRandCurrentValue authority_read refl)) i;
       certificate = certificate i;
       entries =
           entries_say limit text (entries_place at facts) facts.entries are.entries.each from_e.front i;

@@ -71,12 +71,12 @@ pub suits : (keyword : Keyword) (count : Count) (of : VoteKind) (entry : VoteEnt
     → ((listed : Listed) (p : ℕ) → over_limit listed of (written p (item_of entry)) ≡ Ok tt)
     → ((p : ℕ) → value_at of (written p (item_of entry)) ≡ Ok (entry.value p))
     → SuitsVote (row keyword count of) entry
-suits keyword count of entry named known_ within says_ = λ listed p. record {
+suits keyword count of entry named known_ within says_ = λ across p. record {
   keyword = named;
   known = known_ p;
   value =
       ap (λ (r : Result (Unit {0}) FrameFault). unless_fault r (at_place (value_at of (written p (item_of entry)))))
-      (within listed p)
+      (within across.listed p)
       ∙ ap at_place (says_ p);
 }
 

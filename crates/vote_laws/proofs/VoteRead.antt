@@ -1,6 +1,6 @@
 -- A vote that was written is read: its document, and where it ends.
-use Rattle.std.proofs.Common.{◌≡◌, ℕ, ◌+◌, ◌≤◌, false, List, [], ◌∷◌, ◌++◌, length, Option, None, Result, Ok}
-use Rattle.std.proofs.Common.{refl, sym, ap, subst, ◌∙◌, append_assoc, arith}
+use Rattle.std.proofs.Common.{◌≡◌, ℕ, ◌+◌, ◌≤◌, false, List, [], ◌∷◌, ◌++◌, length, Option, None, Some, Result, Ok}
+use Rattle.std.proofs.Common.{refl, sym, ap, subst, ◌∙◌, append_assoc, append-nil, arith}
 use Rattle.std.specs.Prelude.{◌&&◌, map}
 use Rattle.std.proofs.lemmas.List.{drop_at}
 use Rattle.item_terms.specs.Items.{Contents, Item, contents, nothing}
@@ -18,19 +18,22 @@ use Rattle.frame_terms.specs.declared.fault.ReadRefusal.{ReadRefusal}
 use Rattle.frame_terms.specs.declared.keyword.Keyword.TheVariants as the
 use Rattle.frame_values.specs.declared.values.Value.{Value}
 use Rattle.frame_laws.proofs.Ends.{entering, first_ends, inside_read, taken_to-parts}
-use Rattle.frame_laws.proofs.Entries.{after_one, item_of, taken_at}
+use Rattle.frame_laws.proofs.Entries.{after_one, all_taken, item_of, taken_at}
 use Rattle.frame_laws.proofs.Following.{first_read, section_read}
 use Rattle.frame_laws.proofs.Groups.{groups_in}
 use Rattle.frame_laws.proofs.LastRows.{section_to_whole}
-use Rattle.frame_laws.proofs.Passing.{notes_passing}
-use Rattle.frame_laws.proofs.Places.{after_all-append, both_written, written_behind}
+use Rattle.frame_laws.proofs.Both.{both}
+use Rattle.frame_laws.proofs.Passing.{EachPasses, notes_passing, rows_pass}
+use Rattle.frame_laws.proofs.Remembered.{Notes, notes_both}
+use Rattle.frame_laws.proofs.RowValues.{text_entry_if}
+use Rattle.frame_laws.proofs.Places.{after_all, after_all-append, both_written, written_behind}
 use Rattle.frame_laws.proofs.Sections.{entries_in, others_in, section_before_last, section_whole, taken_in}
 use Rattle.frame_laws.proofs.Steps.{opening}
 use Rattle.frame_laws.proofs.WrittenRows.{ends_behind, is_closed}
 use Rattle.certificate_laws.proofs.CertRows.{certificate, certificate_ended, certificate_version, certification}
 use Rattle.certificate_laws.proofs.CertRows.{last_row}
 use Rattle.certificate_laws.proofs.CertSays.{cert_ends}
-use Rattle.relay_entries.specs.Listing.{none_listed}
+use Rattle.random_lines.specs.declared.line.RandomLine.TheVariants as line
 use Rattle.vote_terms.specs.Votes.{ReadVote}
 use Rattle.vote_terms.specs.declared.facts.SignatureFacts.{SignatureFacts}
 use Rattle.vote_terms.specs.declared.facts.VoteFacts.{VoteFacts}
@@ -39,21 +42,26 @@ use Rattle.vote_doc.specs.Facts.{vote_in}
 use Rattle.vote_doc.specs.Kept.{kept_with, none_kept}
 use Rattle.vote_doc.specs.Reading.{max_vote, vote_from, with_facts}
 use Rattle.vote_doc.specs.declared.kept.Kept.{Kept}
+use Rattle.vote_frame.specs.Across.{nothing_across}
 use Rattle.vote_frame.specs.Tables.{vote_tables}
 use Rattle.vote_frame.specs.declared.frame.VoteKind.TheVariants as kind
 use Rattle.vote_frame.specs.declared.frame.VoteSection.{VoteSection}
 use Rattle.vote_frame.specs.declared.frame.VoteSection.TheVariants.{Authority, Certificate, Footer, Preamble}
 use Rattle.vote_frame.specs.declared.frame.VoteValue.{VoteValue}
 use Rattle.vote_laws.specs.Again.{IsInRange}
-use Rattle.vote_laws.proofs.Heard.{forgotten, is_quiet}
-use Rattle.vote_laws.proofs.VoteItems.{VoteEntry, VotePart, signature_entry, suits_source, suits_version}
+use Rattle.vote_laws.proofs.EntryRows.{taken_parts}
+use Rattle.vote_laws.proofs.Heard.{forgotten, is_quiet, is_quiet_kind, kinds_pass}
+use Rattle.vote_laws.proofs.VoteItems.{VoteEntry, VotePart, signature_entry, source_entry, suits_source}
+use Rattle.vote_laws.proofs.VoteItems.{suits_version}
+use Rattle.vote_laws.proofs.VoteRandoms.{notes_randoms, random_if}
 use Rattle.vote_laws.proofs.VotePlaces.{VoteDocument, VoteTaken, all_kept, authority_place, certificate_place}
 use Rattle.vote_laws.proofs.VotePlaces.{entries_place, in_certificate, in_footer, in_preamble, section_quiet}
 use Rattle.vote_laws.proofs.VotePlaces.{section_to_quiet, sections_of, vote_document, vote_end, vote_kept}
 use Rattle.vote_laws.proofs.VoteRows.{authority, authority_follows, authority_written, certificate_row, footer}
-use Rattle.vote_laws.proofs.VoteRows.{has_certificate, preamble, preamble_first, preamble_written}
+use Rattle.vote_laws.proofs.VoteRows.{has_certificate, preamble, preamble_first, preamble_rows, preamble_said}
+use Rattle.vote_laws.proofs.VoteRows.{preamble_written}
 use Rattle.vote_laws.proofs.VoteSame.{footer_entries, in_cert, in_list, vote_entries, vote_same}
-use Rattle.vote_laws.proofs.VoteTail.{tail_read}
+use Rattle.vote_laws.proofs.VoteTail.{remembered, tail_read}
 
 -- the certificate in its section
 abbrev in_section : VoteFacts → VotePart
@@ -67,7 +75,7 @@ certificate_fits at facts are =
 
 -- its first item begins it inside the section of its authority
 certificate_made : (at : ℕ) (facts : VoteFacts) → IsInRange facts
-    → made_by vote_tables none_listed (opening Authority (taken_in (authority_place at facts) (authority facts)) None)
+    → made_by vote_tables (remembered facts) (opening Authority (taken_in (authority_place at facts) (authority facts)) None)
     (written (certificate_place at facts) (item_of {V = Value VoteValue} certificate_version))
     ≡ Ok (Enters Certificate (taken_at (certificate_place at facts) certificate_version))
 unfolding same
@@ -78,11 +86,11 @@ certificate_made at facts are =
     let near : next ≤ place + 65536 =
     less next (entries_place at facts) (place + 65536)
     (first_ends place (in_section facts) (certification facts.certificate)) (certificate_fits at facts are) in
-    entering vote_tables none_listed Authority Certificate (taken_at before (authority facts).opener)
+    entering vote_tables (remembered facts) Authority Certificate (taken_at before (authority facts).opener)
     (others_in before (authority facts)) place certificate_version
     certificate_row (record { row_there = refl; not_last = refl; begins_nothing = refl }) refl
     (section_before_last vote_tables (authority facts) certificate_row before (authority_written facts are)) near
-    (suits_version the.DirKeyCertificateVersion none_listed place)
+    (suits_version the.DirKeyCertificateVersion (remembered facts) place)
   where
     less : (a b c : ℕ) → a ≤ b → b ≤ c → a ≤ c
     less a b c first second = omega (arith, first, second)
@@ -99,12 +107,39 @@ authority_whole at facts are =
     (section_to_whole vote_tables (authority_place at facts) (authority facts) certificate_row certificate_version
     (authority_written facts are) refl)
 
+-- nothing is remembered of the preamble
+preamble_quiet : (facts : VoteFacts) → IsInRange facts → EachPasses is_quiet (entries_in (preamble facts))
+preamble_quiet facts are =
+    both (λ place. refl)
+    (rows_pass vote_tables is_quiet is_quiet_kind kinds_pass (preamble_rows facts) refl (preamble_said facts are))
+
+-- the shared random values are remembered of the section of the authority
+authority_notes : (place : ℕ) (facts : VoteFacts)
+    → Notes vote_tables nothing_across (taken_in place (authority facts)) (remembered facts)
+authority_notes place facts =
+    let front = source_entry facts ∷ text_entry_if the.Contact facts.contact in
+    let p = random_if line.Previous facts.random_previous in
+    let c = random_if line.Current facts.random_current in
+    let next = after_all place front in
+    let quiet : EachPasses is_quiet front = both (λ at. refl) (contact_quiet facts.contact) in
+    subst (λ (l : List VoteTaken). Notes vote_tables nothing_across l (remembered facts))
+    (sym (taken_parts place front p c) ∙ ap (λ (l : List VoteEntry). all_taken place (front ++ (p ++ l))) (sym (append-nil c)))
+    (notes_both vote_tables nothing_across nothing_across (all_taken place front)
+    (all_taken next p ++ all_taken (after_all next p) c) (remembered facts)
+    (notes_passing vote_tables is_quiet forgotten nothing_across place front quiet)
+    (notes_randoms next facts.random_previous facts.random_current))
+  where
+    contact_quiet : (contact : Option (List ℕ)) → EachPasses is_quiet (text_entry_if the.Contact contact)
+    contact_quiet None = tt
+    contact_quiet (Some text) = both (λ at. refl) tt
+
 -- the items of a vote make it
 document_read : (length_ at : ℕ) (facts : VoteFacts) (fault : Option DocFault) (more : List Item) → IsInRange facts
-    → read_items vote_tables length_ none_listed (start vote_tables) fault
+    → read_items vote_tables length_ nothing_across (start vote_tables) fault
     (all_written at (map item_of (vote_entries facts)) ++ more) ≡ Ok (vote_document at facts)
 document_read length_ at facts fault more are =
-    let none = none_listed in
+    let none = nothing_across in
+    let known = remembered facts in
     let p = entries_in (preamble facts) in
     let a = entries_in (authority facts) in
     let c = in_cert facts in
@@ -123,8 +158,7 @@ document_read length_ at facts fault more are =
     let cert =
     certificate_ended vote_tables Certificate kind.Certificate has_certificate facts.certificate
     are.certificate.says in
-    let quiet_p = section_quiet (preamble facts) (λ n. refl) refl whole.said in
-    let quiet_a = section_quiet (authority facts) (λ n. refl) refl source.said in
+    let quiet_p = preamble_quiet facts are in
     let quiet_c =
     section_to_quiet (in_section facts) (certification facts.certificate)
     (section_quiet (in_section facts) (λ n. refl) refl cert.written.said) (λ n. refl) in
@@ -135,18 +169,18 @@ document_read length_ at facts fault more are =
     (suits_version the.NetworkStatusVersion none at) (notes_passing vote_tables is_quiet forgotten none at p quiet_p)
     ∙ ap (λ (l : List Item). read_items vote_tables length_ none (opening Preamble in_p None) fault l)
     (both_written at_a a (c ++ ef) more)
-    ∙ section_read vote_tables length_ none none Preamble (taken_at at (preamble facts).opener)
+    ∙ section_read vote_tables length_ none known Preamble (taken_at at (preamble facts).opener)
     (others_in at (preamble facts)) at_a (authority facts)
     (certificate_row ∷ []) fault rest_c (section_whole vote_tables (preamble facts) at whole) authority_follows
-    source (suits_source facts are none at_a) (notes_passing vote_tables is_quiet forgotten none at_a a quiet_a)
+    source (suits_source facts are none at_a) (authority_notes at_a facts)
     ∙ ap (λ (r : Result VoteDocument ReadRefusal). onto (group Preamble in_p) r)
-    (ap (λ (l : List Item). read_items vote_tables length_ none (opening Authority in_a None) fault l)
+    (ap (λ (l : List Item). read_items vote_tables length_ known (opening Authority in_a None) fault l)
     (both_written at_c c ef more)
-    ∙ inside_read vote_tables length_ none at_c (in_section facts) (last_row kind.Certificate)
+    ∙ inside_read vote_tables length_ known at_c (in_section facts) (last_row kind.Certificate)
     (certification facts.certificate) fault rest_e cert
-    none Authority (taken_at at_a (authority facts).opener) (others_in at_a (authority facts))
+    known Authority (taken_at at_a (authority facts).opener) (others_in at_a (authority facts))
     (certificate_fits at facts are)
-    (certificate_made at facts are) (notes_passing vote_tables is_quiet forgotten none at_c c quiet_c)
+    (certificate_made at facts are) (notes_passing vote_tables is_quiet forgotten known at_c c quiet_c)
     ∙ ap (λ (r : Result VoteDocument ReadRefusal). onto (group Certificate (in_certificate at facts)) r)
     (tail_read length_ at facts fault more are (taken_at at_a (authority facts).opener)
     (others_in at_a (authority facts) ++ one ∷ []) (authority_whole at facts are)

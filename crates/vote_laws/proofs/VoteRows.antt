@@ -21,6 +21,7 @@ use Rattle.vote_terms.specs.declared.facts.SignatureFacts.{SignatureFacts}
 use Rattle.vote_terms.specs.declared.facts.VoteFacts.{VoteFacts}
 use Rattle.vote_terms.specs.declared.lists.VoteLists.{VoteLists}
 use Rattle.dir_values.specs.Numbers.{numbers_text}
+use Rattle.random_lines.specs.declared.line.RandomLine.TheVariants as line
 use Rattle.vote_frame.specs.Tables.{vote_tables}
 use Rattle.vote_frame.specs.declared.frame.VoteKind.{VoteKind}
 use Rattle.vote_frame.specs.declared.frame.VoteKind.TheVariants as kind
@@ -31,6 +32,7 @@ use Rattle.vote_laws.proofs.VoteLists.{versions_said}
 use Rattle.vote_laws.proofs.VoteItems.{VotePart, VoteRow, delays_entry, moment_row, rest_if, said_moment, said_rest_if}
 use Rattle.vote_laws.proofs.VoteItems.{signature_entry, source_entry, suits_delays, suits_flags, suits_methods}
 use Rattle.vote_laws.proofs.VoteItems.{suits_signature, suits_status}
+use Rattle.vote_laws.proofs.VoteRandoms.{random_row, said_random}
 
 -- ---- the preamble
 
@@ -66,17 +68,21 @@ flag_rows facts =
 abbrev pub later_rows : VoteLists → List VoteRow
 later_rows lists = protocol_rows lists ++ param_rows lists
 
--- its rows behind the first one
+-- its rows behind the first one of which items are written
 abbrev pub preamble_rows : VoteFacts → List VoteRow
 preamble_rows facts =
     kind_rows facts ++ (time_rows facts ++ (version_rows facts.lists ++ (flag_rows facts ++ later_rows facts.lists)))
+
+-- shared random values are written behind the contact
+abbrev no_randoms : List VoteRow
+no_randoms = random_row line.Previous None ∷ random_row line.Current None ∷ []
 
 abbrev pub preamble : VoteFacts → VotePart
 preamble facts = record {
   name = Preamble;
   first = row the.NetworkStatusVersion One kind.Version;
   opener = silent_entry the.NetworkStatusVersion (codes "3");
-  middle = preamble_rows facts;
+  middle = preamble_rows facts ++ no_randoms;
 }
 
 said_methods : (methods : Option (List ℕ)) → IfSome methods AreMethods → IsSaid vote_tables (methods_if methods)
@@ -86,7 +92,7 @@ said_methods (Some methods) are =
     (text_entry the.ConsensusMethods (numbers_text methods))
     (suits_methods methods are)
 
-preamble_said : (facts : VoteFacts) → IsInRange facts → AreSaid vote_tables (preamble facts).middle
+pub preamble_said : (facts : VoteFacts) → IsInRange facts → AreSaid vote_tables (preamble_rows facts)
 preamble_said facts are =
     let lists = facts.lists in
     let later = both_said (protocol_rows lists) (param_rows lists) (protocols_said lists are.lists)
@@ -105,7 +111,15 @@ preamble_said facts are =
 pub preamble_written : (facts : VoteFacts) → IsInRange facts → IsWritten vote_tables (preamble facts) []
 unfolding same
 preamble_written facts are =
-    record { table = refl; apart = refl; plain = refl; opens = refl; said = preamble_said facts are }
+    record {
+      table = refl;
+      apart = refl;
+      plain = refl;
+      opens = refl;
+      said =
+          both_said (preamble_rows facts) no_randoms (preamble_said facts are)
+          (both (said_random line.Previous None tt) (both (said_random line.Current None tt) tt));
+    }
 
 pub preamble_first : IsFirst vote_tables (row the.NetworkStatusVersion One kind.Version)
 unfolding same
@@ -118,7 +132,9 @@ authority facts = record {
   name = Authority;
   first = row the.DirSource One kind.Source;
   opener = source_entry facts;
-  middle = rest_if the.Contact facts.contact ∷ [];
+  middle =
+      rest_if the.Contact facts.contact ∷ random_row line.Previous facts.random_previous
+      ∷ random_row line.Current facts.random_current ∷ [];
 }
 
 -- the row of the certificate's first item, which is one of the authority's too
@@ -133,7 +149,10 @@ authority_written facts are = record {
   apart = refl;
   plain = refl;
   opens = refl;
-  said = both (said_rest_if the.Contact facts.contact) tt;
+  said =
+      both (said_rest_if the.Contact facts.contact)
+      (both (said_random line.Previous facts.random_previous are.random_previous)
+      (both (said_random line.Current facts.random_current are.random_current) tt));
 }
 
 pub authority_follows : MayFollow vote_tables Preamble Authority (row the.DirSource One kind.Source)

@@ -26,6 +26,7 @@ use Rattle.vote_laws.proofs.EntryRows.{entry_section}
 use Rattle.vote_laws.proofs.EntrySame.{entries_same}
 use Rattle.vote_laws.proofs.VoteItems.{VoteEntry, VoteRow, signature_entry}
 use Rattle.vote_laws.proofs.VoteLists.{param_rows, protocol_rows, version_rows}
+use Rattle.vote_laws.proofs.VoteRandoms.{random_items_are}
 use Rattle.vote_laws.proofs.VoteRows.{authority, flag_rows, footer, kind_rows, preamble, time_rows}
 
 -- the items of its certificate, of its entries and of its footer
@@ -52,7 +53,7 @@ flag_same : (facts : VoteFacts) → flag_items facts ≡ items_of (flag_rows fac
 flag_same facts = simp (items_if, append-nil) refl
 
 authority_same : (facts : VoteFacts) → authority_items facts ≡ map item_of (entries_in (authority facts))
-authority_same facts = simp (items_if, append-nil) refl
+authority_same facts = simp (items_if, random_items_are, map-append, append-nil, append_assoc) refl
 
 versions_same : (lists : VoteLists) → version_items lists ≡ items_of (version_rows lists)
 versions_same lists = simp (items_if, map-append, append-nil) refl

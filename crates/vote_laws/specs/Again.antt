@@ -14,6 +14,7 @@ use Rattle.authority_certs.specs.Texts.{cert_items, cert_text}
 use Rattle.authority_certs.specs.declared.cert.Cert.{Cert}
 use Rattle.entry_laws.specs.Ranges.{AreBandwidthsInRange, AreMethodsInRange, AreThirtyTwo, IsAddressInRange}
 use Rattle.entry_laws.specs.Ranges.{IsOpinionInRange, IsRelayInRange}
+use Rattle.line_laws.specs.Again.{IsRandomInRange}
 use Rattle.list_laws.specs.Ranges.{AreParamsInRange, AreProtocolsInRange, AreVersionsInRange}
 use Rattle.list_values.specs.declared.named.Named.{Named}
 use Rattle.relay_entries.specs.declared.said.EdOpinion.TheVariants as opinion
@@ -115,6 +116,8 @@ pub record IsInRange (facts : VoteFacts) : Type 0 where
   pub ip : facts.ip < 2 ^ 32
   pub dir_port : facts.dir_port ≤ 65535
   pub or_port : facts.or_port ≤ 65535
+  pub random_previous : IfSome facts.random_previous IsRandomInRange
+  pub random_current : IfSome facts.random_current IsRandomInRange
   pub certificate : IsCertificateInRange facts.certificate
   pub entries : AreEntriesInRange facts.entries
   pub signature : IsSignatureInRange facts.signature
