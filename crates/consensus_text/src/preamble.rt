@@ -8,9 +8,11 @@ ghost use Rattle.consensus_terms.specs.Texts as texts;
 
 use crate::lists::{put_params_line, put_protocols_line, put_versions_line};
 use crate::words::{
-    put_flags_line, put_moment_line, put_number_line, put_two_numbers_line, put_word, put_word_line,
+    put_flags_line, put_moment_line, put_number_line, put_number_word, put_padded_word,
+    put_two_numbers_line, put_word, put_word_line,
 };
 use consensus_terms::{ConsensusFacts, ConsensusLists, Flavour};
+use random_lines::SharedRandom;
 use text_page::Page;
 
 /// Puts the version of the document, and its flavour.
@@ -100,6 +102,29 @@ fn put_protocols(page: &mut Page, lists: &ConsensusLists)
     );
 }
 
+/// Puts the line of a shared random value, where there is one.
+#[tactic(auto, using(text_page::proofs::Pages::pages), unfolding(consensus_terms::specs::Lines::line))]
+fn put_random_line(page: &mut Page, keyword: &[u8], random: &Option<SharedRandom>)
+    ensures { page.new ≡ with_text page.old (texts.random_line keyword.now random.now) }
+{
+    let Some(random) = random else {
+        return;
+    };
+    page.put(keyword);
+    put_number_word(page, random.count as u64);
+    put_padded_word(page, &random.value.0);
+    page.put(b"\n");
+}
+
+/// Puts the two shared random values.
+#[tactic(auto, using(text_page::proofs::Pages::pages))]
+fn put_randoms(page: &mut Page, facts: &ConsensusFacts)
+    ensures { page.new ≡ with_text page.old (texts.random_lines facts.now) }
+{
+    put_random_line(page, b"shared-rand-previous-value", &facts.random_previous);
+    put_random_line(page, b"shared-rand-current-value", &facts.random_current);
+}
+
 /// Puts the preamble.
 #[tactic(auto, using(text_page::proofs::Pages::pages))]
 pub fn put_preamble(page: &mut Page, flavour: Flavour, facts: &ConsensusFacts)
@@ -112,4 +137,5 @@ pub fn put_preamble(page: &mut Page, flavour: Flavour, facts: &ConsensusFacts)
     put_flags_line(page, b"known-flags", &facts.known_flags);
     put_protocols(page, &facts.lists);
     put_params_line(page, b"params", &facts.lists.params);
+    put_randoms(page, facts);
 }

@@ -1,5 +1,5 @@
 // Words behind single spaces, and lines of them, on a page.
-ghost use Rattle.std.specs.Prelude.{◌≡◌, ◌≤◌, ◌∷◌, [], codes};
+ghost use Rattle.std.specs.Prelude.{◌≡◌, ◌≤◌, ◌∷◌, ◌++◌, [], codes};
 ghost use Rattle.std.specs.Fmt.{decimal};
 ghost use Rattle.std.specs.List.{flat_map};
 ghost use Rattle.dir_bytes.specs.Causes.{last_moment};
@@ -72,6 +72,15 @@ pub fn put_digest2_word(page: &mut Page, digest: &[u8; 32])
 {
     page.put(b" ");
     page.put_digest2(digest);
+}
+
+/// Puts thirty-two bytes in base64 behind a space, with the `=` that fills the last group up.
+#[tactic(auto, using(text_page::proofs::Pages::pages))]
+pub fn put_padded_word(page: &mut Page, digest: &[u8; 32])
+    ensures { page.new ≡ with_text page.old (behind_space (base64_text digest.now ++ codes "=")) }
+{
+    put_digest2_word(page, digest);
+    page.put(b"=");
 }
 
 /// Puts an IPv4 address behind a space.
