@@ -15,6 +15,7 @@ use Rattle.consensus_terms.specs.declared.consensus.SignedConsensus.{SignedConse
 use Rattle.consensus_terms.specs.declared.consensus.SourceLine.{SourceLine}
 use Rattle.consensus_terms.specs.declared.flavour.Flavour.{Flavour}
 use Rattle.consensus_terms.specs.declared.flavour.Flavour.TheVariants.{Ns, Microdesc}
+use Rattle.consensus_terms.specs.Flavours.{facts_in}
 use Rattle.consensus_terms.specs.Lines.{line, list_line, rest_line}
 use Rattle.consensus_terms.specs.Routers.{listed_lines}
 use Rattle.consensus_terms.specs.Weights.{weight_words}
@@ -99,7 +100,7 @@ footer weights = line (codes "directory-footer") [] ++ line (codes "bandwidth-we
 
 -- the text without signatures
 unfoldable pub unsigned : Flavour → Consensus → List ℕ
-unsigned flavour c = body flavour c.facts ++ footer c.weights
+unsigned flavour c = body flavour (facts_in flavour c.facts) ++ footer c.weights
 
 -- ---- of a consensus that was read
 
