@@ -30,7 +30,7 @@ abbrev pub In : ReadVote → List ReadVote → Type 0
 In x [] = ⊥
 In x (y ∷ ys) = (x ≡ y) ⊎ In x ys
 
-at_index : (xs : List ReadVote) (k : ℕ) (d x : ReadVote) → k < length xs → get_or xs k d ≡ x → In x xs
+pub at_index : (xs : List ReadVote) (k : ℕ) (d x : ReadVote) → k < length xs → get_or xs k d ≡ x → In x xs
 at_index [] k d x lt e = absurd (omega (arith, lt))
 at_index (y ∷ ys) zero d x lt e = inl (sym e)
 at_index (y ∷ ys) (suc k) d x lt e = inr (at_index ys k d x (omega (arith, lt)) e)
@@ -86,7 +86,7 @@ there (w ∷ ws) v = elim (step w ws v) [
   | stands_before lt e ↦ (v, rw e (inl refl), refl, lost_to_itself v)
 ]
 
-ascends : (ws : List ReadVote) (v : ReadVote) → Ascends ws → Ascends (placed ws v)
+pub ascends : (ws : List ReadVote) (v : ReadVote) → Ascends ws → Ascends (placed ws v)
 ascends [] v a = (λ x t. absurd t, tt)
 ascends (w ∷ ws) v a = elim (step w ws v) [
   | goes_on lt e ↦ rw e (λ x t. ⊎_elim (λ (i : In x ws). a.0 x i) (λ (i : x ≡ v). rw i lt) (only ws v x t), ascends ws v a.1)
@@ -134,7 +134,7 @@ single (w ∷ ws) g h a i j q =
     ⊎_elim (λ (k : g ≡ w). ⊎_elim (λ (l : h ≡ w). k ∙ sym l) (λ l. absurd (not_itself w.says.identity (along w.says.identity h.says.identity w.says.identity (sym q ∙ ap (λ (x : ReadVote). x.says.identity) k) (a.0 h l)))) j)
     (λ k. ⊎_elim (λ (l : h ≡ w). absurd (not_itself w.says.identity (along w.says.identity g.says.identity w.says.identity (q ∙ ap (λ (x : ReadVote). x.says.identity) l) (a.0 g k)))) (λ l. single ws g h a.1 k l q) j) i
 
-stands : (list : List ReadVote) → Stands (λ x. ⊥ ⊎ In x list) (held list)
+pub stands : (list : List ReadVote) → Stands (λ x. ⊥ ⊎ In x list) (held list)
 stands list = all list (λ _. ⊥) [] (record { each = λ x i. absurd i; from = λ h i. absurd i; apart = tt })
 
 -- what is new after a put outranks each vote of its authority that was there

@@ -1,11 +1,16 @@
 // Laws of the definitions.
 ghost use Rattle.vote_terms.specs.Acceptable.{VerifiedAreNotRefused};
-ghost use Rattle.vote_terms.specs.Held.{HeldIsHeld, RanksAgree, HeldAgree};
+ghost use Rattle.vote_terms.specs.Held.{HeldIsHeld, HeldAscend, RanksAgree, HeldAgree};
 
 /// What is held of a list of votes is, for each authority, its vote of the greatest rank, and of different votes of
 /// that rank the first.
 pub fn held_is_held()
     ensures { HeldIsHeld }
+{}
+
+/// The held votes of a list are in strictly ascending order of their identities, so that each authority has one at most.
+pub fn held_ascend()
+    ensures { HeldAscend }
 {}
 
 /// The order in which votes come, and how often, changes no rank that is held.

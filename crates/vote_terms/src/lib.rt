@@ -10,7 +10,9 @@ mod word;
 
 pub use entry::{EntryFacts, MicroFacts};
 pub use facts::{SignatureFacts, VoteFacts};
-pub use laws::{held_agree, held_is_held, ranks_agree, verified_votes_are_not_refused};
+pub use laws::{
+    held_agree, held_ascend, held_is_held, ranks_agree, verified_votes_are_not_refused,
+};
 pub use lists::VoteLists;
 pub use rank::Rank;
 pub use word::VoteWord;

@@ -1,0 +1,69 @@
+-- The held votes ascend by identity, and what that says of the vote of an authority.
+use Rattle.std.proofs.Common.{◌≡◌, ℕ, suc, ◌<◌, Bool, true, false, List, [], ◌∷◌, length, get_or, Option, Some, None, All, AllPairs, find, refl, sym, ap, ◌∙◌, inl, inr, arith}
+use Rattle.std.proofs.lemmas.List.Kept.{AllPairs-cons}
+use Rattle.std.proofs.lemmas.Bool.{false≢true}
+use Rattle.dir_values.specs.declared.digest.Fingerprint.{Fingerprint}
+use Rattle.dir_values.specs.Digests.{identity_below, same_identity}
+use Rattle.vote_terms.specs.Votes.{ReadVote}
+use Rattle.vote_terms.specs.Held.{placed, held, rival, vote_of, same_authority, VotesAscend, HeldAscend}
+use Rattle.vote_terms.proofs.Orders.{Below, below_trans, not_itself, other_way, same_one}
+use Rattle.vote_terms.proofs.HeldLaw.{In, in_to, at_index, Ascends, ascends, stands}
+
+-- a vote comes before another
+abbrev Comes : ReadVote → ReadVote → Type 0
+Comes v w = Below v.says.identity w.says.identity
+
+all_behind : (w : ReadVote) (ws : List ReadVote) → ((x : ReadVote) → In x ws → Comes w x) → All (Comes w) ws
+all_behind w ws h = λ i d lt. h (get_or ws i d) (at_index ws i d (get_or ws i d) lt refl)
+
+pub to_pairs : (votes : List ReadVote) → Ascends votes → VotesAscend votes
+to_pairs [] a = λ i j d lt within. absurd (omega (arith, within))
+to_pairs (w ∷ ws) a = AllPairs-cons Comes w ws (all_behind w ws a.0) (to_pairs ws a.1)
+
+pub behind : (w : ReadVote) (ws : List ReadVote) → VotesAscend (w ∷ ws) → (x : ReadVote) → In x ws → Comes w x
+behind w ws a x i =
+    let c = in_to ws x i in
+    let comes : Comes w (get_or ws c.0 x) = a 0 (suc c.0) x (omega arith) (omega (arith, c.1)) in
+    ap (λ (y : ReadVote). identity_below w.says.identity y.says.identity) (sym c.2) ∙ comes
+
+pub rest_ascends : (w : ReadVote) (ws : List ReadVote) → VotesAscend (w ∷ ws) → VotesAscend ws
+rest_ascends w ws a = λ i j d lt within. a (suc i) (suc j) d (omega (arith, lt)) (omega (arith, within))
+
+pub from_pairs : (votes : List ReadVote) → VotesAscend votes → Ascends votes
+from_pairs [] a = tt
+from_pairs (w ∷ ws) a = (behind w ws a, from_pairs ws (rest_ascends w ws a))
+
+-- votes that ascend do so still with one more
+pub placed_ascends : (votes : List ReadVote) (v : ReadVote) → VotesAscend votes → VotesAscend (placed votes v)
+placed_ascends votes v a = to_pairs (placed votes v) (ascends votes v (from_pairs votes a))
+
+pub held_ascend : HeldAscend
+held_ascend list = to_pairs (held list) (stands list).apart
+
+-- ---- the vote of an authority
+
+-- no vote is of an authority that comes before all of them
+none_by : (b : Bool) (w : ReadVote) (ws : List ReadVote) (a : Fingerprint) → same_identity w.says.identity a ≡ b → Below a w.says.identity
+    → vote_of ws a ≡ None → vote_of (w ∷ ws) a ≡ None
+none_by true w ws a e lt more = absurd (not_itself a (ap (λ (y : Fingerprint). identity_below a y) (sym (same_one w.says.identity a e)) ∙ lt))
+none_by false w ws a e lt more = rw e more
+
+none_of : (votes : List ReadVote) (a : Fingerprint) → ((x : ReadVote) → In x votes → Below a x.says.identity) → vote_of votes a ≡ None
+none_of [] a h = refl
+none_of (w ∷ ws) a h = none_by _ w ws a refl (h w (inl refl)) (none_of ws a (λ x i. h x (inr i)))
+
+rival_by : (b s : Bool) (w : ReadVote) (ws : List ReadVote) (v : ReadVote) → identity_below w.says.identity v.says.identity ≡ b → same_authority w v ≡ s
+    → ((x : ReadVote) → In x ws → Comes w x) → rival ws v ≡ vote_of ws v.says.identity → rival (w ∷ ws) v ≡ vote_of (w ∷ ws) v.says.identity
+rival_by true true w ws v e f behind_it more =
+    absurd (not_itself v.says.identity (ap (λ (y : Fingerprint). identity_below y v.says.identity) (sym (same_one w.says.identity v.says.identity f)) ∙ e))
+rival_by true false w ws v e f behind_it more = rw (e, f) more
+rival_by false true w ws v e f behind_it more = rw (e, f) refl
+rival_by false false w ws v e f behind_it more =
+    let first : Below v.says.identity w.says.identity = other_way w.says.identity v.says.identity e f in
+    let after = λ (x : ReadVote) (i : In x ws). below_trans v.says.identity w.says.identity x.says.identity first (behind_it x i) in
+    rw (e, f) (sym (none_of ws v.says.identity after))
+
+-- among votes that ascend, what a vote is placed against is the vote of its authority
+pub rival_is : (votes : List ReadVote) (v : ReadVote) → VotesAscend votes → rival votes v ≡ vote_of votes v.says.identity
+rival_is [] v a = refl
+rival_is (w ∷ ws) v a = rival_by _ _ w ws v refl refl (behind w ws a) (rival_is ws v (rest_ascends w ws a))
