@@ -1,0 +1,71 @@
+// A case: what a run is given, what stands outside of it, and what it is to give.
+use std::alloc::Global;
+
+/// How what stands outside a run behaves: where reads end, how much a sink takes, and the numbers of the calls that
+/// fail, from 1.
+#[derive(Drop)]
+pub struct Outer {
+    /// The places in the input where a read ends.
+    pub cuts: Vec<u64>,
+    /// The reads that fail.
+    pub reads: Vec<u64>,
+    /// The writes that fail.
+    pub writes: Vec<u64>,
+    /// The writes to the errors sink that fail.
+    pub errors: Vec<u64>,
+    /// The verifier's answers that fail.
+    pub verifies: Vec<u64>,
+    /// How many bytes a write takes at most.
+    pub piece: u64,
+    /// How many bytes the sink has room for.
+    pub room: usize,
+    /// How many bytes the errors sink has room for.
+    pub errors_room: usize,
+}
+
+/// A case.
+#[derive(Drop)]
+pub struct Case {
+    /// Its name. None is the name of a case that has not begun.
+    pub name: String,
+    /// The words of the command line.
+    pub words: Vec<String>,
+    /// The input.
+    pub input: Vec<u8>,
+    /// A piece of the input, in whose place another is to stand.
+    pub old: String,
+    /// How what stands outside behaves.
+    pub outer: Outer,
+    /// The text that is to be written.
+    pub text: Vec<u8>,
+    /// The line that is to be written to the errors sink.
+    pub line: Vec<u8>,
+    /// The number of the status that is to come.
+    pub status: u64,
+}
+
+/// How many bytes a sink has room for where a case does not say it: more than any case is to write.
+const ROOM: usize = 2_097_152;
+
+/// A case of this name, with no words and no input, in which nothing fails and nothing is to be written.
+pub fn plain_case(alloc: Global, name: String) -> Case {
+    Case {
+        name,
+        words: Vec::new(alloc),
+        input: Vec::new(alloc),
+        old: String::new(alloc),
+        outer: Outer {
+            cuts: Vec::new(alloc),
+            reads: Vec::new(alloc),
+            writes: Vec::new(alloc),
+            errors: Vec::new(alloc),
+            verifies: Vec::new(alloc),
+            piece: 7,
+            room: ROOM,
+            errors_room: ROOM,
+        },
+        text: Vec::new(alloc),
+        line: Vec::new(alloc),
+        status: 0,
+    }
+}
