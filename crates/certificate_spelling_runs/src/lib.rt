@@ -1,5 +1,0 @@
-//! Whole runs of `check cert` and `show cert` on all spellings of a certificate: tests alone, of `authority_daemon::run`.
-#![tactic(auto)]
-
-#[cfg(test)]
-mod tests;
