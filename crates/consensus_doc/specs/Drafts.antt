@@ -28,7 +28,7 @@ use Rattle.consensus_frame.specs.declared.rows.ConsensusSection.TheVariants.{Pre
 use Rattle.consensus_frame.specs.declared.value.ConsensusValue.{ConsensusValue}
 use Rattle.consensus_frame.specs.declared.value.ConsensusValue.TheVariants as own
 use Rattle.consensus_doc.specs.declared.draft.Draft.{Draft}
-use Rattle.consensus_doc.specs.Saying.{delays_in, source_in, vote_digest_in, relay_in, bandwidth_in, micro_digest_in}
+use Rattle.consensus_doc.specs.Saying.{delays_in, random_in, source_in, vote_digest_in, relay_in, bandwidth_in, micro_digest_in}
 
 -- ---- what items say, in these bytes
 
@@ -85,6 +85,8 @@ preamble_facts bytes taken = record {
   dist_seconds = (delays_in (item_at taken the.VotingDelay)).1;
   known_flags = flags_in bytes taken the.KnownFlags;
   lists = lists_of bytes taken;
+  random_previous = random_in (item_at taken the.SharedRandPreviousValue);
+  random_current = random_in (item_at taken the.SharedRandCurrentValue);
   sources = [];
   routers = [];
 }
@@ -182,6 +184,8 @@ no_facts = record {
   dist_seconds = 0;
   known_flags = [];
   lists = no_lists;
+  random_previous = None;
+  random_current = None;
   sources = [];
   routers = [];
 }

@@ -8,6 +8,7 @@ use Rattle.frame_values.specs.declared.values.Value.{Value}
 use Rattle.frame_values.specs.Values.{own_in, nowhere, no_digest, no_identity}
 use Rattle.relay_entries.specs.declared.said.EntryValue.TheVariants.{Relay}
 use Rattle.relay_entries.specs.declared.said.RelayLine.{RelayLine}
+use Rattle.random_lines.specs.declared.value.SharedRandom.{SharedRandom}
 use Rattle.consensus_terms.specs.declared.router.Bandwidth.{Bandwidth}
 use Rattle.consensus_frame.specs.declared.value.ConsensusValue.{ConsensusValue}
 use Rattle.consensus_frame.specs.declared.value.ConsensusValue.TheVariants as own
@@ -20,6 +21,15 @@ delays_of_value _ = (0, 0)
 -- the seconds for exchanging votes, and those for exchanging signatures
 abbrev pub delays_in : Option (Taken (Value ConsensusValue)) → ℕ × ℕ
 delays_in item = delays_of_value (own_in item)
+
+-- the shared random value that a value is
+abbrev pub random_of_value : Option ConsensusValue → Option SharedRandom
+random_of_value (Some (own.Random random)) = Some random
+random_of_value _ = None
+
+-- the shared random value that an item has
+abbrev pub random_in : Option (Taken (Value ConsensusValue)) → Option SharedRandom
+random_in item = random_of_value (own_in item)
 
 -- an authority of which nothing is known
 abbrev pub no_source : DirSource

@@ -6,7 +6,7 @@ ghost use Rattle.frame_values.specs.Parts as parts;
 ghost use Rattle.frame_values.specs.Values as values;
 ghost use Rattle.consensus_doc.specs.Drafts as drafts;
 
-use crate::says::delays_at;
+use crate::says::{delays_at, random_at};
 use consensus_frame::ConsensusValue;
 use consensus_terms::{ConsensusFacts, ConsensusLists};
 use dir_bytes::{Memory, Seq};
@@ -139,6 +139,8 @@ pub(crate) fn preamble_facts(
         dist_seconds,
         known_flags: flags_at(alloc, bytes, taken, Keyword::KnownFlags)?,
         lists: lists_of(alloc, bytes, taken)?,
+        random_previous: random_at(taken, Keyword::SharedRandPreviousValue),
+        random_current: random_at(taken, Keyword::SharedRandCurrentValue),
         sources: Seq::new(Vec::new(alloc)),
         routers: Seq::new(Vec::new(alloc)),
     })
@@ -172,6 +174,8 @@ pub(crate) fn no_facts(alloc: Global) -> ConsensusFacts
         dist_seconds: 0,
         known_flags: FlagSet::new(alloc),
         lists: no_lists(alloc),
+        random_previous: None,
+        random_current: None,
         sources: Seq::new(Vec::new(alloc)),
         routers: Seq::new(Vec::new(alloc)),
     }

@@ -8,6 +8,7 @@ use consensus_terms::Bandwidth;
 use dir_values::{Digest1, Digest2, Fingerprint};
 use frame_terms::{Keyword, Taken};
 use frame_values::{DirSource, Value, nowhere, own_at};
+use random_lines::SharedRandom;
 use relay_entries::{EntryValue, RelayLine};
 
 /// The seconds for exchanging votes and signatures.
@@ -17,6 +18,19 @@ pub(crate) fn delays_at(taken: &[Taken<Value<ConsensusValue>>]) -> (u32, u32)
     match own_at(taken, Keyword::VotingDelay) {
         Some(ConsensusValue::Delays(vote, dist)) => (vote, dist),
         _ => (0, 0),
+    }
+}
+
+/// The shared random value of an item.
+pub(crate) fn random_at(
+    taken: &[Taken<Value<ConsensusValue>>],
+    keyword: Keyword,
+) -> Option<SharedRandom>
+    ensures { result ≡ saying.random_in (item_at taken.now keyword) }
+{
+    match own_at(taken, keyword) {
+        Some(ConsensusValue::Random(random)) => Some(random),
+        _ => None,
     }
 }
 
