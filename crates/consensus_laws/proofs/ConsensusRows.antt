@@ -35,6 +35,7 @@ use Rattle.consensus_laws.proofs.ConsensusItems.{said_moment, said_rest_if, suit
 use Rattle.consensus_laws.proofs.ConsensusItems.{suits_method, suits_status, suits_vote_digest, version_entry}
 use Rattle.consensus_laws.proofs.ConsensusLists.{param_rows, params_said, protocol_rows, protocols_said, version_rows}
 use Rattle.consensus_laws.proofs.ConsensusLists.{versions_said}
+use Rattle.consensus_laws.proofs.ConsensusRandoms.{random_quiet, random_row, said_random}
 use Rattle.consensus_laws.proofs.Quiet.{both_said, is_quiet, rows_quiet, text_quiet}
 use Rattle.consensus_laws.proofs.SignatureLines.{signature_again, signature_said}
 
@@ -61,11 +62,16 @@ abbrev pub flag_rows : ConsensusFacts → List ConsensusRow
 flag_rows c =
     row_once (row the.KnownFlags One kind.KnownFlags) (text_entry the.KnownFlags (set_text c.known_flags)) ∷ []
 
+-- its shared random values
+abbrev pub random_rows : ConsensusFacts → List ConsensusRow
+random_rows c =
+    random_row the.SharedRandPreviousValue c.random_previous ∷ random_row the.SharedRandCurrentValue c.random_current ∷ []
+
 -- its rows behind the first one
 abbrev pub preamble_rows : ConsensusFacts → List ConsensusRow
 preamble_rows c =
     kind_rows c ++ (time_rows c ++ (version_rows c.lists ++ (flag_rows c
-    ++ (protocol_rows c.lists ++ param_rows c.lists))))
+    ++ (protocol_rows c.lists ++ (param_rows c.lists ++ random_rows c)))))
 
 abbrev pub version_row : Row ConsensusKind
 version_row = row the.NetworkStatusVersion One kind.Version
@@ -90,11 +96,14 @@ module _ (flavour : Flavour) where
       (both (said_moment flavour the.ValidUntil c.valid_until)
       (both (said_once tables _ _
       (suits_delays flavour c.vote_seconds c.dist_seconds are.vote_seconds are.dist_seconds))
-      (both_said tables (version_rows c.lists) (flag_rows c ++ (protocol_rows c.lists ++ param_rows c.lists))
+      (both_said tables (version_rows c.lists) (flag_rows c ++ (protocol_rows c.lists ++ (param_rows c.lists ++ random_rows c)))
       (versions_said flavour c.lists are.lists)
       (both (said_once tables _ _ (suits_flags flavour c.known_flags are.known_flags))
-      (both_said tables (protocol_rows c.lists) (param_rows c.lists) (protocols_said flavour c.lists are.lists)
-      (params_said flavour c.lists are.lists)))))))))
+      (both_said tables (protocol_rows c.lists) (param_rows c.lists ++ random_rows c)
+      (protocols_said flavour c.lists are.lists)
+      (both_said tables (param_rows c.lists) (random_rows c) (params_said flavour c.lists are.lists)
+      (both (said_random flavour the.SharedRandPreviousValue c.random_previous are.random_previous)
+      (both (said_random flavour the.SharedRandCurrentValue c.random_current are.random_current) tt)))))))))))
 
   pub preamble_written : (c : ConsensusFacts) → AreFactsInRange flavour c
       → IsWritten (consensus_tables flavour) (preamble flavour c) []
@@ -123,7 +132,9 @@ preamble_quiet flavour c =
     (both (text_quiet the.RecommendedRelayProtocols _)
     (both (text_quiet the.RequiredClientProtocols _)
     (both (text_quiet the.RequiredRelayProtocols _)
-    (both (text_quiet the.Params _) tt)))))))))))))))
+    (both (text_quiet the.Params _)
+    (both (random_quiet the.SharedRandPreviousValue c.random_previous)
+    (both (random_quiet the.SharedRandCurrentValue c.random_current) tt)))))))))))))))))
 
 -- ---- an authority
 

@@ -28,13 +28,14 @@ use Rattle.consensus_terms.specs.declared.router.Routerline.{Routerline}
 use Rattle.consensus_terms.specs.declared.signature.SignatureLine.{SignatureLine}
 use Rattle.consensus_frame.specs.declared.value.ConsensusValue.{ConsensusValue}
 use Rattle.consensus_laws.specs.Items.{consensus_items, footer_items, kind_items, listed, m_text, p_text}
-use Rattle.consensus_laws.specs.Items.{preamble_items}
+use Rattle.consensus_laws.specs.Items.{preamble_items, random_items}
 use Rattle.consensus_laws.specs.Items.{protocol_items, router_items, source_items, time_items, unsigned_items}
 use Rattle.consensus_laws.specs.Items.{version_items, w_text, words_item, router_words, list_if}
 use Rattle.consensus_laws.proofs.ConsensusItems.{ConsensusEntry, ConsensusRow}
 use Rattle.consensus_laws.proofs.ConsensusLists.{param_rows, protocol_rows, version_rows}
 use Rattle.consensus_laws.proofs.ConsensusRows.{flag_rows, footer, kind_rows, preamble, signature_entry, source_section}
-use Rattle.consensus_laws.proofs.ConsensusRows.{time_rows}
+use Rattle.consensus_laws.proofs.ConsensusRandoms.{random_items_are}
+use Rattle.consensus_laws.proofs.ConsensusRows.{random_rows, time_rows}
 use Rattle.consensus_laws.proofs.RouterRows.{m_entries, router_section, w_entries}
 use Rattle.list_values.specs.Params.{params_text}
 
@@ -50,10 +51,13 @@ params_same : (lists : ConsensusLists)
     → item_if the.Params (list_if params_text lists.params) ≡ items_of (param_rows lists)
 params_same lists = simp (items_if, append-nil) refl
 
-by_rows : (k t v f p m : List ConsensusRow)
-    → items_of (k ++ (t ++ (v ++ (f ++ (p ++ m)))))
-    ≡ items_of k ++ (items_of t ++ (items_of v ++ (items_of f ++ (items_of p ++ items_of m))))
-by_rows k t v f p m = simp items_of-append refl
+randoms_same : (c : ConsensusFacts) → random_items c ≡ items_of (random_rows c)
+randoms_same c = simp (random_items_are, map-append, append-nil) refl
+
+by_rows : (k t v f p m r : List ConsensusRow)
+    → items_of (k ++ (t ++ (v ++ (f ++ (p ++ (m ++ r))))))
+    ≡ items_of k ++ (items_of t ++ (items_of v ++ (items_of f ++ (items_of p ++ (items_of m ++ items_of r)))))
+by_rows k t v f p m r = simp items_of-append refl
 
 preamble_same : (flavour : Flavour) (c : ConsensusFacts)
     → preamble_items flavour c ≡ map item_of (entries_in (preamble flavour c))
@@ -65,15 +69,17 @@ preamble_same flavour c =
     let v = versions_same c.lists in
     let p = protocols_same c.lists in
     let m = params_same c.lists in
+    let r = randoms_same c in
     in_a_row kinds time (version_items c.lists) flags (protocol_items c.lists)
-    (item_if the.Params (list_if params_text c.lists.params))
-    ∙ (λ i. kinds ++ (time ++ (v i ++ (flags ++ (p i ++ m i)))))
+    (item_if the.Params (list_if params_text c.lists.params)) (random_items c)
+    ∙ (λ i. kinds ++ (time ++ (v i ++ (flags ++ (p i ++ (m i ++ r i))))))
     ∙ ap (λ (l : List NewItem). first ∷ l)
     (sym (by_rows (kind_rows c) (time_rows c) (version_rows c.lists) (flag_rows c) (protocol_rows c.lists)
-    (param_rows c.lists)))
+    (param_rows c.lists) (random_rows c)))
   where
-    in_a_row : (k t v f p m : List NewItem) → k ++ t ++ v ++ f ++ p ++ m ≡ k ++ (t ++ (v ++ (f ++ (p ++ m))))
-    in_a_row k t v f p m = simp append_assoc refl
+    in_a_row : (k t v f p m r : List NewItem)
+        → k ++ t ++ v ++ f ++ p ++ m ++ r ≡ k ++ (t ++ (v ++ (f ++ (p ++ (m ++ r)))))
+    in_a_row k t v f p m r = simp append_assoc refl
 
 -- ---- the authorities
 

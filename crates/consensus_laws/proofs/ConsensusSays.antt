@@ -28,6 +28,7 @@ use Rattle.consensus_doc.specs.Drafts.{flags_in, lists_of, method_of, preamble_f
 use Rattle.consensus_doc.specs.Saying.{delays_in, source_in, vote_digest_in}
 use Rattle.consensus_laws.specs.Again.{AreFactsInRange}
 use Rattle.consensus_laws.proofs.ConsensusLists.{params_back, protocols_back, versions_back}
+use Rattle.consensus_laws.proofs.ConsensusRandoms.{random_said}
 use Rattle.consensus_laws.proofs.ConsensusRows.{preamble, source_section}
 
 -- what was taken of a section
@@ -90,6 +91,10 @@ module _ {limit : ℕ} {bytes : List ℕ} {taken : List (Taken (Value ConsensusV
         dist_seconds = (delays i).1;
         known_flags = flags_said the.KnownFlags _ c.known_flags are.known_flags (row_read the.KnownFlags read refl) i;
         lists = lists i;
+        random_previous =
+            random_said the.SharedRandPreviousValue c.random_previous (row_read the.SharedRandPreviousValue read refl) i;
+        random_current =
+            random_said the.SharedRandCurrentValue c.random_current (row_read the.SharedRandCurrentValue read refl) i;
         sources = [];
         routers = [];
       }

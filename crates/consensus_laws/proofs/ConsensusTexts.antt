@@ -21,6 +21,7 @@ use Rattle.list_values.specs.VersionLists.{versions_text}
 use Rattle.list_values.specs.Protocols.{protocols_text}
 use Rattle.entry_laws.proofs.WrittenMicros.{word_of_thirty_two}
 use Rattle.line_laws.specs.Again.{AreFlagsInRange}
+use Rattle.random_lines.specs.Values.{random_text}
 use Rattle.consensus_terms.specs.Lines.{line, named_text}
 use Rattle.consensus_terms.specs.Routers as lines
 use Rattle.consensus_terms.specs.Routers.{is_listed, listed_lines, unmeasured_words}
@@ -40,9 +41,10 @@ use Rattle.consensus_laws.specs.Again.{AreFactsInRange, AreListsInRange, IsAutho
 use Rattle.consensus_laws.specs.Again.{IsRouterInRange}
 use Rattle.consensus_laws.specs.Items.{consensus_items, footer_items, kind_items, list_if, listed, m_text, p_text}
 use Rattle.consensus_laws.specs.Items.{preamble_items, protocol_items, router_items, router_words, source_items}
-use Rattle.consensus_laws.specs.Items.{time_items, unsigned_items, version_items, w_text, words_item}
+use Rattle.consensus_laws.specs.Items.{random_items, time_items, unsigned_items, version_items, w_text, words_item}
 use Rattle.consensus_laws.proofs.LineTexts.{filled_words, lines_are, params_are, protocols_are, rest_is}
 use Rattle.consensus_laws.proofs.LineTexts.{versions_are}
+use Rattle.consensus_laws.proofs.ConsensusRandoms.{random_is}
 use Rattle.consensus_laws.proofs.RelayLines.{whole_moment}
 
 -- ---- texts that follow one another
@@ -117,6 +119,14 @@ protocol_lists_are lists =
     (item_if the.RequiredClientProtocols (list_if protocols_text qc))
     (item_if the.RequiredRelayProtocols (list_if protocols_text qr)))
 
+-- the shared random values
+randoms_are : (c : ConsensusFacts) → texts.random_lines c ≡ items_text (random_items c)
+randoms_are c =
+    (λ i. random_is the.SharedRandPreviousValue c.random_previous i
+    ++ random_is the.SharedRandCurrentValue c.random_current i)
+    ∙ sym (two_texts (item_if the.SharedRandPreviousValue (option_map random_text c.random_previous))
+    (item_if the.SharedRandCurrentValue (option_map random_text c.random_current)))
+
 -- the line of flags
 flags_are : (keyword : Keyword) (flags : List (List ℕ)) → AreFlagsInRange flags
     → line (text_of keyword) flags ≡ items_text (bare keyword (set_text flags) ∷ [])
@@ -133,10 +143,11 @@ preamble_is flavour c are =
     let m = item_if the.Params (list_if params_text c.lists.params) in
     (λ i. kinds_are flavour c.method i ++ times_are flavour c are i ++ version_lists_are c.lists are.lists i
     ++ flags_are the.KnownFlags c.known_flags are.known_flags i ++ protocol_lists_are c.lists i
-    ++ params_are the.Params c.lists.params i)
-    ∙ sym (sections (k ++ t ++ v ++ f ++ p) m
+    ++ params_are the.Params c.lists.params i ++ randoms_are c i)
+    ∙ sym (sections (k ++ t ++ v ++ f ++ p ++ m) (random_items c)
+    ∙ ap (λ (l : List ℕ). l ++ items_text (random_items c)) (sections (k ++ t ++ v ++ f ++ p) m
     ∙ ap (λ (l : List ℕ). l ++ items_text m) (sections (k ++ t ++ v ++ f) p
-    ∙ ap (λ (l : List ℕ). l ++ items_text p) (four_texts k t v f)))
+    ∙ ap (λ (l : List ℕ). l ++ items_text p) (four_texts k t v f))))
 
 -- ---- the authorities
 

@@ -4,6 +4,7 @@ pub mod RelayLines
 pub mod SignatureLines
 pub mod SignatureOrder
 pub mod Quiet
+pub mod ConsensusRandoms
 pub mod ConsensusRows
 pub mod AnyOrder
 pub mod RouterRows

@@ -30,6 +30,7 @@ unheard across place (value.Fingerprint identity) is = refl
 unheard across place (value.Object lines) is = refl
 unheard across place (value.Own (own.Delays a b)) is = refl
 unheard across place (value.Own (own.Source source)) is = refl
+unheard across place (value.Own (own.Random random)) is = refl
 unheard across place (value.Own (own.VoteDigest digest)) is = refl
 unheard across place (value.Own (own.Bandwidth bandwidth)) is = refl
 unheard across place (value.Own (own.MicroDigest digest)) is = refl

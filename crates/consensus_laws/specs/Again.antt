@@ -15,7 +15,7 @@ use Rattle.dirdoc_grammar.specs.Writing.{AreWritable}
 use Rattle.frame_values.specs.Ranges.{AreTwenty}
 use Rattle.frame_values.specs.Values.{no_digest}
 use Rattle.list_laws.specs.Ranges.{AreParamsInRange, AreProtocolsInRange, AreVersionsInRange}
-use Rattle.line_laws.specs.Again.{AreFlagsInRange, IsSourceInRange}
+use Rattle.line_laws.specs.Again.{AreFlagsInRange, IsRandomInRange, IsSourceInRange}
 use Rattle.entry_laws.specs.Ranges.{AreThirtyTwo, IsAddressInRange}
 use Rattle.consensus_terms.specs.Signed.{in_order, signed, signed_part}
 use Rattle.consensus_terms.specs.Texts.{facts_text, unsigned}
@@ -97,6 +97,8 @@ pub record AreFactsInRange (flavour : Flavour) (facts : ConsensusFacts) : Type 0
   pub dist_seconds : facts.dist_seconds ≤ 4294967295
   pub known_flags : AreFlagsInRange facts.known_flags
   pub lists : AreListsInRange facts.lists
+  pub random_previous : IfSome facts.random_previous IsRandomInRange
+  pub random_current : IfSome facts.random_current IsRandomInRange
   pub sources : All IsAuthorityInRange facts.sources
   pub routers : All (IsRouterInRange flavour) (listed flavour facts.routers)
   pub ascending : Ascending (listed flavour facts.routers)

@@ -9,6 +9,7 @@ use Rattle.dirdoc_grammar.specs.Writing.{NewItem}
 use Rattle.frame_terms.specs.declared.keyword.Keyword.{Keyword}
 use Rattle.frame_terms.specs.declared.keyword.Keyword.TheVariants as the
 use Rattle.frame_values.specs.Items.{bare, item_if, timed}
+use Rattle.random_lines.specs.Values.{random_text}
 use Rattle.list_values.specs.Params.{params_text}
 use Rattle.list_values.specs.Protocols.{protocols_text}
 use Rattle.list_values.specs.VersionLists.{versions_text}
@@ -62,12 +63,18 @@ protocol_items lists =
     ++ item_if the.RequiredClientProtocols (list_if protocols_text lists.required_client_protocols)
     ++ item_if the.RequiredRelayProtocols (list_if protocols_text lists.required_relay_protocols)
 
+-- the shared random values
+abbrev pub random_items : ConsensusFacts → List NewItem
+random_items c =
+    item_if the.SharedRandPreviousValue (option_map random_text c.random_previous)
+    ++ item_if the.SharedRandCurrentValue (option_map random_text c.random_current)
+
 -- the preamble
 abbrev pub preamble_items : Flavour → ConsensusFacts → List NewItem
 preamble_items flavour c =
     kind_items flavour c.method ++ time_items c ++ version_items c.lists
     ++ bare the.KnownFlags (set_text c.known_flags) ∷ [] ++ protocol_items c.lists
-    ++ item_if the.Params (list_if params_text c.lists.params)
+    ++ item_if the.Params (list_if params_text c.lists.params) ++ random_items c
 
 -- ---- the authorities
 
