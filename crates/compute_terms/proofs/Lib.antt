@@ -1,2 +1,4 @@
 pub mod FlagLaw
+pub mod Majorities
 pub mod Pairs
+pub mod AgreedRandoms

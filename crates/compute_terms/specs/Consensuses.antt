@@ -4,6 +4,8 @@ use Rattle.vote_terms.specs.Votes.{ReadVote, vote_digest}
 use Rattle.compute_terms.specs.Times.{median_of}
 use Rattle.compute_terms.specs.Flags.{known_flags}
 use Rattle.compute_terms.specs.Lists.{listed_params, lists_of}
+use Rattle.compute_terms.specs.Randoms.{agreed_random}
+use Rattle.random_lines.specs.declared.line.RandomLine.TheVariants.{Previous, Current}
 use Rattle.bandwidth_rules.specs.Limits.{unmeasured_limit}
 use Rattle.compute_terms.specs.Routers.{routers}
 use Rattle.bandwidth_rules.specs.Weights.{relay_weights}
@@ -39,6 +41,8 @@ facts_of roster votes = record {
   dist_seconds = median_of (λ vote. vote.says.dist_seconds) votes;
   known_flags = known_flags votes;
   lists = lists_of roster votes;
+  random_previous = agreed_random Previous roster votes;
+  random_current = agreed_random Current roster votes;
   sources = map source_of votes;
   routers = routers roster method (unmeasured_limit (listed_params roster votes)) votes;
 }

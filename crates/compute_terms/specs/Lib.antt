@@ -8,4 +8,5 @@ pub mod Lines
 pub mod Bandwidths
 pub mod Routers
 pub mod Lists
+pub mod Randoms
 pub mod Consensuses

@@ -7,4 +7,4 @@ mod laws;
 
 pub use belong::Belong;
 pub use identity::{EdPart, Identity};
-pub use laws::{knows_flags, pairs_are_alone};
+pub use laws::{agreed_randoms_are_listed, knows_flags, pairs_are_alone, randoms_are_alone};
