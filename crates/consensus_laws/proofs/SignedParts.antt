@@ -7,6 +7,7 @@ use Rattle.std.proofs.lemmas.List.{take_at}
 use Rattle.dirdoc_grammar.specs.Bodies.{object_text}
 use Rattle.frame_terms.specs.declared.keyword.Keyword.TheVariants as the
 use Rattle.bw_weights.specs.declared.position_weights.Weights.{Weights}
+use Rattle.consensus_terms.specs.Flavours.{facts_in}
 use Rattle.consensus_terms.specs.Lines.{line, named_text}
 use Rattle.consensus_terms.specs.Signed.{signature_text, signature_texts, signed, signed_part, signer_text}
 use Rattle.consensus_terms.specs.Texts.{body, facts_text, footer, footer_as_read, unsigned}
@@ -61,7 +62,7 @@ footer_same w =
 text_same : (flavour : Flavour) (c : Consensus) (lines : List SignatureLine)
     → unsigned flavour c ≡ facts_text (with_signatures flavour c lines)
 unfolding unsigned facts_text
-text_same flavour c lines = ap (λ (l : List ℕ). body flavour c.facts ++ l) (footer_same c.weights)
+text_same flavour c lines = ap (λ (l : List ℕ). body flavour (facts_in flavour c.facts) ++ l) (footer_same c.weights)
 
 pub computed_again : ComputedConsensusesAreReadAgain
 computed_again flavour c lines are =

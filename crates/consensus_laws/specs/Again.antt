@@ -17,6 +17,7 @@ use Rattle.frame_values.specs.Values.{no_digest}
 use Rattle.list_laws.specs.Ranges.{AreParamsInRange, AreProtocolsInRange, AreVersionsInRange}
 use Rattle.line_laws.specs.Again.{AreFlagsInRange, IsRandomInRange, IsSourceInRange}
 use Rattle.entry_laws.specs.Ranges.{AreThirtyTwo, IsAddressInRange}
+use Rattle.consensus_terms.specs.Flavours.{facts_in}
 use Rattle.consensus_terms.specs.Signed.{in_order, signed, signed_part}
 use Rattle.consensus_terms.specs.Texts.{facts_text, unsigned}
 use Rattle.consensus_terms.specs.Weights.{weight_words}
@@ -159,11 +160,11 @@ SignedPartsStand = (text : List ℕ) (lines : List SignatureLine) (first : Signa
 
 -- ---- a consensus that was computed
 
--- what was computed, in a flavour, with signatures
+-- what was computed, as the text of a flavour says it, with signatures
 abbrev pub with_signatures : Flavour → Consensus → List SignatureLine → SignedConsensus
 with_signatures flavour c lines = record {
   flavour = flavour;
-  facts = c.facts;
+  facts = facts_in flavour c.facts;
   weights = Some (join_with_byte space (weight_words c.weights));
   signatures = lines;
   signed = None;
