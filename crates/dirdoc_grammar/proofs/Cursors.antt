@@ -32,6 +32,7 @@ by_open limit place begin line so_far (object_lines item b object) bytes text in
     record {
       open_ = object_lines item b (with_line object text);
       kind = kind;
+      behind = tt;
       same = λ more.
           same more
           ∙ object_goes_on limit b line (bytes ++ more) text item object (omega (arith, inside, length-append bytes more)) (found_more limit b line bytes more text inside here) dash
@@ -49,7 +50,7 @@ line_on limit place begin line so_far bytes text inside h dash stands = by_open 
 pub at_behind : (limit place : ℕ) (bytes : List ℕ) → place ≤ length bytes → IsAt bytes (behind limit place)
 at_behind limit place bytes le = record {
   item = λ more. refl;
-  stands = record { open_ = nothing; kind = tt; same = λ more. refl; order = omega arith; within = le };
+  stands = record { open_ = nothing; kind = tt; behind = tt; same = λ more. refl; order = omega arith; within = le };
   taken = omega arith;
   order = omega arith;
   later = omega arith;
@@ -72,6 +73,7 @@ at_more bytes more cursor is =
       stands = record {
         open_ = s.open_;
         kind = s.kind;
+        behind = s.behind;
         same = grown (from_place cursor.limit cursor.place nothing) (from_place cursor.limit line s.open_) bytes more s.same;
         order = s.order;
         within = omega (arith, s.within, longer);
@@ -123,7 +125,7 @@ at_stop bytes cursor stop last is found =
     let limit = cursor.limit in
     record {
       item = λ more. is.item more ∙ found.0 more;
-      stands = record { open_ = s.open_; kind = s.kind; same = λ more. is.item more ∙ s.same more; order = omega (arith, is.taken, s.order); within = s.within };
+      stands = record { open_ = s.open_; kind = s.kind; behind = s.behind; same = λ more. is.item more ∙ s.same more; order = omega (arith, is.taken, s.order); within = s.within };
       taken = omega (arith, is.taken, found.1);
       order = found.2;
       later = s.within;

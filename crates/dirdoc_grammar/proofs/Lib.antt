@@ -8,6 +8,7 @@ pub mod NextItems
 pub mod Endings
 pub mod Quiet
 pub mod Cursors
+pub mod LaterItems
 pub mod Giving
 pub mod Shifts
 pub mod Later

@@ -25,7 +25,7 @@ stops_between limit place line bytes blank ends = (
   blank.order,
   omega arith,
   record {
-    stands = record { open_ = model.nothing; kind = tt; same = blank.same; order = blank.order; within = blank.within };
+    stands = record { open_ = model.nothing; kind = tt; behind = tt; same = blank.same; order = blank.order; within = blank.within };
     ends = elim ends [
       | inl there ↦ inl (there, tt)
       | inr cut ↦ inr cut
@@ -61,6 +61,7 @@ found_open limit place line after bytes item stop last blank read found =
         stands = record {
           open_ = s.open_;
           kind = s.kind;
+          behind = s.behind;
           same = λ more. blank.same more ∙ read.0 more ∙ ap (λ (n : ℕ). from_place limit n (model.keyword_line (seen item)) (bytes ++ more)) (sym read.3) ∙ s.same more;
           order = omega (arith, blank.order, read.1, read.3, s.order);
           within = s.within;

@@ -154,7 +154,7 @@ stops_inside limit first place bytes words item stop last so none line phase end
     let open_ = object_lines item item.after (lines_up_to first place words bytes) in
     rw (none, line, phase)
     (record {
-      stands = record { open_ = open_; kind = refl; same = so.same; order = so.order; within = so.within };
+      stands = record { open_ = open_; kind = refl; behind = tt; same = so.same; order = so.order; within = so.within };
       ends = elim ends [
         | inl there ↦ inl (there, tt)
         | inr cut ↦ inr cut
@@ -203,7 +203,7 @@ object_found limit bytes words item first (Fault fault) begins order found = λ 
 object_found limit bytes words item first (Open stop last) begins order found =
     let s = found.stands in
     record {
-      stands = record { open_ = s.open_; kind = s.kind; same = λ more. begins more ∙ s.same more; order = omega (arith, order, s.order); within = s.within };
+      stands = record { open_ = s.open_; kind = s.kind; behind = s.behind; same = λ more. begins more ∙ s.same more; order = omega (arith, order, s.order); within = s.within };
       ends = found.ends;
     }
 
@@ -213,7 +213,7 @@ begin_found limit bytes item fault (Fault other) failing inside is = λ more. fa
 begin_found limit bytes item fault (Open stop last) failing inside is =
     rw (is.0, is.2, is.3)
     (record {
-      stands = record { open_ = model.keyword_line (seen item); kind = tt; same = λ more. refl; order = omega arith; within = inside };
+      stands = record { open_ = model.keyword_line (seen item); kind = tt; behind = omega arith; same = λ more. refl; order = omega arith; within = inside };
       ends = inr (failing.cut is.1);
     })
 
@@ -222,6 +222,6 @@ pub item_waits : (limit : ℕ) (bytes : List ℕ) (item : Item) (stop : Stop) �
 item_waits limit bytes item stop there line phase =
     rw (line, phase)
     (record {
-      stands = record { open_ = model.keyword_line (seen item); kind = tt; same = λ more. refl; order = omega arith; within = omega (arith, there) };
+      stands = record { open_ = model.keyword_line (seen item); kind = tt; behind = omega arith; same = λ more. refl; order = omega arith; within = omega (arith, there) };
       ends = (there, refl, refl);
     })

@@ -50,6 +50,17 @@ Takes old (Fault fault) new = ((more : List ℕ) → MayFollow old.finished more
 Takes old NotYet new = (old.finished ≡ false) × ((answer : Result (Option model.Item) DocFault) → Settles old answer → ⊥) × (new ≡ old)
 Takes old End new = (old.finished ≡ true) × (left_with old [] ≡ record { items = []; fault = None }) × (new ≡ old)
 
+-- whatever follows, an item that comes first ends at this place or behind it
+abbrev pub EndsNoEarlier : ℕ → Fed → Type 0
+EndsNoEarlier n fed = (more : List ℕ) (item : model.Item) (rest : model.Contents) → left_with fed more ≡ model.also (Some item) rest → n ≤ item.after
+
+-- a fact that holds where nothing is known yet
+abbrev pub IfNotYet : Take → Type 0 → Type 0
+IfNotYet (Item item) fact = Unit {0}
+IfNotYet (Fault fault) fact = Unit {0}
+IfNotYet NotYet fact = fact
+IfNotYet End fact = Unit {0}
+
 -- a fact about the item or the fault that is given, if one is
 abbrev pub IfItem : Take → (item.Item → Type 0) → Type 0
 IfItem (Item item) fact = fact item

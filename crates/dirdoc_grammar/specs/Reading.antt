@@ -103,10 +103,17 @@ IsOf (Object at_) model.nothing = ⊥
 IsOf (Object at_) (model.keyword_line item) = ⊥
 IsOf (Object at_) (model.object_lines item begin object) = begin ≡ at_
 
+-- the item of a keyword line ends at this place or behind it
+abbrev pub EndsFrom : ℕ → model.Open → Type 0
+EndsFrom line model.nothing = Unit {0}
+EndsFrom line (model.keyword_line item) = line ≤ item.after
+EndsFrom line (model.object_lines item begin object) = Unit {0}
+
 -- What is read so far of an item is this, whatever follows the bytes: the next line to read, and what it may continue.
 pub record Stands (limit place : ℕ) (so_far : model.Open) (bytes : List ℕ) (line : ℕ) (phase : Phase) : Type 0 where
   pub open_ : model.Open
   pub kind : IsOf phase open_
+  pub behind : EndsFrom line open_
   pub same : (more : List ℕ) → from_place limit place so_far (bytes ++ more) ≡ from_place limit line open_ (bytes ++ more)
   pub order : place ≤ line
   pub within : line ≤ length bytes

@@ -3,7 +3,7 @@
 ghost use Rattle.std.specs.Prelude.{◌+◌, ◌<◌, ◌≡◌, ◌≤◌, ◌^◌, false, length, true, IsTrue};
 ghost use Rattle.item_terms.specs.Steps.{Open};
 ghost use Rattle.dirdoc_grammar.specs.Cursors.{behind, fed_by, IsAt, IsOver, NoNl, Past};
-ghost use Rattle.dirdoc_grammar.specs.Feeding.{IfItem, Takes};
+ghost use Rattle.dirdoc_grammar.specs.Feeding.{EndsNoEarlier, IfItem, IfNotYet, Takes};
 ghost use Rattle.dirdoc_grammar.specs.Reading.{IsOf};
 ghost use Rattle.dirdoc_grammar.specs.Seen.{seen, LiesInOrder};
 
@@ -129,6 +129,7 @@ impl Cursor {
         requires at { IsAt bytes.now self }
         requires short { length bytes.now < 2 ^ 62 }
         ensures takes { Takes (fed_by self bytes.now true) result.0 (fed_by result.1 bytes.now true) }
+        ensures later { IfNotYet result.0 (EndsNoEarlier (length bytes.now) (fed_by result.1 bytes.now false)) }
         ensures at { IsAt bytes.now result.1 }
         ensures limit { result.1.limit ≡ self.limit }
         ensures order { IfItem result.0 (λ item. LiesInOrder (seen item)) }
@@ -148,6 +149,7 @@ impl Cursor {
         requires at { IsAt bytes.now self }
         requires short { length bytes.now < 2 ^ 62 }
         ensures takes { Takes (fed_by self bytes.now false) result.0 (fed_by result.1 bytes.now false) }
+        ensures later { IfNotYet result.0 (EndsNoEarlier (length bytes.now) (fed_by result.1 bytes.now false)) }
         ensures at { IsAt bytes.now result.1 }
         ensures limit { result.1.limit ≡ self.limit }
         ensures order { IfItem result.0 (λ item. LiesInOrder (seen item)) }
@@ -179,15 +181,17 @@ impl Cursor {
         requires at { IsAt bytes.now self.old }
         requires short { length bytes.now < 2 ^ 62 }
         ensures takes { Takes (fed_by self.old bytes.now finished) result (fed_by self.new bytes.now finished) }
+        ensures later { IfNotYet result (EndsNoEarlier (length bytes.now) (fed_by self.new bytes.now false)) }
         ensures at { IsAt bytes.now self.new }
         ensures limit { self.new.limit ≡ self.old.limit }
         ensures order { IfItem result (λ item. LiesInOrder (seen item)) }
     {
-        let (taken, cursor) = if finished {
-            self.take_last(bytes)
-        } else {
-            self.onward(bytes).take_more(bytes)
-        };
+        if finished {
+            let (taken, cursor) = self.take_last(bytes);
+            *self = cursor;
+            return taken;
+        }
+        let (taken, cursor) = self.onward(bytes).take_more(bytes);
         *self = cursor;
         taken
     }
