@@ -1,6 +1,7 @@
 // A vote: its bytes, and where its texts stand.
 ghost use Rattle.std.specs.Prelude.{◌≡◌, ◌≤◌, ◌<◌, ◌^◌, length, option_map, slice_index_or};
 ghost use Rattle.dir_bytes.specs.Causes.{last_moment};
+ghost use Rattle.dir_values.specs.Numbers.{numbers_in};
 ghost use Rattle.vote_terms.specs.Entries.{Ascending};
 ghost use Rattle.vote_terms.specs.Votes.{rank_of, vote_digest};
 ghost use Rattle.vote_doc.specs.Facts as facts;
@@ -80,6 +81,16 @@ impl Vote {
         ensures { result ≡ vote_digest self.now }
     {
         Digest1(Sha1::digest(self.signed_part()))
+    }
+
+    /// The text of the `consensus-methods` line, where there is one.
+    pub fn methods(&self) -> Option<&[u8]>
+        ensures { option_map (λ text. numbers_in text.now) result ≡ self.now.says.methods }
+    {
+        match self.kept.head.methods {
+            Some(span) => Some(part(&self.bytes, span)),
+            None => None,
+        }
     }
 
     /// When the vote was published, in seconds since 1970-01-01 00:00:00 UTC.
