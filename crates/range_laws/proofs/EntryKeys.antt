@@ -17,7 +17,7 @@ use Rattle.frame_values.specs.Values.{item_at, own_of_value}
 use Rattle.frame_values.specs.declared.values.Value.{Value}
 use Rattle.frame_values.specs.declared.values.Value.TheVariants as value
 use Rattle.frame_laws.proofs.KnownWords.{same-through}
-use Rattle.relay_entries.specs.declared.listed.Listed.{Listed}
+use Rattle.vote_frame.specs.declared.across.Across.{Across}
 use Rattle.relay_entries.specs.declared.said.EdOpinion.{EdOpinion}
 use Rattle.relay_entries.specs.declared.said.EdOpinion.TheVariants as opinion
 use Rattle.relay_entries.specs.declared.said.EntryValue.TheVariants as entry_said
@@ -120,7 +120,7 @@ no_row section.Certificate other = refl
 no_row section.Entry other = absurd (other refl)
 no_row section.Footer other = refl
 
-not_key : (name : VoteSection) (across : Listed) (item : Item) (one : VoteTaken) → (name ≡ section.Entry → ⊥)
+not_key : (name : VoteSection) (across : Across) (item : Item) (one : VoteTaken) → (name ≡ section.Entry → ⊥)
     → IsItemOf vote_tables across name item one → same one.keyword the.Id ≡ false
 not_key name across item one other t = by (same one.keyword the.Id) refl
   where
@@ -147,31 +147,31 @@ AroundHasNone None = Unit {0}
 AroundHasNone (Some outer) = HasNone outer.taken
 
 -- the key of the open section is remembered; there is none but in an entry, and none in the section around
-record IsOpen (across : Listed) (name : VoteSection) (taken : List VoteTaken) (around : Option VoteGroup) : Type 0 where
-  known : (key : List ℕ) → SaysKey taken key → HasKey across key
+record IsOpen (across : Across) (name : VoteSection) (taken : List VoteTaken) (around : Option VoteGroup) : Type 0 where
+  known : (key : List ℕ) → SaysKey taken key → HasKey across.listed key
   quiet : (name ≡ section.Entry → ⊥) → HasNone taken
   outer : AroundHasNone around
 
 -- of the keys that are remembered, none but the open section's is said; and no two sections say one
-record HasFresh (across : Listed) (taken : List VoteTaken) (groups : List VoteGroup) : Type 0 where
-  fresh : (key : List ℕ) → HasKey across key → (SaysKey taken key → ⊥) → NoneSays key groups
+record HasFresh (across : Across) (taken : List VoteTaken) (groups : List VoteGroup) : Type 0 where
+  fresh : (key : List ℕ) → HasKey across.listed key → (SaysKey taken key → ⊥) → NoneSays key groups
   apart : AreApart groups
 
-abbrev Rest : Listed → Open VoteSection (Value VoteValue) → List Item → Document VoteSection (Value VoteValue) → Type 0
+abbrev Rest : Across → Open VoteSection (Value VoteValue) → List Item → Document VoteSection (Value VoteValue) → Type 0
 Rest across open_ items document =
     IsOpen across open_.section open_.taken open_.around → HasFresh across open_.taken document.groups
 
 -- the section alone
-alone_fresh : (across : Listed) (name : VoteSection) (taken : List VoteTaken)
+alone_fresh : (across : Across) (name : VoteSection) (taken : List VoteTaken)
     → HasFresh across taken (group name taken ∷ [])
 alone_fresh across name taken = record {
   fresh = λ key has other. (other, tt);
   apart = (λ key says. tt, tt);
 }
 
-module _ (before after : Listed) (one : VoteTaken) (note : vote_tables.note before one ≡ Ok after) where
+module _ (before after : Across) (one : VoteTaken) (note : vote_tables.note before one ≡ Ok after) where
   -- a key that is remembered is not said once more
-  more_says : (taken : List VoteTaken) (key : List ℕ) → HasKey before key → (SaysKey taken key → ⊥)
+  more_says : (taken : List VoteTaken) (key : List ℕ) → HasKey before.listed key → (SaysKey taken key → ⊥)
       → SaysKey (taken ++ one ∷ []) key → ⊥
   more_says taken key has other says = by (key_more taken one key says)
     where
@@ -180,11 +180,11 @@ module _ (before after : Listed) (one : VoteTaken) (note : vote_tables.note befo
       by (inr is) = false≢true (sym (key_noted before after one note key is).0 ∙ has)
 
   -- and one that is said is remembered
-  more_known : (taken : List VoteTaken) → ((key : List ℕ) → SaysKey taken key → HasKey before key) → (key : List ℕ)
-      → SaysKey (taken ++ one ∷ []) key → HasKey after key
+  more_known : (taken : List VoteTaken) → ((key : List ℕ) → SaysKey taken key → HasKey before.listed key) → (key : List ℕ)
+      → SaysKey (taken ++ one ∷ []) key → HasKey after.listed key
   more_known taken known key says = by (key_more taken one key says)
     where
-      by : SaysKey taken key ⊎ IsKeyOf one key → HasKey after key
+      by : SaysKey taken key ⊎ IsKeyOf one key → HasKey after.listed key
       by (inl is) = keys_stay before after one note key (known key is)
       by (inr is) = (key_noted before after one note key is).1
 
@@ -199,7 +199,7 @@ module _ (before after : Listed) (one : VoteTaken) (note : vote_tables.note befo
 
   -- a section in front of those that follow, whose first item says no key
   behind_fresh : (name : VoteSection) (taken next : List VoteTaken) (groups : List VoteGroup) → HasNone next
-      → ((key : List ℕ) → SaysKey taken key → HasKey before key) → HasFresh after next groups
+      → ((key : List ℕ) → SaysKey taken key → HasKey before.listed key) → HasFresh after next groups
       → HasFresh before taken (group name taken ∷ groups)
   behind_fresh name taken next groups none known is = record {
     fresh = λ key has other.

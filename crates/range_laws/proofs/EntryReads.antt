@@ -89,7 +89,7 @@ bandwidths_read item = with_arguments_read (arguments_of item) no_bandwidths (re
 -- ---- microdescriptors
 
 -- what base64 spells by this length
-thirty_two : (text : List ℕ) (digest : Digest2) → IsBytes text → digest2 text ≡ Some digest → AreThirtyTwo digest.0
+pub thirty_two : (text : List ℕ) (digest : Digest2) → IsBytes text → digest2 text ≡ Some digest → AreThirtyTwo digest.0
 thirty_two text digest are is = by (base64 32 text) refl is
   where
     same_digest : (b : List ℕ) → Some (record { 0 = b }) ≡ Some digest → b ≡ digest.0

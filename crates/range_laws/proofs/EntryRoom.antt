@@ -8,7 +8,7 @@ use Rattle.frame_terms.specs.Documents.{Document, document_of}
 use Rattle.frame_terms.specs.Keywords.{same}
 use Rattle.frame_terms.specs.Order.{inner, opener}
 use Rattle.frame_values.specs.declared.values.Value.{Value}
-use Rattle.relay_entries.specs.declared.listed.Listed.{Listed}
+use Rattle.vote_frame.specs.declared.across.Across.{Across}
 use Rattle.table_laws.specs.Items.{IsItemOf}
 use Rattle.table_laws.proofs.Rules.{Rules, holds}
 use Rattle.vote_frame.specs.Tables.{vote_tables}
@@ -37,15 +37,15 @@ AroundIsNone None = Unit {0}
 AroundIsNone (Some outer) = entries_of outer.section ≡ 0
 
 -- what is counted and the entries that follow are no more than a vote may have
-abbrev Rest : Listed → Open VoteSection (Value VoteValue) → List Item → Document VoteSection (Value VoteValue) → Type 0
+abbrev Rest : Across → Open VoteSection (Value VoteValue) → List Item → Document VoteSection (Value VoteValue) → Type 0
 Rest across open_ items document =
-    across.count ≤ 65535 → AroundIsNone open_.around
-    → entries_among document.groups + across.count ≤ 65535 + entries_of open_.section
+    across.listed.count ≤ 65535 → AroundIsNone open_.around
+    → entries_among document.groups + across.listed.count ≤ 65535 + entries_of open_.section
 
 -- the item that begins a section counts it
-begins_counted : (name : VoteSection) (before after : Listed) (item : Item) (one : VoteTaken)
-    → IsItemOf vote_tables before name item one → vote_tables.note before one ≡ Ok after → before.count ≤ 65535
-    → same (opener vote_tables name) one.keyword ≡ true → before.count + entries_of name ≤ after.count
+begins_counted : (name : VoteSection) (before after : Across) (item : Item) (one : VoteTaken)
+    → IsItemOf vote_tables before name item one → vote_tables.note before one ≡ Ok after → before.listed.count ≤ 65535
+    → same (opener vote_tables name) one.keyword ≡ true → before.listed.count + entries_of name ≤ after.listed.count
 begins_counted section.Entry before after item one t note small opens =
     let is = (counted section.Entry before after item one t note small).relay (opener_relay before item one t opens) in
     omega (arith, is)

@@ -134,4 +134,6 @@ micro_says {bytes} {v} are (kind.Entry entry.Ed) says =
     was_read MicroIs (value_at (kind.Entry entry.Ed) says.item) v
     (lifted_reads (λ (opinion : EdOpinion). Unit {0}) MicroIs (ed_of says.item) of (any_reads (ed_of says.item))
     (λ opinion is. tt)) (said says).1
+micro_says {bytes} {v} are (kind.Random line) says =
+    was_read MicroIs (value_at (kind.Random line) says.item) v tt (said says).1
 micro_says {bytes} {v} are of says = quiet_micro v (kinds_pass says.remembered of says.item v refl says.says)

@@ -114,6 +114,8 @@ module _ (bytes : List ℕ) where
         ip = authority.source.ip;
         dir_port = authority.source.dir_port;
         or_port = authority.source.or_port;
+        random_previous = head.randoms.previous;
+        random_current = head.randoms.current;
         certificate = head.certificate;
         entries = ranged;
         signature = signature;
@@ -128,6 +130,8 @@ module _ (bytes : List ℕ) where
             address = authority.source.address;
           };
           contact = authority.contact;
+          random_previous = head.randoms.previous;
+          random_current = head.randoms.current;
           certificate = head.certificate;
           keys = has_bytes bytes kept.head.certificate are;
           entries = each;

@@ -8,6 +8,7 @@ use Rattle.dirdoc_grammar.specs.Writing.{IsLineRest}
 use Rattle.frame_terms.specs.Documents.{group}
 use Rattle.frame_terms.specs.Keywords.{same}
 use Rattle.frame_terms.specs.Rows.{row}
+use Rattle.frame_terms.specs.Sections.{row_of}
 use Rattle.frame_terms.specs.declared.document.Group.{Group}
 use Rattle.frame_terms.specs.declared.keyword.Keyword.TheVariants as the
 use Rattle.frame_terms.specs.declared.row.Count.TheVariants.{One, Optional}
@@ -20,9 +21,14 @@ use Rattle.certificate_laws.specs.Again.{SaysInRange}
 use Rattle.table_laws.specs.Order.{BeginsWithOpener}
 use Rattle.vote_doc.specs.Heads.{with_authority, with_certificate, with_footer, with_preamble}
 use Rattle.vote_doc.specs.Kept.{kept_with, none_kept}
+use Rattle.vote_doc.specs.Saying.{random_in}
 use Rattle.vote_doc.specs.Saying.{delays_in, delays_of_value, signature_in, signature_of_value, source_in, source_of_value}
 use Rattle.vote_doc.specs.declared.head.Head.{Head}
 use Rattle.vote_doc.specs.declared.kept.Kept.{Kept}
+use Rattle.line_laws.specs.Again.{IsRandomInRange}
+use Rattle.random_lines.specs.declared.line.RandomLine.{RandomLine}
+use Rattle.random_lines.specs.declared.line.RandomLine.TheVariants as line
+use Rattle.vote_frame.specs.Across.{keyword_of}
 use Rattle.vote_frame.specs.Tables.{vote_tables}
 use Rattle.vote_frame.specs.declared.frame.VoteKind.TheVariants as kind
 use Rattle.vote_frame.specs.declared.frame.VoteSection.{VoteSection}
@@ -32,6 +38,7 @@ use Rattle.vote_frame.specs.declared.frame.VoteValue.TheVariants as own
 use Rattle.range_laws.proofs.CertRanges.{HaveCertificates, TextIs, section_says, text_ranged, twenty_zeros}
 use Rattle.range_laws.proofs.KeptEntries.{AreKept, IsKept, KeptBelow, kept_more, text_in_ranged}
 use Rattle.range_laws.proofs.ReadNames.{IsName}
+use Rattle.range_laws.proofs.RandomReads.{RandomIs, either_ranged, random_ranged, random_says}
 use Rattle.range_laws.proofs.VoteReads.{AreFew, AreKnown, DelaysAre, IsSigned, IsSourceIn, SignatureIs, SourceIs, delays_say}
 use Rattle.range_laws.proofs.VoteReads.{flags_say, methods_say, params_say, rest_says, signature_says, source_says}
 use Rattle.range_laws.proofs.VoteStands.{EachVoteStands, VoteTaken, item_says, only_certificates, opener_found}
@@ -82,6 +89,11 @@ module _ (bytes : List ℕ) where
     pub flag_thresholds : IfSome (option_map (part bytes) head.flag_thresholds) IsLineRest
     pub params : IfSome (option_map (part bytes) head.lists.params) (AreFew 1024)
 
+  -- of its shared random values
+  pub record RandomsAre (head : Head) : Type 0 where
+    pub previous : IfSome head.random_previous IsRandomInRange
+    pub current : IfSome head.random_current IsRandomInRange
+
   -- of the authority
   pub record AuthorityIs (head : Head) : Type 0 where
     pub source : IsSourceIn bytes head.source
@@ -90,6 +102,7 @@ module _ (bytes : List ℕ) where
   -- of every section but the authority's: this holds too where nothing was read
   pub record HeadIs (head : Head) : Type 0 where
     pub preamble : PreambleIs head
+    pub randoms : RandomsAre head
     pub certificate : SaysInRange (cert_in bytes head.certificate)
     pub signature : IsSigned head.signature
 
@@ -114,6 +127,7 @@ module _ (bytes : List ℕ) where
         flag_thresholds = tt;
         params = tt;
       };
+      randoms = record { previous = tt; current = tt };
       certificate = record { address = tt; fingerprint = twenty_zeros; published = omega arith; expires = omega arith };
       signature = (twenty_zeros, twenty_zeros);
     };
@@ -147,6 +161,38 @@ module _ (bytes : List ℕ) where
         params = text_ranged (AreFew 1024) bytes (item_at taken the.Params)
             (item_says bytes (TextIs (AreFew 1024) bytes) section.Preamble taken the.Params
             (row the.Params Optional kind.Params) other refl (λ v says. params_say says) each);
+      }
+
+  -- the shared random value that a section has on a line
+  random_is : IsBytes bytes → (name : VoteSection) (taken : List VoteTaken) (line : RandomLine)
+      → (name ≡ section.Certificate → ⊥)
+      → row_of (vote_tables.rows name) (keyword_of line) ≡ Some (row (keyword_of line) Optional (kind.Random line))
+      → EachVoteStands bytes name taken → IfSome (random_in (item_at taken (keyword_of line))) IsRandomInRange
+  random_is are name taken line other there each =
+      random_ranged (item_at taken (keyword_of line))
+      (item_says bytes RandomIs name taken (keyword_of line) (row (keyword_of line) Optional (kind.Random line)) other
+      there (λ v says. random_says are line says) each)
+
+  randoms_of_preamble : IsBytes bytes → (head : Head) (taken : List VoteTaken)
+      → EachVoteStands bytes section.Preamble taken → RandomsAre (with_preamble head taken)
+  unfolding same
+  randoms_of_preamble are head taken each =
+      let other : section.Preamble ≡ section.Certificate → ⊥ = λ e. absurd (cc (e)) in
+      record {
+        previous = random_is are section.Preamble taken line.Previous other refl each;
+        current = random_is are section.Preamble taken line.Current other refl each;
+      }
+
+  randoms_of_authority : IsBytes bytes → (head : Head) (taken : List VoteTaken)
+      → EachVoteStands bytes section.Authority taken → RandomsAre head → RandomsAre (with_authority head taken)
+  unfolding same
+  randoms_of_authority are head taken each is =
+      let other : section.Authority ≡ section.Certificate → ⊥ = λ e. absurd (cc (e)) in
+      record {
+        previous = either_ranged head.random_previous (random_in (item_at taken (keyword_of line.Previous))) is.previous
+            (random_is are section.Authority taken line.Previous other refl each);
+        current = either_ranged head.random_current (random_in (item_at taken (keyword_of line.Current))) is.current
+            (random_is are section.Authority taken line.Current other refl each);
       }
 
   authority_is : (head : Head) (taken : List VoteTaken) → EachVoteStands bytes section.Authority taken
@@ -227,6 +273,7 @@ module _ (bytes : List ℕ) where
   one_more are section.Preamble taken kept left each begins is = record {
     head = record {
       preamble = preamble_is kept.head taken each;
+      randoms = randoms_of_preamble are kept.head taken each;
       certificate = is.head.certificate;
       signature = is.head.signature;
     };
@@ -237,6 +284,7 @@ module _ (bytes : List ℕ) where
   one_more are section.Authority taken kept left each begins is = record {
     head = record {
       preamble = of_authority kept.head taken is.head.preamble;
+      randoms = randoms_of_authority are kept.head taken each is.head.randoms;
       certificate = is.head.certificate;
       signature = is.head.signature;
     };
@@ -246,6 +294,7 @@ module _ (bytes : List ℕ) where
   one_more are section.Certificate taken kept left each begins is = record {
     head = record {
       preamble = of_certificate kept.head taken is.head.preamble;
+      randoms = record { previous = is.head.randoms.previous; current = is.head.randoms.current };
       certificate = section_says vote_tables section.Certificate kind.Certificate certificates bytes taken each;
       signature = is.head.signature;
     };
@@ -262,6 +311,7 @@ module _ (bytes : List ℕ) where
   one_more are section.Footer taken kept left each begins is = record {
     head = record {
       preamble = of_footer kept.head taken is.head.preamble;
+      randoms = record { previous = is.head.randoms.previous; current = is.head.randoms.current };
       certificate = is.head.certificate;
       signature = signature_is taken each;
     };

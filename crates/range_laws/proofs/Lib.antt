@@ -17,6 +17,7 @@ pub mod VoteStands
 pub mod EntryTexts
 pub mod VoteTexts
 pub mod KeptEntries
+pub mod RandomReads
 pub mod KeptHeads
 pub mod Noting
 pub mod EntryRoom

@@ -28,7 +28,8 @@ bytes_cons : (x : ℕ) (xs : List ℕ) → x < 256 → IsBytes xs → IsBytes (x
 bytes_cons x xs h rest zero = h
 bytes_cons x xs h rest (suc i) = rest i
 
-bytes_take : (n : ℕ) (xs : List ℕ) → IsBytes xs → IsBytes (take n xs)
+-- the front of bytes
+pub bytes_take : (n : ℕ) (xs : List ℕ) → IsBytes xs → IsBytes (take n xs)
 bytes_take zero xs h i = omega arith
 bytes_take (suc n) [] h i = omega arith
 bytes_take (suc n) (x ∷ xs) h zero = h 0

@@ -175,6 +175,8 @@ vote_within facts is within = record {
   ip = is.ip;
   dir_port = is.dir_port;
   or_port = is.or_port;
+  random_previous = is.random_previous;
+  random_current = is.random_current;
   certificate = record { says = is.certificate; fits = within.certificate };
   entries = is.entries;
   signature = is.signature;

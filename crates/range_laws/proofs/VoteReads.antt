@@ -193,9 +193,9 @@ made_reads P Q (Err place) of reads is = tt
 
 -- its value, and that it passes no limit
 pub said : {bytes : List ℕ} {of : VoteKind} {v : Value VoteValue} (says : VoteSays bytes of v)
-    → (over_limit says.remembered of says.item ≡ Ok tt) × (value_at of says.item ≡ Ok v)
+    → (over_limit says.remembered.listed of says.item ≡ Ok tt) × (value_at of says.item ≡ Ok v)
 said {bytes} {of} {v} says =
-    no_fault (over_limit says.remembered of says.item) (value_at of says.item) v says.says
+    no_fault (over_limit says.remembered.listed of says.item) (value_at of says.item) v says.says
 
 pub delays_say : {bytes : List ℕ} {v : Value VoteValue} → VoteSays bytes kind.Delays v → DelaysAre v
 delays_say {bytes} {v} says =

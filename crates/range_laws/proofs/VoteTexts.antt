@@ -37,7 +37,12 @@ use Rattle.vote_terms.specs.declared.lists.VoteLists.{VoteLists}
 use Rattle.vote_text.specs.Entries.{entries_items}
 use Rattle.vote_text.specs.Lists.{param_items, protocol_items, recommended_items, required_items, version_items}
 use Rattle.vote_text.specs.Texts.{algorithm_text, authority_items, delays_text, flag_items, footer_items, kind_items}
+use Rattle.vote_text.specs.Texts.{random_items}
 use Rattle.vote_text.specs.Texts.{preamble_items, signer_text, source_text, time_items, vote_items}
+use Rattle.line_laws.specs.Again.{IsRandomInRange}
+use Rattle.random_lines.specs.Values.{random_text}
+use Rattle.random_lines.specs.declared.value.SharedRandom.{SharedRandom}
+use Rattle.vote_laws.proofs.VoteRandoms.{random_fills}
 use Rattle.vote_laws.specs.Again.{AreFlags, AreListsInRange, AreMethods, AreVoteParams, IsEntryInRange, IsSignatureInRange}
 use Rattle.range_laws.proofs.CertItems.{HasBytes, cert_may}
 use Rattle.range_laws.proofs.EntryTexts as entry
@@ -189,6 +194,8 @@ pub record SaysWhole (facts : VoteFacts) : Type 0 where
   pub lists : AreListsInRange facts.lists
   pub source : IsSource facts
   pub contact : IfSome facts.contact IsLineRest
+  pub random_previous : IfSome facts.random_previous IsRandomInRange
+  pub random_current : IfSome facts.random_current IsRandomInRange
   pub certificate : SaysInRange facts.certificate
   pub keys : HasBytes facts.certificate
   pub entries : All IsEntryInRange facts.entries
@@ -212,11 +219,24 @@ preamble_may facts says =
     (versions_may facts.lists says.lists)) (flags_may facts says.known_flags says.flag_thresholds))
     (protocols_may facts.lists says.lists)) (params_may facts.lists.params says.lists.params)
 
+random_if_may : (keyword : Keyword) (random : Option SharedRandom) → IfSome random IsRandomInRange
+    → MayWrite (item_if keyword (option_map random_text random))
+random_if_may keyword random are =
+    if_may keyword (option_map random_text random) (made_rest IsRandomInRange random_text random are random_fills)
+
+randoms_may : (facts : VoteFacts) → SaysWhole facts → MayWrite (random_items facts)
+randoms_may facts says =
+    All-append IsItem (item_if the.SharedRandPreviousValue (option_map random_text facts.random_previous))
+    (item_if the.SharedRandCurrentValue (option_map random_text facts.random_current))
+    (random_if_may the.SharedRandPreviousValue facts.random_previous says.random_previous)
+    (random_if_may the.SharedRandCurrentValue facts.random_current says.random_current)
+
 authority_may : (facts : VoteFacts) → SaysWhole facts → MayWrite (authority_items facts)
 authority_may facts says =
-    first_may (bare the.DirSource (source_text facts)) (item_if the.Contact facts.contact)
+    first_may (bare the.DirSource (source_text facts)) (item_if the.Contact facts.contact ++ random_items facts)
     (bare_may the.DirSource (source_text facts) (source_rest facts says.source))
-    (if_may the.Contact facts.contact says.contact)
+    (All-append IsItem (item_if the.Contact facts.contact) (random_items facts)
+    (if_may the.Contact facts.contact says.contact) (randoms_may facts says))
 
 pub vote_may : (facts : VoteFacts) → SaysWhole facts → MayWrite (vote_items facts)
 vote_may facts says =

@@ -8,6 +8,7 @@ use Rattle.dirdoc_laws.specs.Written.{AreWithinLimits, IsItem}
 use Rattle.frame_values.specs.Ranges.{AreTwenty}
 use Rattle.authority_certs.specs.Texts.{cert_text}
 use Rattle.certificate_laws.specs.Again.{SaysInRange}
+use Rattle.line_laws.specs.Again.{IsRandomInRange}
 use Rattle.vote_terms.specs.Votes.{ReadVote}
 use Rattle.vote_terms.specs.declared.facts.VoteFacts.{VoteFacts}
 use Rattle.vote_text.specs.Texts.{vote_items}
@@ -32,6 +33,8 @@ pub record IsInRangeButForLimits (facts : VoteFacts) : Type 0 where
   pub ip : facts.ip < 2 ^ 32
   pub dir_port : facts.dir_port ≤ 65535
   pub or_port : facts.or_port ≤ 65535
+  pub random_previous : IfSome facts.random_previous IsRandomInRange
+  pub random_current : IfSome facts.random_current IsRandomInRange
   pub certificate : SaysInRange facts.certificate
   pub entries : AreEntriesInRange facts.entries
   pub signature : IsSignatureInRange facts.signature

@@ -1,0 +1,98 @@
+-- A shared random value that is read is in range, in whichever section of a vote it stands.
+use Rattle.std.proofs.Common.{◌≡◌, ℕ, ◌≤◌, List, Option, Some, None, Result, Ok, Err}
+use Rattle.std.specs.Prelude.{IfSome, length, slice_index, take, ◌==◌, ◌&&◌, if◌then◌else◌}
+use Rattle.std.proofs.Common.{Bool, true, false}
+use Rattle.std.specs.Option.{option_or}
+use Rattle.base64.specs.GeneralPurpose.{IsBytes}
+use Rattle.item_terms.specs.Items.{Item}
+use Rattle.dir_values.specs.Arguments.{Argument}
+use Rattle.dir_values.specs.Numbers.{number_of}
+use Rattle.dir_values.specs.declared.digest.Digest2.{Digest2}
+use Rattle.frame_values.specs.Arguments.{arguments_of, field, front, next, others}
+use Rattle.frame_values.specs.Values.{own_of_value}
+use Rattle.frame_values.specs.declared.values.Value.{Value}
+use Rattle.frame_values.specs.declared.values.Value.TheVariants as value
+use Rattle.entry_laws.specs.Ranges.{AreThirtyTwo}
+use Rattle.line_laws.specs.Again.{IsRandomInRange}
+use Rattle.random_lines.specs.Lines.{random_of}
+use Rattle.random_lines.specs.Values.{padded_digest, without_padding}
+use Rattle.random_lines.specs.declared.line.RandomLine.{RandomLine}
+use Rattle.random_lines.specs.declared.value.SharedRandom.{SharedRandom}
+use Rattle.vote_doc.specs.Saying.{random_in, random_of_value}
+use Rattle.vote_frame.specs.Tables.{value_at}
+use Rattle.vote_frame.specs.declared.frame.VoteKind.TheVariants as kind
+use Rattle.vote_frame.specs.declared.frame.VoteValue.{VoteValue}
+use Rattle.vote_frame.specs.declared.frame.VoteValue.TheVariants as own
+use Rattle.range_laws.proofs.EntryReads.{thirty_two}
+use Rattle.range_laws.proofs.ItemArguments.{IsSound, are_found, others_found}
+use Rattle.range_laws.proofs.ReadBytes.{bytes_take}
+use Rattle.range_laws.proofs.ReadSteps.{ReadAs, field_reads, next_reads, number_within, was_read}
+use Rattle.range_laws.proofs.RelayReads.{front_bytes}
+use Rattle.range_laws.proofs.VoteReads.{VoteSays, said}
+use Rattle.range_laws.proofs.VoteStands.{VoteTaken}
+
+-- without its padding a text is of bytes too
+bare_bytes : (text : List ℕ) → IsBytes text → IsBytes (without_padding text)
+bare_bytes text are = by ((length text == 44) && (slice_index text 43 == 61))
+  where
+    by : (t : Bool) → IsBytes (if t then take 43 text else text)
+    by true = bytes_take 43 text are
+    by false = are
+
+abbrev IsCount : ℕ → Type 0
+IsCount n = n ≤ 4294967295
+
+abbrev IsValue : Digest2 → Type 0
+IsValue value = AreThirtyTwo value.0
+
+abbrev random_made : ℕ → Digest2 → Result SharedRandom ℕ
+random_made count value = Ok (record { count = count; value = value })
+
+random_reads : (bytes : List ℕ) (item : Item) → IsBytes bytes → IsSound bytes item → ReadAs IsRandomInRange (random_of item)
+random_reads bytes item are sound =
+    let first = front item.place (arguments_of item) in
+    let behind = others (arguments_of item) in
+    let second = front item.place behind in
+    let found = others_found bytes (arguments_of item) (are_found sound) in
+    let f0 = field first (number_of first.text) in
+    let f1 = field second (padded_digest second.text) in
+    let m1 = λ (n : ℕ) (d : Digest2). random_made n d in
+    let m0 = λ (n : ℕ). next f1 (m1 n) in
+    next_reads IsCount IsRandomInRange f0 m0
+    (field_reads IsCount first (number_of first.text) (λ n is. number_within 4294967295 first.text n is)) (λ n small.
+    next_reads IsValue IsRandomInRange f1 (m1 n)
+    (field_reads IsValue second (padded_digest second.text) (λ d is.
+    thirty_two (without_padding second.text) d
+    (bare_bytes second.text (front_bytes bytes item.place behind are found)) is))
+    (λ d its. record { count = small; length_is = its.count; each = its.each }))
+
+-- ---- what an item says
+
+abbrev pub RandomIs : Value VoteValue → Type 0
+RandomIs (value.Own (own.Random line (Ok random))) = IsRandomInRange random
+RandomIs _ = Unit {0}
+
+pub random_says : {bytes : List ℕ} {v : Value VoteValue} → IsBytes bytes → (line : RandomLine)
+    → VoteSays bytes (kind.Random line) v → RandomIs v
+random_says {bytes} {v} are line says =
+    was_read RandomIs (value_at (kind.Random line) says.item) v
+    (by (random_of says.item) (random_reads bytes says.item are says.sound)) (said says).1
+  where
+    by : (read : Result SharedRandom ℕ) → ReadAs IsRandomInRange read → RandomIs (value.Own (own.Random line read))
+    by (Ok random) is = is
+    by (Err place) is = tt
+
+-- the value of an item, where there is one
+pub random_ranged : (one : Option VoteTaken) → IfSome one (λ o. RandomIs o.value) → IfSome (random_in one) IsRandomInRange
+random_ranged None is = tt
+random_ranged (Some one) is = by one.value is
+  where
+    by : (v : Value VoteValue) → RandomIs v → IfSome (random_of_value (own_of_value v)) IsRandomInRange
+    by (value.Own (own.Random line (Ok random))) it = it
+    by _ it = tt
+
+-- that of the preamble, or else that of the authority's section
+pub either_ranged : (known other : Option SharedRandom) → IfSome known IsRandomInRange → IfSome other IsRandomInRange
+    → IfSome (option_or known other) IsRandomInRange
+either_ranged None other is its = its
+either_ranged (Some random) other is its = is
