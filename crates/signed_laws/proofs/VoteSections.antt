@@ -24,7 +24,7 @@ use Rattle.frame_values.specs.Arguments.{arguments_of, front, next}
 use Rattle.frame_values.specs.Faults.{at_place}
 use Rattle.frame_values.specs.Signatures.{after_algorithm, algorithm_if, is_space, signed_by}
 use Rattle.authority_certs.specs.declared.frame.CertKind.TheVariants as cert
-use Rattle.relay_entries.specs.declared.listed.Listed.{Listed}
+use Rattle.vote_frame.specs.declared.across.Across.{Across}
 use Rattle.vote_frame.specs.declared.frame.VoteKind.{VoteKind}
 use Rattle.vote_frame.specs.declared.frame.VoteKind.TheVariants as kind
 use Rattle.vote_frame.specs.declared.frame.VoteSection.{VoteSection}
@@ -210,7 +210,7 @@ certificate_stands taken whole = by_test (stands the.DirKeyCertificateVersion ta
         (none_stands the.DirKeyCertificateVersion taken e))
 
 -- and did not stand before it is taken
-pub certificate_new : (across : Listed) (taken : List (Taken V)) (item : Item) (one : Taken V)
+pub certificate_new : (across : Across) (taken : List (Taken V)) (item : Item) (one : Taken V)
     → IsAccepted vote_tables across vote.Authority taken item one
     → same the.DirKeyCertificateVersion one.keyword ≡ true → stands the.DirKeyCertificateVersion taken ≡ false
 unfolding same
@@ -221,7 +221,7 @@ certificate_new across taken item one accepted is =
     ∙ accepted.once
 
 -- it has no row in the preamble
-pub none_in_preamble : (across : Listed) (item : Item) (one : Taken V)
+pub none_in_preamble : (across : Across) (item : Item) (one : Taken V)
     → IsItemOf vote_tables across vote.Preamble item one → same the.DirKeyCertificateVersion one.keyword ≡ false
 unfolding same
 none_in_preamble across item one said =
@@ -250,7 +250,7 @@ space_is None e = absurd (false≢true e)
 space_is (Some b) e = ap (λ (n : ℕ). Some n) (eqb-true b 32 e)
 
 -- a space stands behind its keyword
-pub signature_spaced : (across : Listed) (item : Item) (one : Taken V)
+pub signature_spaced : (across : Across) (item : Item) (one : Taken V)
     → IsItemOf vote_tables across vote.Footer item one → same the.DirectorySignature one.keyword ≡ true
     → item.separator ≡ Some 32
 unfolding same

@@ -12,7 +12,7 @@ use Rattle.frame_terms.specs.Order.{inner, opener}
 use Rattle.frame_terms.specs.Sections.{lacking, stands}
 use Rattle.frame_values.specs.Values.{after_in, line_end_in, place_in}
 use Rattle.authority_certs.specs.Heads.{head_of}
-use Rattle.relay_entries.specs.declared.listed.Listed.{Listed}
+use Rattle.vote_frame.specs.declared.across.Across.{Across}
 use Rattle.vote_frame.specs.declared.frame.VoteSection.{VoteSection}
 use Rattle.vote_frame.specs.declared.frame.VoteSection.TheVariants as vote
 use Rattle.vote_frame.specs.Tables.{rows, vote_tables}
@@ -74,7 +74,7 @@ module _ (items : List Item) (final : Head) (used : ℕ) where
       more_signature kept.head.begin kept.head.certificate item items final used has
 
   -- one more of the section
-  pub added_more : (across : Listed) (section : VoteSection) (first : Taken V) (taken : List (Taken V)) (kept : Kept)
+  pub added_more : (across : Across) (section : VoteSection) (first : Taken V) (taken : List (Taken V)) (kept : Kept)
       (item : Item) (one : Taken V) → IsAdded vote_tables across section (first ∷ taken) item one
       → inner vote_tables section one.keyword ≡ None → Shown section first (taken ++ one ∷ []) kept items final used
       → Shown section first taken kept (item ∷ items) final used
@@ -100,7 +100,7 @@ module _ (items : List Item) (final : Head) (used : ℕ) where
   -- ---- the next section
 
   -- the section of the authority, behind the preamble
-  open_authority : (across : Listed) (first : Taken V) (taken : List (Taken V)) (kept : Kept) (item : Item)
+  open_authority : (across : Across) (first : Taken V) (taken : List (Taken V)) (kept : Kept) (item : Item)
       (one : Taken V) → IsItemOf vote_tables across vote.Authority item one
       → same the.NetworkStatusVersion first.keyword ≡ true → same the.DirSource one.keyword ≡ true
       → Shown vote.Authority one [] (kept_with kept vote.Preamble (first ∷ taken)) items final used
@@ -118,7 +118,7 @@ module _ (items : List Item) (final : Head) (used : ℕ) where
       (other_text vote_tables across vote.Authority item one said the.DirKeyCertificateVersion no_)
       (subst (λ (n : ℕ). HasCert n items final used) begin cert)
 
-  pub opened_more : (across : Listed) (section other : VoteSection) (first : Taken V) (taken : List (Taken V))
+  pub opened_more : (across : Across) (section other : VoteSection) (first : Taken V) (taken : List (Taken V))
       (kept : Kept) (item : Item) (one : Taken V) → lacking (rows section) (first ∷ taken) ≡ None
       → IsItemOf vote_tables across other item one → same (opener vote_tables section) first.keyword ≡ true
       → same (opener vote_tables other) one.keyword ≡ true → NextIs section other
@@ -152,7 +152,7 @@ module _ (items : List Item) (final : Head) (used : ℕ) where
   -- ---- the certificate
 
   -- its first item
-  pub entered_more : (across : Listed) (section inside : VoteSection) (first : Taken V) (taken : List (Taken V))
+  pub entered_more : (across : Across) (section inside : VoteSection) (first : Taken V) (taken : List (Taken V))
       (kept : Kept) (item : Item) (one : Taken V)
       → IsEntering vote_tables across section (first ∷ taken) inside item one
       → Shown inside one [] kept items final used → Shown section first taken kept (item ∷ items) final used
@@ -183,7 +183,7 @@ module _ (items : List Item) (final : Head) (used : ℕ) where
       absurd (none-some inside entering.begins)
 
   -- its last item
-  pub left_more : (across : Listed) (first : Taken V) (taken : List (Taken V)) (kept : Kept) (item : Item)
+  pub left_more : (across : Across) (first : Taken V) (taken : List (Taken V)) (kept : Kept) (item : Item)
       (one : Taken V) → IsEnding vote_tables across vote.Certificate (first ∷ taken) item one
       → same the.DirKeyCertificateVersion first.keyword ≡ true
       → IsNotEnded vote_tables vote.Certificate (first ∷ taken)
@@ -211,7 +211,7 @@ module _ (items : List Item) (final : Head) (used : ℕ) where
 -- ---- the signature
 
 -- the last item of a vote
-pub ended_here : (across : Listed) (first : Taken V) (taken : List (Taken V)) (kept : Kept) (item : Item)
+pub ended_here : (across : Across) (first : Taken V) (taken : List (Taken V)) (kept : Kept) (item : Item)
     (items : List Item) (one : Taken V) → IsEnding vote_tables across vote.Footer (first ∷ taken) item one
     → IsNotEnded vote_tables vote.Footer (first ∷ taken)
     → HasSignature kept.head.begin kept.head.certificate (item ∷ items)

@@ -18,7 +18,7 @@ use Rattle.frame_terms.specs.Documents.{onto}
 use Rattle.frame_terms.specs.Keywords.{same}
 use Rattle.frame_terms.specs.Order.{opener}
 use Rattle.frame_terms.specs.Sections.{stands}
-use Rattle.relay_entries.specs.declared.listed.Listed.{Listed}
+use Rattle.vote_frame.specs.declared.across.Across.{Across}
 use Rattle.vote_frame.specs.declared.frame.VoteSection.{VoteSection}
 use Rattle.vote_frame.specs.declared.frame.VoteSection.TheVariants as vote
 use Rattle.vote_frame.specs.Tables.{vote_tables}
@@ -59,8 +59,8 @@ holds_onto : (P Q : D → Type 0) (first : G) (read : R) → ((document : D) →
 holds_onto P Q first (Ok document) turns is = turns document is
 holds_onto P Q first (Err refusal) turns is = tt
 
-pub noted : (P : D → Type 0) (made : Made VoteSection V) (open_ : O) (item : Item) (more : Listed → O → R)
-    (result : Result Listed FrameFault) → ((across : Listed) → Holds P (go_on made open_ item (λ after. more across after)))
+pub noted : (P : D → Type 0) (made : Made VoteSection V) (open_ : O) (item : Item) (more : Across → O → R)
+    (result : Result Across FrameFault) → ((across : Across) → Holds P (go_on made open_ item (λ after. more across after)))
     → Holds P (after_noted result made open_ item more)
 noted P made open_ item more (Err fault) then_ = tt
 noted P made open_ item more (Ok across) then_ = then_ across
@@ -125,20 +125,20 @@ next_around vote.Footer other around is around_is = absurd is
 
 -- ---- an item
 
-module _ (item : Item) (items : List Item) (more : Listed → O → R) where
+module _ (item : Item) (items : List Item) (more : Across → O → R) where
   -- what is shown of what follows, whatever it is
   abbrev pub Follows : Type 0
   Follows =
-      (across : Listed) (section : VoteSection) (first : Taken V) (taken : List (Taken V)) (around : Option G)
+      (across : Across) (section : VoteSection) (first : Taken V) (taken : List (Taken V)) (around : Option G)
       (kept : Kept) → IsOpen section first taken around
       → Holds (λ document. Is section first taken kept items document)
       (more across (opening section (first ∷ taken) around))
 
   -- a section inside another begins
-  enters : (across : Listed) (section inside : VoteSection) (first : Taken V) (taken : List (Taken V))
+  enters : (across : Across) (section inside : VoteSection) (first : Taken V) (taken : List (Taken V))
       (around : Option G) (kept : Kept) (one : Taken V)
       → IsEntering vote_tables across section (first ∷ taken) inside item one → IsOpen section first taken around
-      → Follows → (next : Listed)
+      → Follows → (next : Across)
       → Holds (λ document. Is section first taken kept (item ∷ items) document)
       (more next (opening inside (one ∷ []) (Some (group section (first ∷ (taken ++ one ∷ []))))))
   enters across vote.Authority inside first taken around kept one entering is follows next =
@@ -173,9 +173,9 @@ module _ (item : Item) (items : List Item) (more : Listed → O → R) where
       absurd (none-some inside entering.begins)
 
   -- the certificate ends
-  leaves : (across : Listed) (section : VoteSection) (first : Taken V) (taken : List (Taken V)) (outer : G)
+  leaves : (across : Across) (section : VoteSection) (first : Taken V) (taken : List (Taken V)) (outer : G)
       (kept : Kept) (one : Taken V) → IsEnding vote_tables across section (first ∷ taken) item one
-      → IsOpen section first taken (Some outer) → Follows → (next : Listed)
+      → IsOpen section first taken (Some outer) → Follows → (next : Across)
       → Holds (λ document. Is section first taken kept (item ∷ items) document)
       (onto (group section (first ∷ (taken ++ one ∷ []))) (more next (opening outer.section outer.taken None)))
   leaves across vote.Certificate first taken outer kept one ending is follows next =
@@ -206,7 +206,7 @@ module _ (item : Item) (items : List Item) (more : Listed → O → R) where
   leaves across vote.Footer first taken outer kept one ending is follows next = absurd is.around_is
 
   -- the vote ends
-  ends : (across : Listed) (section : VoteSection) (first : Taken V) (taken : List (Taken V)) (around : Option G)
+  ends : (across : Across) (section : VoteSection) (first : Taken V) (taken : List (Taken V)) (around : Option G)
       (kept : Kept) (one : Taken V) → around ≡ None → IsEnding vote_tables across section (first ∷ taken) item one
       → IsOpen section first taken around
       → Is section first taken kept (item ∷ items)
@@ -220,10 +220,10 @@ module _ (item : Item) (items : List Item) (more : Listed → O → R) where
   ends across vote.Entry first taken around kept one none ending is = absurd (false≢true ending.ends)
 
   -- the next section begins
-  opens : (across : Listed) (section other : VoteSection) (first : Taken V) (taken : List (Taken V))
+  opens : (across : Across) (section other : VoteSection) (first : Taken V) (taken : List (Taken V))
       (around : Option G) (kept : Kept) (one : Taken V)
       → IsOpening vote_tables across section (first ∷ taken) other item one → IsOpen section first taken around
-      → Follows → (next : Listed)
+      → Follows → (next : Across)
       → Holds (λ document. Is section first taken kept (item ∷ items) document)
       (onto (group section (first ∷ taken)) (more next (opening other (one ∷ []) around)))
   opens across section other first taken around kept one opening_ is follows next =
@@ -240,7 +240,7 @@ module _ (item : Item) (items : List Item) (more : Listed → O → R) where
         around_is = next_around section other around following is.around_is;
       }))
 
-  pub by_made : (across : Listed) (section : VoteSection) (first : Taken V) (taken : List (Taken V)) (around : Option G)
+  pub by_made : (across : Across) (section : VoteSection) (first : Taken V) (taken : List (Taken V)) (around : Option G)
       (kept : Kept) (made : Result (Made VoteSection V) ReadRefusal)
       → Makes (LaterMay vote_tables across (opening section (first ∷ taken) around) item) made
       → BeginsNone vote_tables section made → IsOpen section first taken around → Follows

@@ -15,7 +15,7 @@ use Rattle.frame_terms.specs.declared.keyword.Keyword.TheVariants as the
 use Rattle.frame_terms.specs.Decisions.{made_first, made_later}
 use Rattle.frame_terms.specs.Documents.{after_made, at_end, closed_at, missing_at_end, read_items, start}
 use Rattle.frame_terms.specs.Keywords.{word_of}
-use Rattle.relay_entries.specs.declared.listed.Listed.{Listed}
+use Rattle.vote_frame.specs.declared.across.Across.{Across}
 use Rattle.vote_frame.specs.declared.frame.VoteSection.{VoteSection}
 use Rattle.vote_frame.specs.declared.frame.VoteSection.TheVariants as vote
 use Rattle.vote_frame.specs.Tables.{vote_tables}
@@ -52,7 +52,7 @@ module _ (size : ℕ) (fault : Option DocFault) where
   ended section first taken around kept (Some other) is = tt
 
   -- what is shown holds of the rest of each vote
-  walks : (items : List Item) (across : Listed) (section : VoteSection) (first : Taken V) (taken : List (Taken V))
+  walks : (items : List Item) (across : Across) (section : VoteSection) (first : Taken V) (taken : List (Taken V))
       (around : Option (Group VoteSection V)) (kept : Kept) → IsOpen section first taken around
       → Holds (λ document. Is section first taken kept items document)
       (read_items vote_tables size across (opening section (first ∷ taken) around) fault items)
@@ -75,7 +75,7 @@ module _ (size : ℕ) (fault : Option DocFault) where
     pub begins : first.keyword ≡ codes "network-status-version"
     pub rest : HasCert first.place others (keep none_kept document.groups).head document.used
 
-  first_step : (item : Item) (items : List Item) (across : Listed)
+  first_step : (item : Item) (items : List Item) (across : Across)
       (made : Result (Made VoteSection V) ReadRefusal) → Makes (FirstMay vote_tables across item) made
       → Holds (λ document. IsWhole (item ∷ items) document)
       (after_made vote_tables made across (start vote_tables) item
@@ -83,7 +83,7 @@ module _ (size : ℕ) (fault : Option DocFault) where
   first_step item items across (Err refusal) may = tt
   first_step item items across (Ok Passes) may = absurd (none_lacks may)
   first_step item items across (Ok (Pushes one)) may =
-      let more : Listed → Open VoteSection V → Result D ReadRefusal =
+      let more : Across → Open VoteSection V → Result D ReadRefusal =
       λ next after. read_items vote_tables size next after fault items in
       let said = may.accepted.taken in
       let place : one.place ≡ item.place = ap (λ (o : Taken V). o.place) said.stands in
