@@ -20,6 +20,8 @@ use Rattle.computed_laws.specs.Computed.{IsVoteInRange, ReadableVotesAreInRange}
 use Rattle.computed_laws.proofs.Kept.{AllPairs-filter}
 use Rattle.computed_laws.proofs.KnownFlags.{KnowNames, known_in_range}
 use Rattle.computed_laws.proofs.ListedParams.{params_in_range, protocols_in_range}
+use Rattle.computed_laws.proofs.ListedRandoms.{random_in_range}
+use Rattle.random_lines.specs.declared.line.RandomLine.TheVariants as line
 use Rattle.computed_laws.proofs.ListedVersions.{versions_in_range}
 use Rattle.computed_laws.proofs.RelayEntries.{AllEntries}
 use Rattle.computed_laws.proofs.RelayOrder.{Before, relays_ascend, relays_in_range}
@@ -43,6 +45,8 @@ readable_in_range facts is = record {
     dir_port_is = is.dir_port;
     or_port_is = is.or_port;
   };
+  random_previous = is.random_previous;
+  random_current = is.random_current;
   entries = is.entries.each;
 }
 
@@ -103,6 +107,8 @@ facts_in_range flavour roster votes all =
           (each votes all _ (λ vote is. is.dist_seconds));
       known_flags = known_in_range votes (names votes all);
       lists = lists_in_range votes all roster;
+      random_previous = random_in_range line.Previous roster votes (each votes all _ (λ vote is. is.random_previous));
+      random_current = random_in_range line.Current roster votes (each votes all _ (λ vote is. is.random_current));
       sources = sources_in_range votes all;
       routers = All-filter (is_listed flavour) (IsRouterInRange flavour) relays
           (relays_in_range flavour roster method limit votes (names votes all) (entries votes all));

@@ -25,7 +25,10 @@ use Rattle.list_laws.proofs.LineWords.{rest_of_words}
 use Rattle.list_laws.proofs.ParamsAgain.{params_fill}
 use Rattle.list_laws.proofs.ProtocolsAgain.{protocols_fill}
 use Rattle.list_laws.proofs.VersionsAgain.{versions_fill}
-use Rattle.line_laws.specs.Again.{AreFlagsInRange}
+use Rattle.line_laws.specs.Again.{AreFlagsInRange, IsRandomInRange}
+use Rattle.random_lines.specs.Values.{random_text}
+use Rattle.random_lines.specs.declared.value.SharedRandom.{SharedRandom}
+use Rattle.vote_laws.proofs.VoteRandoms.{random_fills}
 use Rattle.entry_laws.specs.Ranges.{IsAddressInRange}
 use Rattle.entry_laws.proofs.WrittenMicros.{word_of_thirty_two}
 use Rattle.entry_laws.proofs.WrittenRelays.{word_of_twenty}
@@ -115,6 +118,11 @@ protocols_listed lists are =
 flags_fill : (flags : List (List ℕ)) → AreFlagsInRange flags → IsLineRest (set_text flags)
 flags_fill flags are = rest_of_words flags (words_of_flags flags are.each)
 
+randoms_fill : (random : Option SharedRandom) → IfSome random IsRandomInRange
+    → IfSome (option_map random_text random) IsLineRest
+randoms_fill None are = tt
+randoms_fill (Some random) are = random_fills random are
+
 pub preamble_are : (flavour : Flavour) (c : ConsensusFacts) → AreFactsInRange flavour c
     → AreItems (preamble_items flavour c)
 preamble_are flavour c are =
@@ -124,6 +132,10 @@ preamble_are flavour c are =
     & protocols_listed c.lists are.lists
     & if_are the.Params (list_if params_text c.lists.params) (record { first = refl; each = refl })
     (list_fills params_text c.lists.params (params_fill c.lists.params are.lists.params))
+    & (if_are the.SharedRandPreviousValue (option_map random_text c.random_previous) (record { first = refl; each = refl })
+    (randoms_fill c.random_previous are.random_previous)
+    & if_are the.SharedRandCurrentValue (option_map random_text c.random_current) (record { first = refl; each = refl })
+    (randoms_fill c.random_current are.random_current))
 
 -- ---- an authority
 

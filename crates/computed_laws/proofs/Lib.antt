@@ -6,6 +6,7 @@ pub mod KnownFlags
 pub mod ListedVersions
 pub mod NamedValues
 pub mod ListedParams
+pub mod ListedRandoms
 pub mod Digests
 pub mod Sources
 pub mod RelayEntries

@@ -10,7 +10,8 @@ use Rattle.relay_entries.specs.Texts.{bandwidths_text, ed_text}
 use Rattle.authority_certs.specs.Texts.{cert_items}
 use Rattle.vote_terms.specs.declared.entry.EntryFacts.{EntryFacts}
 use Rattle.vote_text.specs.Entries.{entries_items, entry_items, flag_items, items_each, micro_items, relay_items}
-use Rattle.vote_text.specs.Texts.{authority_items, footer_items, preamble_items, source_text, vote_items}
+use Rattle.vote_text.specs.Texts.{authority_items, footer_items, preamble_items, random_items}
+use Rattle.vote_text.specs.Texts.{source_text, vote_items}
 use Rattle.vote_doc.specs.Reading.{max_vote}
 use Rattle.computed_laws.specs.WithinLimits.{HasLineTexts, ReadableVotesFillLines}
 
@@ -81,6 +82,7 @@ readable_fill facts is =
     back first authority (front (first ++ authority) cert (front (first ++ authority ++ cert) entries all)) in
     record {
       contact = said the.Contact facts.contact
-          (All-tail Fills (bare the.DirSource (source_text facts)) (item_if the.Contact facts.contact) own);
+          (front (item_if the.Contact facts.contact) (random_items facts)
+          (All-tail Fills (bare the.DirSource (source_text facts)) (item_if the.Contact facts.contact ++ random_items facts) own));
       entries = entries_fill facts.entries (back (first ++ authority ++ cert) entries all);
     }

@@ -1,9 +1,9 @@
 -- What is computed of votes that can be read can be read (dir-spec, "Computing a consensus from a set of votes").
-use Rattle.std.specs.Prelude.{◌≡◌, ℕ, ◌≤◌, true, List, length, All, Ok}
+use Rattle.std.specs.Prelude.{◌≡◌, ℕ, ◌≤◌, true, List, length, All, IfSome, Ok}
 use Rattle.dir_bytes.specs.Causes.{last_moment}
 use Rattle.dir_values.specs.FlagSets.{is_name}
 use Rattle.dirdoc_grammar.specs.Writing.{AreWritable}
-use Rattle.line_laws.specs.Again.{IsSourceInRange}
+use Rattle.line_laws.specs.Again.{IsRandomInRange, IsSourceInRange}
 use Rattle.vote_terms.specs.Votes.{ReadVote}
 use Rattle.vote_terms.specs.declared.facts.VoteFacts.{VoteFacts}
 use Rattle.vote_laws.specs.Again as vote_laws
@@ -31,6 +31,8 @@ pub record IsVoteInRange (facts : VoteFacts) : Type 0 where
   pub known_flags : All (λ flag. is_name flag ≡ true) facts.known_flags
   pub lists : vote_laws.AreListsInRange facts.lists
   pub source : IsSourceInRange facts.nickname facts.identity facts.address facts.ip facts.dir_port facts.or_port
+  pub random_previous : IfSome facts.random_previous IsRandomInRange
+  pub random_current : IfSome facts.random_current IsRandomInRange
   pub entries : All vote_laws.IsEntryInRange facts.entries
 
 -- each vote does
