@@ -1,7 +1,7 @@
-//! Consensuses that are written and read: tests alone, of `consensus_text` and `consensus_doc`.
+//! Signatures of consensuses, which no command writes: tests alone, of `consensus_text` and `consensus_doc`.
 #![tactic(auto)]
 
 #[cfg(test)]
-mod reading;
+mod signatures;
 #[cfg(test)]
-mod texts;
+mod signed_parts;
