@@ -6,3 +6,4 @@ pub mod Spelling
 pub mod Calendars
 pub mod Days
 pub mod ReadAgain
+pub mod HexDigits

@@ -4,3 +4,4 @@ pub mod Memories
 pub mod Fields
 pub mod FieldTexts
 pub mod RoundTrips
+pub mod HexBytes

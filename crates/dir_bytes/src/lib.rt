@@ -7,6 +7,7 @@ mod append;
 mod clock;
 mod digests;
 mod fault;
+mod hex_bytes;
 mod laws;
 mod memory_clock;
 mod memory_sink;
@@ -25,6 +26,7 @@ pub use address::{push_address, read_address};
 pub use clock::{Clock, LAST_MOMENT};
 pub use digests::{push_base64, push_hex_upper, read_base64, read_hex};
 pub use fault::{BadField, Memory};
+pub use hex_bytes::{hex_bytes_are_read_again, is_hex, read_hex_bytes};
 pub use laws::{
     address_is_read_again, base64_is_read_again, clock_is_read_again, date_is_read_again,
     hex_is_read_again, moment_is_read_again, number_is_read_again, signed_is_read_again,
