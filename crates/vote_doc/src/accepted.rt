@@ -1,8 +1,8 @@
 // The votes that are held, one for each authority.
-ghost use Rattle.std.specs.Prelude.{◌≡◌, ◌≤◌, ◌<◌, ◌⊎◌, [], length, vec_len, vec_capacity, IfOk, IsSome, slice_index_or};
+ghost use Rattle.std.specs.Prelude.{◌≡◌, ◌≢◌, ◌≤◌, ◌<◌, ◌⊎◌, [], length, option_map, vec_len, vec_capacity, IfOk, IsSome, slice_index_or};
 ghost use Rattle.vote_terms.specs.Votes.{is_above};
-ghost use Rattle.vote_terms.specs.Held.{placed, rival};
-ghost use Rattle.vote_doc.specs.Holdings.{MayPlace, placing};
+ghost use Rattle.vote_terms.specs.Held.{placed, rival, vote_of, VotesAscend};
+ghost use Rattle.vote_doc.specs.Holdings.{MayPlace, against, placing};
 ghost use Rattle.vote_doc.specs.Lending as lending;
 
 use crate::held::HeldVote;
@@ -12,7 +12,7 @@ use std::alloc::Global;
 use std::marker::Model;
 use vote_terms::Rank;
 
-/// The votes that are held, in the order in which `place` puts them: by identity, at most one for each authority.
+/// The votes that are held, in strictly ascending order of their identities, so at most one for each authority.
 #[derive(Drop)]
 pub struct Accepted {
     votes: Vec<HeldVote>,
@@ -20,14 +20,14 @@ pub struct Accepted {
 }
 
 impl Model for Accepted {
-    ghost use Rattle.std.specs.Prelude.{◌≤◌, length, vec_capacity};
-    ghost use Rattle.vote_doc.specs.Holdings.{Holding};
+    ghost use Rattle.std.specs.Prelude.{vec_capacity};
+    ghost use Rattle.vote_doc.specs.Holdings.{Holding, IsHolding};
 
     ghost Value = { Holding };
 
     ghost view = { λ a. record { room = a.room; votes = a.votes.items } };
 
-    ghost invariant = { λ a. (length a.votes.items ≤ a.room) × (a.room ≤ vec_capacity a.votes) };
+    ghost invariant = { λ a. IsHolding a.votes.items a.room (vec_capacity a.votes) };
 }
 
 /// What placing a vote answers.
@@ -43,12 +43,25 @@ pub enum Placed {
     Older { held: Rank },
 }
 
-// Whether a rank is above another.
+/// Whether a rank is above another.
 fn is_above(a: &Rank, b: &Rank) -> bool
     ensures { result ≡ is_above a.now b.now }
 {
     a.published > b.published
         || (a.published == b.published && b.whole.0.as_slice().cmp(a.whole.0.as_slice()).is_lt())
+}
+
+/// What placing a vote of a rank answers where one of another rank is held of its authority.
+fn against(new: &Rank, old: &Rank) -> Placed
+    ensures { result ≡ against new.now old.now }
+{
+    if is_above(new, old) {
+        Placed::Replaced { old: *old }
+    } else if is_above(old, new) {
+        Placed::Older { held: *old }
+    } else {
+        Placed::Have { held: *old }
+    }
 }
 
 impl Accepted {
@@ -65,7 +78,9 @@ impl Accepted {
 
     /// How many votes are held.
     pub fn len(&self) -> usize
-        ensures { result ≡ length self.now.votes }
+        ensures value { result ≡ length self.now.votes }
+        ensures room { result ≤ self.now.room }
+        ensures ascending { VotesAscend self.now.votes }
     {
         self.votes.len()
     }
@@ -76,6 +91,31 @@ impl Accepted {
         ensures { result.now ≡ slice_index_or self.now.votes i result.now }
     {
         &self.votes[i]
+    }
+
+    /// The held vote of an authority, if there is one.
+    pub fn vote_of(&self, authority: &Fingerprint) -> Option<&HeldVote>
+        ensures { option_map (λ held. held.now) result ≡ vote_of self.now.votes authority.now }
+    {
+        held_of(&self.votes, authority)
+    }
+
+    /// What `place` would answer for a vote, which is not placed. Where that is not `Kept`, the vote may be placed.
+    pub fn would_answer(&self, held: &HeldVote) -> Placed
+        ensures answer { result ≡ placing self.now.votes held.now }
+        ensures may_place { result ≢ Placed.Kept → MayPlace self.now held.now }
+    {
+        match held_of(&self.votes, &held.vote().identity()) {
+            None => Placed::Kept,
+            Some(other) => against(&held.rank(), &other.rank()),
+        }
+    }
+
+    /// Lets go of all votes, and keeps the room for them.
+    pub fn clear(&mut self)
+        ensures { self.new ≡ record self.old { votes = [] } }
+    {
+        self.votes.clear();
     }
 
     /// Takes a vote into its place, where its authority is held or there is room. Of two votes of one authority the one
@@ -89,7 +129,7 @@ impl Accepted {
     }
 }
 
-// Puts a vote into its place among votes that ascend.
+/// Puts a vote into its place among votes that ascend.
 fn put(votes: &mut Vec<HeldVote>, held: HeldVote) -> Placed
     requires { IsSome (rival votes.old.items held) ⊎ (vec_len votes.old < vec_capacity votes.old) }
     ensures votes { votes.new.items ≡ placed votes.old.items held }
@@ -108,16 +148,26 @@ fn put(votes: &mut Vec<HeldVote>, held: HeldVote) -> Placed
             if is_above(&new, &old) {
                 votes[at] = held;
                 Placed::Replaced { old }
-            } else if is_above(&old, &new) {
-                Placed::Older { held: old }
             } else {
-                Placed::Have { held: old }
+                against(&new, &old)
             }
         }
     }
 }
 
-// How many of the votes come before an authority.
+/// The vote of an authority, if there is one.
+fn held_of<'a>(votes: &'a [HeldVote], authority: &Fingerprint) -> Option<&'a HeldVote>
+    ensures { option_map (λ held. held.now) result ≡ vote_of votes.now authority.now }
+{
+    'votes: for held in votes {
+        if held.vote().identity().is_same(authority) {
+            return Some(held);
+        }
+    }
+    None
+}
+
+/// How many of the votes come before an authority.
 fn slot(votes: &[HeldVote], authority: &Fingerprint) -> usize
     ensures count { result ≡ lending.slot_of votes.now authority.now }
     ensures within { result ≤ length votes.now }
@@ -128,7 +178,7 @@ fn slot(votes: &[HeldVote], authority: &Fingerprint) -> usize
         .count()
 }
 
-// The rank of the vote at a place, if it is of the authority.
+/// The rank of the vote at a place, if it is of the authority.
 fn rank_at(votes: &[HeldVote], place: usize, authority: &Fingerprint) -> Option<Rank>
     ensures rank { result ≡ lending.rank_at votes.now place authority.now }
     ensures within { IsSome result → place < length votes.now }
