@@ -86,11 +86,19 @@ impl FlagSet {
         Ok(())
     }
 
-    /// Puts in each word of a text. Without memory some of them may have been put in.
+    /// Puts in each word of a text. Without memory the set stays as it was.
     pub fn insert_words(&mut self, alloc: Global, text: &[u8]) -> Result<(), Memory>
-        ensures { OnOk result (self.new ≡ fold flag_sets.with_flag self.old (words_of text.now)) }
+        ensures ok { OnOk result (self.new ≡ fold flag_sets.with_flag self.old (words_of text.now)) }
+        ensures err { OnErr result (self.new ≡ self.old) }
     {
-        put_words(alloc, &mut self.flags, text)
+        let before = self.flags.len();
+        match put_words(alloc, &mut self.flags, text) {
+            Ok(()) => Ok(()),
+            Err(refused) => {
+                self.flags.truncate(before);
+                Err(refused)
+            }
+        }
     }
 
     /// Puts in each flag of another set. Without memory the set stays as it was.
@@ -182,10 +190,12 @@ fn comes_last(flags: &[Text], flag: &[u8]) -> bool
     }
 }
 
-/// Puts each word of a text into the flags of a set: behind them as long as the words ascend from there.
+/// Puts each word of a text into the flags of a set: behind them as long as the words ascend from there. Without memory
+/// some words may stand behind the flags that were there.
 fn put_words(alloc: Global, flags: &mut Vec<Text>, text: &[u8]) -> Result<(), Memory>
     requires { flag_sets.Ascend flags.old.items }
     ensures value { OnOk result (flags.new.items ≡ fold flag_sets.with_flag flags.old.items (words_of text.now)) }
+    ensures err { OnErr result (take (vec_len flags.old) flags.new.items ≡ flags.old.items) }
     ensures ascending { flag_sets.Ascend flags.new.items }
 {
     let mut arguments = Arguments::at(0, text);

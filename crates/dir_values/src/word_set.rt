@@ -1,7 +1,8 @@
 // Sets of words that stand elsewhere.
-ghost use Rattle.std.specs.Prelude.{◌≡◌, [], not, IfOk, OnOk};
+ghost use Rattle.std.specs.Prelude.{◌≡◌, [], not, IfOk, OnOk, OnErr};
 ghost use Rattle.std.specs.List.{fold};
 ghost use Rattle.dir_values.specs.FlagSets as flag_sets;
+ghost use Rattle.dir_values.specs.WordSets.{HasFirst};
 
 use dir_bytes::{Memory, Text};
 use std::alloc::Global;
@@ -46,9 +47,11 @@ impl<'a> WordSet<'a> {
         Ok(set)
     }
 
-    /// Puts in each of some flags. Without memory some of them may have been put in.
+    /// Puts in each of some flags, one behind the other. Without memory so many of the first of them were put in, and
+    /// nothing else has changed.
     pub fn insert_all(&mut self, flags: &'a [Text]) -> Result<(), Memory>
-        ensures { OnOk result (self.new ≡ fold flag_sets.with_flag self.old flags.now) }
+        ensures ok { OnOk result (self.new ≡ fold flag_sets.with_flag self.old flags.now) }
+        ensures err { OnErr result (HasFirst self.old flags.now self.new) }
     {
         'flags: for flag in flags {
             self.insert(flag.as_bytes())?;
@@ -56,10 +59,11 @@ impl<'a> WordSet<'a> {
         Ok(())
     }
 
-    /// Puts a word into the set, and tells whether it was not there yet.
+    /// Puts a word into the set, and tells whether it was not there yet. Without memory the set stays as it was.
     pub fn insert(&mut self, word: &'a [u8]) -> Result<bool, Memory>
         ensures added { IfOk result (λ added. added ≡ not (flag_sets.has_flag self.old word.now)) }
         ensures ok { OnOk result (self.new ≡ flag_sets.with_flag self.old word.now) }
+        ensures err { OnErr result (self.new ≡ self.old) }
     {
         Ok(self.words.insert(word)?)
     }

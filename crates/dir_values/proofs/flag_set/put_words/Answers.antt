@@ -1,4 +1,5 @@
-use Rattle.std.proofs.Common.{rules, ◌≡◌, ℕ, true, List, [], ◌∷◌, ◌++◌, sym, ap, ◌∙◌, subst}
+use Rattle.std.proofs.Common.{rules, ◌≡◌, ℕ, true, List, [], ◌∷◌, ◌++◌, sym, ap, ◌∙◌, subst, arith}
+use Rattle.std.proofs.lemmas.Grind.{common_steps}
 use Rattle.std.specs.List.{fold}
 use Rattle.dir_values.specs.Arguments.{Argument, texts_of}
 use Rattle.dir_values.specs.FlagSets.{Ascend, with_flag}
@@ -12,6 +13,7 @@ pub arguments-init : goal.arguments-init
 arguments-init c = record {
   value = ap (λ (l : List Argument). fold with_flag c.args.flags.now.items (texts_of l)) c.at-arguments.ensures
       ∙ ap (λ (l : List (List ℕ)). fold with_flag c.args.flags.now.items l) (arguments_words 0 c.args.text.now);
+  front = grind (arith, common_steps);
   ascending = c.requires;
 }
 
@@ -26,5 +28,6 @@ arguments-preserved c =
       value = ap (λ (l : List (List ℕ)). fold with_flag l (texts_of c.next.new.self)) (sym with_it)
           ∙ sym (ap (λ (l : List Argument). fold with_flag flags (texts_of l)) c.in-Some.ensures.taken)
           ∙ c.arguments.invariant.value;
+      front = grind (arith, common_steps, pushed);
       ascending = subst Ascend with_it (Ascend-with_flag flags flag c.arguments.invariant.ascending);
     }
