@@ -30,7 +30,7 @@ use Rattle.bandwidth_rules.specs.Limits.{unmeasured_limit}
 use Rattle.compute_terms.specs.Bandwidths.{cap_of}
 use Rattle.compute_terms.specs.Lists.{listed_params}
 use Rattle.compute_terms.specs.Routers.{routerline_of, belonging_listings, router_as, router_of}
-use Rattle.compute_terms.specs.Consensuses.{method}
+use Rattle.compute_terms.specs.Methods.{chosen_method}
 use Rattle.relay_select.specs.TupleOrder.{tuple_total, tuple_ties}
 use Rattle.compute_laws.specs.Listed.{has_router, is_listed_relay, ListedRelaysAreListed}
 use Rattle.compute_laws.proofs.EmptyFlags.{not_running}
@@ -166,14 +166,14 @@ unlisted roster votes rsa (l ∷ said) e = absurd cc
 abbrev limit_of : ℕ → List ReadVote → ℕ
 limit_of roster votes = unmeasured_limit (listed_params roster votes)
 
-law_by : (b : Bool) (roster : ℕ) (votes : List ReadVote) (rsa : Fingerprint) → has_flag (bytes_in votes) rsa.0 ≡ b → (b && is_some (router_of roster method (limit_of roster votes) votes rsa)) ≡ is_listed_relay roster votes rsa
-law_by true roster votes rsa h = some_is roster method (limit_of roster votes) votes rsa
+law_by : (b : Bool) (roster : ℕ) (votes : List ReadVote) (rsa : Fingerprint) → has_flag (bytes_in votes) rsa.0 ≡ b → (b && is_some (router_of roster (chosen_method votes) (limit_of roster votes) votes rsa)) ≡ is_listed_relay roster votes rsa
+law_by true roster votes rsa h = some_is roster (chosen_method votes) (limit_of roster votes) votes rsa
 law_by false roster votes rsa h = sym (unlisted roster votes rsa (listings votes rsa) (nothing_said votes rsa h))
 
 pub listed_law : ListedRelaysAreListed
 listed_law roster votes rsa =
-    let f = router_of roster method (limit_of roster votes) votes in
+    let f = router_of roster (chosen_method votes) (limit_of roster votes) votes in
     let where_listed : among (identities_in votes) rsa ≡ has_flag (bytes_in votes) rsa.0 = among_map (as_set (bytes_in votes)) rsa ∙ has_flag-as_set (bytes_in votes) rsa.0 in
-    has f (named roster method (limit_of roster votes) votes) rsa (identities_in votes)
+    has f (named roster (chosen_method votes) (limit_of roster votes) votes) rsa (identities_in votes)
     ∙ ap (λ (b : Bool). b && is_some (f rsa)) where_listed
     ∙ law_by _ roster votes rsa refl

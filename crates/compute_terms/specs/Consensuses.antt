@@ -6,6 +6,7 @@ use Rattle.compute_terms.specs.Flags.{known_flags}
 use Rattle.compute_terms.specs.Lists.{listed_params, lists_of}
 use Rattle.compute_terms.specs.Randoms.{agreed_random}
 use Rattle.random_lines.specs.declared.line.RandomLine.TheVariants.{Previous, Current}
+use Rattle.compute_terms.specs.Methods.{chosen_method}
 use Rattle.bandwidth_rules.specs.Limits.{unmeasured_limit}
 use Rattle.compute_terms.specs.Routers.{routers}
 use Rattle.bandwidth_rules.specs.Weights.{relay_weights}
@@ -26,14 +27,10 @@ source_of vote = record {
   vote_digest = vote_digest vote;
 }
 
--- the consensus method
-abbrev pub method : ℕ
-method = 32
-
 -- what the consensus of votes says but for its weights, where the roster has so many authorities
 abbrev pub facts_of : ℕ → List ReadVote → ConsensusFacts
 facts_of roster votes = record {
-  method = method;
+  method = chosen_method votes;
   valid_after = median_of (λ vote. vote.says.valid_after) votes;
   fresh_until = median_of (λ vote. vote.says.fresh_until) votes;
   valid_until = median_of (λ vote. vote.says.valid_until) votes;
@@ -44,7 +41,7 @@ facts_of roster votes = record {
   random_previous = agreed_random Previous roster votes;
   random_current = agreed_random Current roster votes;
   sources = map source_of votes;
-  routers = routers roster method (unmeasured_limit (listed_params roster votes)) votes;
+  routers = routers roster (chosen_method votes) (unmeasured_limit (listed_params roster votes)) votes;
 }
 
 -- the consensus that says this, with the weights that follow from its relays and its params

@@ -9,4 +9,5 @@ pub mod Bandwidths
 pub mod Routers
 pub mod Lists
 pub mod Randoms
+pub mod Methods
 pub mod Consensuses

@@ -12,8 +12,9 @@ use Rattle.consensus_terms.specs.Routers.{is_listed}
 use Rattle.consensus_laws.specs.Again.{AreListsInRange, IsRouterInRange}
 use Rattle.consensus_laws.proofs.SignedParts.{computed_again}
 use Rattle.bandwidth_rules.specs.Limits.{unmeasured_limit}
-use Rattle.compute_terms.specs.Consensuses.{consensus, method}
+use Rattle.compute_terms.specs.Consensuses.{consensus}
 use Rattle.compute_terms.specs.Lists.{listed_params, lists_of}
+use Rattle.compute_terms.specs.Methods.{chosen_method, listed_methods}
 use Rattle.compute_terms.specs.Routers.{routers}
 use Rattle.computed_laws.specs.Computed.{AreVotesInRange, ComputedFactsAreInRange, ComputedTextsAreReadAgain}
 use Rattle.computed_laws.specs.Computed.{IsVoteInRange, ReadableVotesAreInRange}
@@ -25,6 +26,7 @@ use Rattle.random_lines.specs.declared.line.RandomLine.TheVariants as line
 use Rattle.computed_laws.proofs.ListedVersions.{versions_in_range}
 use Rattle.computed_laws.proofs.RelayEntries.{AllEntries}
 use Rattle.computed_laws.proofs.RelayOrder.{Before, relays_ascend, relays_in_range}
+use Rattle.computed_laws.proofs.SaidFacts.{facts_said, method_within}
 use Rattle.computed_laws.proofs.Sources.{sources_in_range}
 use Rattle.computed_laws.proofs.Times.{time_within}
 
@@ -92,9 +94,10 @@ module _ (votes : List ReadVote) (all : AreVotesInRange votes) where
 pub facts_in_range : ComputedFactsAreInRange
 facts_in_range flavour roster votes all =
     let limit = unmeasured_limit (listed_params roster votes) in
+    let method = chosen_method votes in
     let relays = routers roster method limit votes in
     record {
-      method = omega arith;
+      method = method_within (listed_methods votes);
       valid_after = time_within last_moment (λ vote. vote.says.valid_after) votes
           (each votes all _ (λ vote is. is.valid_after));
       fresh_until = time_within last_moment (λ vote. vote.says.fresh_until) votes
@@ -118,4 +121,8 @@ facts_in_range flavour roster votes all =
 pub texts_again : ComputedTextsAreReadAgain
 texts_again flavour roster votes lines all signatures items =
     computed_again flavour (consensus roster votes) lines
-    (record { facts = facts_in_range flavour roster votes all; signatures = signatures; items = items })
+    (record {
+      facts = facts_said flavour (consensus roster votes).facts (facts_in_range flavour roster votes all);
+      signatures = signatures;
+      items = items;
+    })

@@ -12,6 +12,7 @@ use Rattle.dirdoc_laws.proofs.LineRests.{rest_of_nothing}
 use Rattle.frame_terms.specs.declared.keyword.Keyword.TheVariants as the
 use Rattle.vote_terms.specs.Votes.{ReadVote}
 use Rattle.vote_laws.specs.Again as vote_laws
+use Rattle.consensus_terms.specs.Flavours.{facts_in, moment_of_all, router_at}
 use Rattle.consensus_terms.specs.Routers.{is_listed}
 use Rattle.consensus_terms.specs.Signed.{in_order, signature_item}
 use Rattle.consensus_terms.specs.Weights.{weight_words}
@@ -23,8 +24,9 @@ use Rattle.consensus_laws.specs.Again.{IsAuthorityInRange, IsRouterInRange, IsSi
 use Rattle.consensus_laws.specs.Items.{consensus_items, listed, router_items, source_items}
 use Rattle.consensus_laws.proofs.SignatureOrder.{each_in_order}
 use Rattle.bandwidth_rules.specs.Limits.{unmeasured_limit}
-use Rattle.compute_terms.specs.Consensuses.{consensus, method, source_of}
+use Rattle.compute_terms.specs.Consensuses.{consensus, source_of}
 use Rattle.compute_terms.specs.Lists.{listed_params}
+use Rattle.compute_terms.specs.Methods.{chosen_method}
 use Rattle.compute_terms.specs.Routers.{routers}
 use Rattle.computed_laws.specs.Computed.{AreVotesInRange, IsVoteInRange, signed_consensus}
 use Rattle.computed_laws.specs.WithinLimits.{AllFillLines, ComputedItemsAreItems, FillsLines, IsSignature}
@@ -32,6 +34,7 @@ use Rattle.computed_laws.specs.WithinLimits.{ConsensusesOfReadableVotesAreReadAg
 use Rattle.computed_laws.proofs.ChosenTexts.{contacts_fill, relays_fill}
 use Rattle.computed_laws.proofs.ComputedFacts.{facts_in_range, readable_in_range, texts_again}
 use Rattle.computed_laws.proofs.FactItems.{HasTexts, preamble_are, router_are, signature_is, source_are}
+use Rattle.computed_laws.proofs.SaidFacts.{facts_said}
 use Rattle.computed_laws.proofs.Forms.{AreItems, after, bare_are, bare_is, each_are, ◌&◌}
 use Rattle.computed_laws.proofs.VoteLines.{readable_fill}
 use Rattle.computed_laws.proofs.WeightWords.{weights_fill}
@@ -55,9 +58,12 @@ signatures_are lines signed_ = record {
 pub computed_items : ComputedItemsAreItems
 computed_items flavour roster votes lines in_range fills signed_ =
     let c = consensus roster votes in
-    let are = facts_in_range flavour roster votes in_range in
+    let said = facts_in flavour c.facts in
+    let are = facts_said flavour c.facts (facts_in_range flavour roster votes in_range) in
+    let at : Routerline → Routerline = router_at (moment_of_all flavour c.facts.method) in
     let limit = unmeasured_limit (listed_params roster votes) in
-    let relays : List Routerline = routers roster method limit votes in
+    let method = chosen_method votes in
+    let relays : List Routerline = map at (routers roster method limit votes) in
     let sources : All (λ (s : SourceLine). AreItems (source_items s)) (map source_of votes) =
     both IsAuthorityInRange (λ (s : SourceLine). IfSome s.contact IsLineRest)
     (λ (s : SourceLine). AreItems (source_items s)) (λ s is contact. source_are s is contact) (map source_of votes)
@@ -65,9 +71,13 @@ computed_items flavour roster votes lines in_range fills signed_ =
     let each : All (λ (r : Routerline). AreItems (router_items flavour r)) (listed flavour relays) =
     both (IsRouterInRange flavour) HasTexts (λ (r : Routerline). AreItems (router_items flavour r))
     (λ r is texts. router_are flavour r is texts) (listed flavour relays) are.routers
-    (All-filter (is_listed flavour) HasTexts relays (relays_fill roster method limit votes fills)) in
+    (All-filter (is_listed flavour) HasTexts relays
+    (All-map HasTexts at (routers roster method limit votes)
+    (All-weaker HasTexts (λ (r : Routerline). HasTexts (at r))
+    (λ r is. record { version = is.version; protocols = is.protocols; policy = is.policy })
+    (routers roster method limit votes) (relays_fill roster method limit votes fills)))) in
     let items =
-    preamble_are flavour c.facts are & each_are source_items (map source_of votes) sources
+    preamble_are flavour said are & each_are source_items (map source_of votes) sources
     & each_are (router_items flavour) (listed flavour relays) each
     & after (bare_is the.DirectoryFooter [] (record { first = refl; each = refl }) rest_of_nothing)
     (bare_are the.BandwidthWeights (join_with_byte space (weight_words c.weights)) (record { first = refl; each = refl })

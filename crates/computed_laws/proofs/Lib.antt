@@ -12,6 +12,7 @@ pub mod Sources
 pub mod RelayEntries
 pub mod RelayLines
 pub mod RelayOrder
+pub mod SaidFacts
 pub mod ComputedFacts
 pub mod Forms
 pub mod WeightWords

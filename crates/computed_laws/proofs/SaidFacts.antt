@@ -1,0 +1,117 @@
+-- What the text of a flavour says is in range where the facts are.
+use Rattle.std.proofs.Common.{◌≡◌, ℕ, ◌≤◌, Bool, true, false, List, [], ◌∷◌, Option, Some, None, refl, sym, ap}
+use Rattle.std.proofs.Common.{arith, subst}
+use Rattle.std.specs.Prelude.{All, IfSome, is_some, map, nat_eq, unwrap_or, if◌then◌else◌}
+use Rattle.std.proofs.lemmas.List.Elements.{All-map, All-weaker}
+use Rattle.dir_bytes.specs.Causes.{last_moment}
+use Rattle.field_votes.specs.Methods.{is_supported, method_of}
+use Rattle.consensus_terms.specs.Flavours.{common_moment, facts_in, moment_of_all, router_at}
+use Rattle.consensus_terms.specs.declared.consensus.ConsensusFacts.{ConsensusFacts}
+use Rattle.consensus_terms.specs.declared.flavour.Flavour.{Flavour}
+use Rattle.consensus_terms.specs.declared.flavour.Flavour.TheVariants.{Ns, Microdesc}
+use Rattle.consensus_terms.specs.declared.router.Routerline.{Routerline}
+use Rattle.consensus_laws.specs.Again.{AreFactsInRange, Ascending, IsRouterInRange}
+use Rattle.consensus_laws.specs.Items.{listed}
+use Rattle.computed_laws.proofs.Kept.{AllPairs-map}
+use Rattle.computed_laws.proofs.RelayOrder.{Before}
+
+-- ---- the method
+
+-- the method that lists choose is a number that an item may have
+pub method_within : (lists : List (List ℕ)) → method_of lists ≤ 4294967295
+method_within lists = by (is_supported lists 33) (is_supported lists 32)
+  where
+    greater : 33 ≤ 4294967295
+    greater = omega arith
+
+    lesser : 32 ≤ 4294967295
+    lesser = omega arith
+
+    by : (a b : Bool) → unwrap_or (if a then Some 33 else (if b then Some 32 else None)) 32 ≤ 4294967295
+    by true b = greater
+    by false true = lesser
+    by false false = lesser
+
+-- ---- the moments
+
+-- the moment that is said of all is one of the calendar
+all_within : (flavour : Flavour) (method : ℕ) → IfSome (moment_of_all flavour method) (λ m. m ≤ last_moment)
+all_within Ns method = tt
+all_within Microdesc method = by (nat_eq method 33)
+  where
+    within : 2145916800 ≤ 253402300799
+    within = omega arith
+
+    by : (b : Bool) → IfSome (if b then Some common_moment else None) (λ m. m ≤ last_moment)
+    by true = within
+    by false = tt
+
+said_within : (moment : Option ℕ) (published : ℕ) → IfSome moment (λ m. m ≤ last_moment) → published ≤ last_moment
+    → unwrap_or moment published ≤ last_moment
+said_within None published all its = its
+said_within (Some m) published all its = all
+
+-- ---- the relays
+
+module _ (flavour : Flavour) (moment : Option ℕ) where
+  router_said : IfSome moment (λ m. m ≤ last_moment) → (r : Routerline) → IsRouterInRange flavour r
+      → IsRouterInRange flavour (router_at moment r)
+  router_said all r is = record {
+    nickname = is.nickname;
+    identity = is.identity;
+    digest = is.digest;
+    published = said_within moment r.published all is.published;
+    ip = is.ip;
+    or_port = is.or_port;
+    dir_port = is.dir_port;
+    a = is.a;
+    m = is.m;
+    flags = is.flags;
+    w = is.w;
+  }
+
+  routers_said : IfSome moment (λ m. m ≤ last_moment) → (list : List Routerline) → All (IsRouterInRange flavour) list
+      → All (IsRouterInRange flavour) (map (router_at moment) list)
+  routers_said all list are =
+      All-map (IsRouterInRange flavour) (router_at moment) list
+      (All-weaker (IsRouterInRange flavour) (λ (r : Routerline). IsRouterInRange flavour (router_at moment r))
+      (router_said all) list are)
+
+  ascend_said : (list : List Routerline) → Ascending list → Ascending (map (router_at moment) list)
+  ascend_said list up = AllPairs-map Before (router_at moment) list up
+
+-- a flavour lists the same relays
+listed_said : (flavour : Flavour) (moment : Option ℕ) (routers : List Routerline)
+    → listed flavour (map (router_at moment) routers) ≡ map (router_at moment) (listed flavour routers)
+listed_said Ns moment [] = refl
+listed_said Ns moment (r ∷ rest) = ap (λ (l : List Routerline). router_at moment r ∷ l) (listed_said Ns moment rest)
+listed_said Microdesc moment [] = refl
+listed_said Microdesc moment (r ∷ rest) =
+    by (is_some r.m) (listed Microdesc (map (router_at moment) rest)) (listed Microdesc rest) (listed_said Microdesc moment rest)
+  where
+    by : (b : Bool) (said back : List Routerline) → said ≡ map (router_at moment) back
+        → (if b then router_at moment r ∷ said else said) ≡ map (router_at moment) (if b then r ∷ back else back)
+    by true said back same = ap (λ (l : List Routerline). router_at moment r ∷ l) same
+    by false said back same = same
+
+-- ---- the facts
+
+pub facts_said : (flavour : Flavour) (c : ConsensusFacts) → AreFactsInRange flavour c
+    → AreFactsInRange flavour (facts_in flavour c)
+facts_said flavour c are =
+    let moment = moment_of_all flavour c.method in
+    let same = sym (listed_said flavour moment c.routers) in
+    record {
+      method = are.method;
+      valid_after = are.valid_after;
+      fresh_until = are.fresh_until;
+      valid_until = are.valid_until;
+      vote_seconds = are.vote_seconds;
+      dist_seconds = are.dist_seconds;
+      known_flags = are.known_flags;
+      lists = are.lists;
+      sources = are.sources;
+      routers = subst (All (IsRouterInRange flavour)) same
+          (routers_said flavour moment (all_within flavour c.method) (listed flavour c.routers) are.routers);
+      ascending = subst Ascending same (ascend_said flavour moment (listed flavour c.routers) are.ascending);
+    }
