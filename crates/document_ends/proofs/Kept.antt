@@ -26,7 +26,7 @@ use Rattle.consensus_terms.specs.declared.consensus.SignedConsensus.{SignedConse
 use Rattle.consensus_terms.specs.declared.flavour.Flavour.{Flavour}
 use Rattle.consensus_doc.specs.Drafts as drafts
 use Rattle.consensus_doc.specs.Reading.{consensus_as, consensus_in, consensus_of, flavour_of, max_consensus, with_consensus}
-use Rattle.micro_frame.specs.Tables.{micro_tables}
+use Rattle.micro_desc.specs.Tables.{micro_tables}
 use Rattle.micro_desc.specs.declared.micro.Micro.{Micro}
 use Rattle.micro_desc.specs.Heads as micros
 use Rattle.micro_desc.specs.Micros.{micro_in}

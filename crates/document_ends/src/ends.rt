@@ -14,7 +14,7 @@ use consensus_frame::ConsensusFrame;
 use descriptor_frame::DescriptorFrame;
 use dirdoc_grammar::Items;
 use frame_terms::ReadRefusal;
-use micro_frame::MicroFrame;
+use micro_desc::MicroFrame;
 use std::alloc::Global;
 use vote_frame::VoteFrame;
 
@@ -98,7 +98,6 @@ pub fn end_of_micro(alloc: Global, bytes: &[u8]) -> Result<usize, ReadRefusal>
     ensures { Ends bytes.now (micro_of bytes.now) result }
 {
     let mut items = Items::new(bytes, MAX_MICRO);
-    let frame = MicroFrame { alloc };
-    let end = end_of(alloc, frame, &mut items, bytes.len() as u64)?;
+    let end = end_of(alloc, MicroFrame, &mut items, bytes.len() as u64)?;
     Ok(end as usize)
 }

@@ -20,7 +20,7 @@ use Rattle.consensus_terms.specs.declared.flavour.Flavour.{Flavour}
 use Rattle.consensus_terms.specs.declared.flavour.Flavour.TheVariants.{Ns, Microdesc}
 use Rattle.descriptor_frame.specs.declared.said.DescriptorKind.TheVariants as descriptor
 use Rattle.descriptor_frame.specs.Tables.{descriptor_tables}
-use Rattle.micro_frame.specs.Tables.{micro_tables}
+use Rattle.micro_desc.specs.Tables.{micro_tables}
 use Rattle.vote_frame.specs.declared.frame.VoteKind.{VoteKind}
 use Rattle.vote_frame.specs.declared.frame.VoteKind.TheVariants as item
 use Rattle.vote_frame.specs.declared.frame.VoteSection.{VoteSection}

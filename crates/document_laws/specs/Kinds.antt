@@ -3,7 +3,7 @@ use Rattle.authority_certs.specs.Tables.{cert_tables}
 use Rattle.consensus_frame.specs.Tables.{consensus_tables}
 use Rattle.consensus_terms.specs.declared.flavour.Flavour.{Flavour}
 use Rattle.descriptor_frame.specs.Tables.{descriptor_tables}
-use Rattle.micro_frame.specs.Tables.{micro_tables}
+use Rattle.micro_desc.specs.Tables.{micro_tables}
 use Rattle.vote_frame.specs.Tables.{vote_tables}
 use Rattle.document_laws.specs.Clear.{AreClear}
 use Rattle.document_laws.specs.Documents.{AreExact}

@@ -4,7 +4,8 @@ use Rattle.dirdoc_grammar.specs.Writing.{item_text, items_text}
 use Rattle.frame_terms.specs.declared.keyword.Keyword.TheVariants as the
 use Rattle.frame_values.proofs.ItemsTexts.{sections}
 use Rattle.micro_desc.specs.declared.micro.Micro.{Micro}
-use Rattle.micro_desc.specs.Texts.{onion_key_item, ntor_key_items, family_items, ports_items, id_items, micro_text}
+use Rattle.frame_values.specs.Items.{item_if}
+use Rattle.micro_desc.specs.Texts.{onion_key_item, ntor_key_items, family_items, id_items, micro_text}
 
 -- the parts behind the first
 pub parts : (micro : Micro)
@@ -12,14 +13,14 @@ pub parts : (micro : Micro)
     ≡ item_text (onion_key_item micro.onion_key)
     ++ (items_text (ntor_key_items micro.ntor_onion_key)
     ++ (items_text (family_items micro.family)
-    ++ (items_text (ports_items the.P micro.p)
-    ++ (items_text (ports_items the.P6 micro.p6)
+    ++ (items_text (item_if the.P micro.p)
+    ++ (items_text (item_if the.P6 micro.p6)
     ++ items_text (id_items micro.id)))))
 parts micro =
     let key = ntor_key_items micro.ntor_onion_key in
     let family = family_items micro.family in
-    let p = ports_items the.P micro.p in
-    let p6 = ports_items the.P6 micro.p6 in
+    let p = item_if the.P micro.p in
+    let p6 = item_if the.P6 micro.p6 in
     let id = id_items micro.id in
     ap (λ (l : List ℕ). item_text (onion_key_item micro.onion_key) ++ l)
     (sections key (family ++ (p ++ (p6 ++ id)))

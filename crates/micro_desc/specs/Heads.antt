@@ -5,9 +5,9 @@ use Rattle.frame_terms.specs.declared.document.Taken.{Taken}
 use Rattle.frame_values.specs.declared.found.Span.{Span}
 use Rattle.frame_values.specs.declared.values.Value.{Value}
 use Rattle.frame_values.specs.Values.{item_at, own_in, text_if}
-use Rattle.micro_frame.specs.declared.said.MicroId.{MicroId}
-use Rattle.micro_frame.specs.declared.said.MicroValue.{MicroValue}
-use Rattle.micro_frame.specs.declared.said.MicroValue.TheVariants as own
+use Rattle.micro_desc.specs.declared.said.MicroId.{MicroId}
+use Rattle.micro_desc.specs.declared.said.MicroValue.{MicroValue}
+use Rattle.micro_desc.specs.declared.said.MicroValue.TheVariants as own
 use Rattle.micro_desc.specs.declared.head.MicroHead.{MicroHead}
 
 -- an item, if there is one

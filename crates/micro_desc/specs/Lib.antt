@@ -1,3 +1,5 @@
+pub mod Lines
+pub mod Tables
 pub mod Heads
 pub mod Micros
 pub mod Reading

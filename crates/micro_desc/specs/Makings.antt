@@ -2,14 +2,14 @@
 -- microdescriptors").
 use Rattle.std.specs.Prelude.{ℕ, ◌==◌, Bool, false, not, ◌&&◌, List, [], ◌∷◌, length}
 use Rattle.std.specs.Prelude.{Option, Some, None, option_and_then, if◌then◌else◌}
-use Rattle.dir_values.specs.Ports.{Ports, last_port}
+use Rattle.dir_values.specs.Ports.{Ports, last_port, summary_text}
 use Rattle.dir_values.specs.declared.digest.Fingerprint.{Fingerprint}
 use Rattle.dir_values.specs.declared.port_range.PortRange.{PortRange}
 use Rattle.ed_certs.specs.declared.certificate.EdCert.{EdCert}
 use Rattle.relay_family.specs.Families.{family_of}
 use Rattle.descriptor_doc.specs.declared.descriptor.Descriptor.{Descriptor}
-use Rattle.micro_frame.specs.declared.said.MicroId.{MicroId}
-use Rattle.micro_frame.specs.declared.said.MicroId.TheVariants.{Ed25519, Rsa1024}
+use Rattle.micro_desc.specs.declared.said.MicroId.{MicroId}
+use Rattle.micro_desc.specs.declared.said.MicroId.TheVariants.{Ed25519, Rsa1024}
 use Rattle.micro_desc.specs.declared.micro.Micro.{Micro}
 
 -- a family, where it has a name
@@ -29,9 +29,9 @@ is_every_port _ = false
 abbrev pub rejects_all : Ports → Bool
 rejects_all ports = not ports.accept && is_every_port ports.ranges
 
--- a summary, unless it rejects all ports
-abbrev pub summary_if : Ports → Option Ports
-summary_if ports = if rejects_all ports then None else Some ports
+-- the text of a summary, unless it rejects all ports
+abbrev pub summary_if : Ports → Option (List ℕ)
+summary_if ports = if rejects_all ports then None else Some (summary_text ports)
 
 -- whose microdescriptor it is: the signer of the Ed25519 certificate, or else the RSA identity
 abbrev pub made_id : Option EdCert → Fingerprint → MicroId

@@ -1,8 +1,8 @@
 -- What a microdescriptor says of which something was kept (dir-spec, "Computing microdescriptors").
-use Rattle.std.specs.Prelude.{ℕ, List, option_and_then}
+use Rattle.std.specs.Prelude.{ℕ, List}
 use Rattle.std.specs.Option.{option_map}
-use Rattle.frame_values.specs.Parts.{bytes_in}
-use Rattle.descriptor_doc.specs.Descriptors.{ports_in, words_in}
+use Rattle.frame_values.specs.Parts.{bytes_in, part}
+use Rattle.descriptor_doc.specs.Descriptors.{words_in}
 use Rattle.micro_desc.specs.declared.head.MicroHead.{MicroHead}
 use Rattle.micro_desc.specs.declared.micro.Micro.{Micro}
 
@@ -12,7 +12,7 @@ micro_in bytes head = record {
   onion_key = option_map (bytes_in bytes) head.onion_key;
   ntor_onion_key = head.ntor_onion_key;
   family = option_map (words_in bytes) head.family;
-  p = option_and_then (ports_in bytes) head.p;
-  p6 = option_and_then (ports_in bytes) head.p6;
+  p = option_map (part bytes) head.p;
+  p6 = option_map (part bytes) head.p6;
   id = head.id;
 }

@@ -4,15 +4,13 @@ use Rattle.std.specs.Prelude.{ℕ, List, [], ◌∷◌, ◌++◌, Option, Some, 
 use Rattle.std.specs.Option.{option_map}
 use Rattle.sha2.specs.Sha256.{sha256}
 use Rattle.dir_bytes.specs.FieldTexts.{base64_text}
-use Rattle.dir_values.specs.Ports.{Ports, summary_text}
 use Rattle.dir_values.specs.declared.digest.Digest2.{Digest2}
 use Rattle.dirdoc_grammar.specs.Writing.{NewItem, items_text}
-use Rattle.frame_terms.specs.declared.keyword.Keyword.{Keyword}
 use Rattle.frame_terms.specs.declared.keyword.Keyword.TheVariants as the
 use Rattle.frame_values.specs.Items.{bare, with_object, item_if}
 use Rattle.relay_family.specs.Families.{family_text}
-use Rattle.micro_frame.specs.declared.said.MicroId.{MicroId}
-use Rattle.micro_frame.specs.declared.said.MicroId.TheVariants.{Ed25519, Rsa1024}
+use Rattle.micro_desc.specs.declared.said.MicroId.{MicroId}
+use Rattle.micro_desc.specs.declared.said.MicroId.TheVariants.{Ed25519, Rsa1024}
 use Rattle.micro_desc.specs.declared.micro.Micro.{Micro}
 
 -- the first item, with the onion key as its object where there is one
@@ -33,10 +31,6 @@ ntor_key_items key = item_if the.NtorOnionKey (option_map base64_text key)
 abbrev pub family_items : Option (List (List ℕ)) → List NewItem
 family_items family = item_if the.Family (option_map family_text family)
 
--- the item of a summary of ports, where there is one
-abbrev pub ports_items : Keyword → Option Ports → List NewItem
-ports_items keyword ports = item_if keyword (option_map summary_text ports)
-
 -- the item that says whose microdescriptor it is, where it is said
 abbrev pub id_items : Option MicroId → List NewItem
 id_items id = item_if the.Id (option_map id_text id)
@@ -47,8 +41,8 @@ micro_items micro =
     onion_key_item micro.onion_key
     ∷ (ntor_key_items micro.ntor_onion_key
     ++ (family_items micro.family
-    ++ (ports_items the.P micro.p
-    ++ (ports_items the.P6 micro.p6
+    ++ (item_if the.P micro.p
+    ++ (item_if the.P6 micro.p6
     ++ id_items micro.id))))
 
 -- the text of a microdescriptor that says this

@@ -5,11 +5,11 @@ ghost use Rattle.micro_desc.specs.Heads as heads;
 ghost use Rattle.micro_desc.specs.Micros as micros;
 
 use crate::micro::Micro;
-use descriptor_doc::{decode_if, ports_if, words_if};
+use crate::said::{MicroId, MicroValue};
+use descriptor_doc::{decode_if, words_if};
 use dir_bytes::Memory;
 use frame_terms::{Keyword, Taken};
-use frame_values::{Span, Value, own_at, text_if};
-use micro_frame::{MicroId, MicroValue};
+use frame_values::{Span, Value, copy_part_if, own_at, text_if};
 use std::alloc::Global;
 
 /// What the items of a microdescriptor say, and where its texts stand in the bytes of its document.
@@ -85,8 +85,8 @@ pub fn micro_at(alloc: Global, bytes: &[u8], head: &MicroHead) -> Result<Micro, 
         onion_key: decode_if(alloc, bytes, head.onion_key)?,
         ntor_onion_key: head.ntor_onion_key,
         family: words_if(alloc, bytes, head.family)?,
-        p: ports_if(alloc, bytes, head.p)?,
-        p6: ports_if(alloc, bytes, head.p6)?,
+        p: copy_part_if(alloc, bytes, head.p)?,
+        p6: copy_part_if(alloc, bytes, head.p6)?,
         id: head.id,
     })
 }

@@ -1,16 +1,20 @@
-//! Microdescriptors: reading and writing them, their digest, and making one of a server descriptor (dir-spec, "Computing
-//! microdescriptors").
+//! Microdescriptors: their items, reading and writing them, their digest, and making one of a server descriptor (dir-spec,
+//! "Computing microdescriptors").
 #![tactic(auto)]
 
+mod frame;
 mod head;
+mod lines;
 mod making;
 mod micro;
 mod reading;
+mod said;
 mod writing;
 
+pub use frame::MicroFrame;
 pub use head::{MicroHead, head_of, micro_at};
 pub use making::make;
 pub use micro::Micro;
-pub use micro_frame::MicroId;
 pub use reading::read;
+pub use said::{MicroId, MicroKind, MicroValue};
 pub use writing::{digest, write};

@@ -3,10 +3,10 @@ ghost use Rattle.std.specs.Prelude.{◌≡◌, IfOk, option_and_then};
 ghost use Rattle.micro_desc.specs.Makings as makings;
 
 use crate::micro::Micro;
+use crate::said::MicroId;
 use descriptor_doc::{Descriptor, EdCert};
 use dir_bytes::{Memory, Seq, Text};
 use dir_values::{Fingerprint, PortRange, PortSummary};
-use micro_frame::MicroId;
 use relay_family::canonical_family;
 use std::alloc::Global;
 
@@ -58,26 +58,27 @@ fn rejects_all(ports: &PortSummary) -> bool
     !ports.accept() && is_every_port(ports.ranges())
 }
 
-/// A copy of a summary, unless it rejects all ports.
+/// The text of a summary, unless it rejects all ports.
 ///
 /// # Errors
 /// `Memory` is want of memory.
-fn summary_if(alloc: Global, ports: &PortSummary) -> Result<Option<PortSummary>, Memory>
-    ensures { IfOk result (λ copy. copy ≡ makings.summary_if ports.now) }
+fn summary_if(alloc: Global, ports: &PortSummary) -> Result<Option<Text>, Memory>
+    ensures { IfOk result (λ text. text ≡ makings.summary_if ports.now) }
 {
     if rejects_all(ports) {
         return Ok(None);
     }
-    let ranges = ports.ranges().to_vec(alloc)?;
-    Ok(Some(PortSummary::new(ports.accept(), ranges)))
+    let mut text = Vec::new(alloc);
+    ports.push(&mut text)?;
+    Ok(Some(Text::new(text)))
 }
 
-/// A copy of a summary, where there is one, unless it rejects all ports.
+/// The text of a summary, where there is one, unless it rejects all ports.
 ///
 /// # Errors
 /// `Memory` is want of memory.
-fn ipv6_summary(alloc: Global, ports: &Option<PortSummary>) -> Result<Option<PortSummary>, Memory>
-    ensures { IfOk result (λ copy. copy ≡ option_and_then makings.summary_if ports.now) }
+fn ipv6_summary(alloc: Global, ports: &Option<PortSummary>) -> Result<Option<Text>, Memory>
+    ensures { IfOk result (λ text. text ≡ option_and_then makings.summary_if ports.now) }
 {
     match ports {
         Some(ports) => summary_if(alloc, ports),

@@ -1,7 +1,6 @@
 // What a microdescriptor says.
+use crate::said::MicroId;
 use dir_bytes::{Seq, Text};
-use dir_values::PortSummary;
-use micro_frame::MicroId;
 
 /// A microdescriptor (dir-spec, "Computing microdescriptors"): what clients have to know of a relay, with a field for each of
 /// its items.
@@ -13,10 +12,10 @@ pub struct Micro {
     pub ntor_onion_key: Option<[u8; 32]>,
     /// The relays of its family, in the order in which they stand.
     pub family: Option<Seq<Text>>,
-    /// The summary of its exit policy.
-    pub p: Option<PortSummary>,
-    /// The summary of its exit policy for IPv6.
-    pub p6: Option<PortSummary>,
+    /// The summary of its exit policy, as it stands: the rest of the line, which is read no further.
+    pub p: Option<Text>,
+    /// That for IPv6, in the same way.
+    pub p6: Option<Text>,
     /// Whose microdescriptor it is.
     pub id: Option<MicroId>,
 }

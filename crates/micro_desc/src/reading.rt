@@ -3,13 +3,14 @@ ghost use Rattle.std.specs.Prelude.{◌<◌, ◌^◌, length};
 ghost use Rattle.micro_desc.specs.Heads.{head_with};
 ghost use Rattle.micro_desc.specs.Reading.{ReadsMicro};
 
+use crate::frame::MicroFrame;
 use crate::head::{MicroHead, head_of, micro_at};
 use crate::micro::Micro;
+use crate::said::MicroValue;
 use dirdoc_grammar::Items;
 use frame_reader::{Facts, read_document};
 use frame_terms::{ReadRefusal, Taken};
 use frame_values::Value;
-use micro_frame::{MicroFrame, MicroValue};
 use std::alloc::{AllocError, Global};
 
 /// How many bytes a microdescriptor may have.
@@ -36,8 +37,7 @@ pub fn read(alloc: Global, bytes: &[u8]) -> Result<(Micro, usize), ReadRefusal>
     let mut items = Items::new(bytes, MAX_MICRO);
     let mut head = head_of(&[]);
     let length = bytes.len() as u64;
-    let frame = MicroFrame { alloc };
-    let used = read_document(alloc, frame, &mut items, length, &mut head)?;
+    let used = read_document(alloc, MicroFrame, &mut items, length, &mut head)?;
     match micro_at(alloc, bytes, &head) {
         Ok(micro) => Ok((micro, used as usize)),
         Err(_) => Err(ReadRefusal::Memory),

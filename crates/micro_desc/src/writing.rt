@@ -4,11 +4,11 @@ ghost use Rattle.dirdoc_grammar.specs.Writing.{item_text, items_text};
 ghost use Rattle.micro_desc.specs.Texts as texts;
 
 use crate::micro::Micro;
+use crate::said::MicroId;
 use dir_bytes::{Memory, Seq, Text, push_base64};
-use dir_values::{Digest2, PortSummary};
+use dir_values::Digest2;
 use frame_terms::Keyword;
-use frame_values::{push_bare, push_with_object};
-use micro_frame::MicroId;
+use frame_values::{push_bare, push_if, push_with_object};
 use relay_family::push_names;
 use sha2::{Digest, Sha256};
 use std::alloc::Global;
@@ -59,27 +59,6 @@ fn push_family(out: &mut Vec<u8>, alloc: Global, family: &Option<Seq<Text>>) -> 
     push_bare(out, Keyword::Family, &rest)
 }
 
-/// Appends the item of a summary of ports, where there is one.
-///
-/// # Errors
-/// `Memory` is want of memory.
-fn push_ports(
-    out: &mut Vec<u8>,
-    alloc: Global,
-    keyword: Keyword,
-    ports: &Option<PortSummary>,
-) -> Result<(), Memory>
-    ensures ok { OnOk result (out.new.items ≡ out.old.items ++ items_text (texts.ports_items keyword ports.now)) }
-    ensures err { OnErr result (take (vec_len out.old) out.new.items ≡ out.old.items) }
-{
-    let Some(ports) = ports else {
-        return Ok(());
-    };
-    let mut rest = Vec::new(alloc);
-    ports.push(&mut rest)?;
-    push_bare(out, keyword, &rest)
-}
-
 /// Appends a kind of key and an identity.
 ///
 /// # Errors
@@ -117,7 +96,7 @@ fn push_id(out: &mut Vec<u8>, alloc: Global, id: &Option<MicroId>) -> Result<(),
 }
 
 /// The canonical text of a microdescriptor that says this: its items in the order of dir-spec's table, with single spaces, the
-/// names of the family in their order, keys in base64 without `=`, an object in lines of 64.
+/// names of the family in their order, `p` and `p6` as they stand, keys in base64 without `=`, an object in lines of 64.
 ///
 /// # Errors
 /// `Memory` is want of memory.
@@ -128,8 +107,8 @@ pub fn write(alloc: Global, micro: &Micro) -> Result<Vec<u8>, Memory>
     push_onion_key(&mut out, &micro.onion_key)?;
     push_ntor_key(&mut out, alloc, &micro.ntor_onion_key)?;
     push_family(&mut out, alloc, &micro.family)?;
-    push_ports(&mut out, alloc, Keyword::P, &micro.p)?;
-    push_ports(&mut out, alloc, Keyword::P6, &micro.p6)?;
+    push_if(&mut out, Keyword::P, &micro.p)?;
+    push_if(&mut out, Keyword::P6, &micro.p6)?;
     push_id(&mut out, alloc, &micro.id)?;
     Ok(out)
 }

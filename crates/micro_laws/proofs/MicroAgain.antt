@@ -6,7 +6,6 @@ use Rattle.std.proofs.lemmas.Bool.{and_right}
 use Rattle.item_terms.specs.Items.{Contents, contents, contents_of, nothing}
 use Rattle.item_terms.specs.Words.{begins_dash}
 use Rattle.dir_bytes.specs.FieldTexts.{base64_text}
-use Rattle.dir_values.specs.Ports.{summary_text}
 use Rattle.dirdoc_laws.proofs.ItemsAgain.{items_again}
 use Rattle.dirdoc_grammar.specs.Writing.{AreWritable, IsWritable, NewItem, all_written, in_front, is_open, item_text}
 use Rattle.dirdoc_grammar.specs.Writing.{items_text, tail, written}
@@ -31,12 +30,12 @@ use Rattle.frame_laws.proofs.Sections.{others_in, section_whole}
 use Rattle.frame_laws.proofs.Steps.{IsAgain, made_by-later, opening, stop_of}
 use Rattle.frame_laws.proofs.WrittenRows.{stand_written}
 use Rattle.relay_family.specs.Families.{family_text}
-use Rattle.micro_frame.specs.Tables.{micro_tables}
+use Rattle.micro_desc.specs.Tables.{micro_tables}
 use Rattle.micro_desc.specs.declared.micro.Micro.{Micro}
 use Rattle.micro_desc.specs.Heads.{head_with, no_head}
 use Rattle.micro_desc.specs.Reading.{max_micro, micro_of, with_micro}
 use Rattle.micro_desc.specs.Texts.{family_items, id_items, id_text, micro_items, micro_text, ntor_key_items}
-use Rattle.micro_desc.specs.Texts.{onion_key_item, ports_items}
+use Rattle.micro_desc.specs.Texts.{onion_key_item}
 use Rattle.micro_laws.specs.Again.{MicrosAreReadAgain, MicrosEndBeforeTheNext, micros_text}
 use Rattle.micro_laws.specs.Ranges.{IsInRange, SaysInRange}
 use Rattle.micro_laws.proofs.MicroRows.{Says, entries, first_row, first_same, its_section, micro_same, onion_entry}
@@ -48,7 +47,7 @@ abbrev others_of : Micro → List NewItem
 others_of micro =
     ntor_key_items micro.ntor_onion_key
     ++ (family_items micro.family
-    ++ (ports_items the.P micro.p ++ (ports_items the.P6 micro.p6 ++ id_items micro.id)))
+    ++ (item_if the.P micro.p ++ (item_if the.P6 micro.p6 ++ id_items micro.id)))
 
 -- ---- its items stand in its text
 
@@ -169,8 +168,8 @@ no_dash_others : (micro : Micro) (micros : List Micro)
 no_dash_others micro micros =
     let rest = micros_text micros in
     let id = id_items micro.id in
-    let p6 = ports_items the.P6 micro.p6 in
-    let p = ports_items the.P micro.p in
+    let p6 = item_if the.P6 micro.p6 in
+    let p = item_if the.P micro.p in
     let family = family_items micro.family in
     let last : begins_dash (items_text id ++ rest) ≡ false =
     subst (λ (l : List NewItem). begins_dash (items_text l ++ rest) ≡ false) (append-nil id)
@@ -178,8 +177,8 @@ no_dash_others micro micros =
     no_dash_if the.NtorOnionKey (option_map base64_text micro.ntor_onion_key) (family ++ (p ++ (p6 ++ id))) rest
     (λ t a b. refl)
     (no_dash_if the.Family (option_map family_text micro.family) (p ++ (p6 ++ id)) rest (λ t a b. refl)
-    (no_dash_if the.P (option_map summary_text micro.p) (p6 ++ id) rest (λ t a b. refl)
-    (no_dash_if the.P6 (option_map summary_text micro.p6) id rest (λ t a b. refl) last)))
+    (no_dash_if the.P micro.p (p6 ++ id) rest (λ t a b. refl)
+    (no_dash_if the.P6 micro.p6 id rest (λ t a b. refl) last)))
 
 -- the next first item ends it
 begins_the_next : IsAgain micro_tables tt first_row again.Document

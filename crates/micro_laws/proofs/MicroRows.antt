@@ -3,7 +3,6 @@ use Rattle.std.proofs.Common.{◌≡◌, ℕ, List, [], ◌∷◌, Option, Some,
 use Rattle.std.specs.Prelude.{map, option_map}
 use Rattle.std.proofs.lemmas.List.{map-append}
 use Rattle.dir_bytes.specs.FieldTexts.{base64_text}
-use Rattle.dir_values.specs.Ports.{summary_text}
 use Rattle.dirdoc_grammar.specs.Writing.{NewObject}
 use Rattle.frame_terms.specs.Rows.{row}
 use Rattle.frame_terms.specs.declared.keyword.Keyword.TheVariants as the
@@ -20,11 +19,11 @@ use Rattle.frame_laws.proofs.Sections.{Section, entries_in}
 use Rattle.frame_laws.proofs.WrittenItems.{lines_at}
 use Rattle.relay_family.specs.Families.{family_text}
 use Rattle.descriptor_text.specs.Texts.{rsa_words}
-use Rattle.micro_frame.specs.declared.said.MicroId.{MicroId}
-use Rattle.micro_frame.specs.declared.said.MicroKind.{MicroKind}
-use Rattle.micro_frame.specs.declared.said.MicroKind.TheVariants as kind
-use Rattle.micro_frame.specs.declared.said.MicroValue.{MicroValue}
-use Rattle.micro_frame.specs.declared.said.MicroValue.TheVariants as own
+use Rattle.micro_desc.specs.declared.said.MicroId.{MicroId}
+use Rattle.micro_desc.specs.declared.said.MicroKind.{MicroKind}
+use Rattle.micro_desc.specs.declared.said.MicroKind.TheVariants as kind
+use Rattle.micro_desc.specs.declared.said.MicroValue.{MicroValue}
+use Rattle.micro_desc.specs.declared.said.MicroValue.TheVariants as own
 use Rattle.micro_desc.specs.declared.micro.Micro.{Micro}
 use Rattle.micro_desc.specs.Texts.{id_text, micro_items, onion_key_item}
 
@@ -87,8 +86,8 @@ abbrev pub other_rows : Micro → List RowOf
 other_rows micro =
     row_own (row the.NtorOnionKey Optional kind.Key) key_entry micro.ntor_onion_key
     ∷ row_if (row the.Family Optional kind.Rest) (option_map family_text micro.family)
-    ∷ row_if (row the.P Optional kind.Ports) (option_map summary_text micro.p)
-    ∷ row_if (row the.P6 Optional kind.Ports) (option_map summary_text micro.p6)
+    ∷ row_if (row the.P Optional kind.Rest) micro.p
+    ∷ row_if (row the.P6 Optional kind.Rest) micro.p6
     ∷ row_own (row the.Id Optional kind.Id) id_entry micro.id
     ∷ []
 

@@ -6,10 +6,7 @@ use Rattle.dir_bytes.specs.FieldTexts.{base64_text}
 use Rattle.dir_bytes.specs.Fields.{base64}
 use Rattle.dir_bytes.proofs.ReadAgain.{base64-base64_text}
 use Rattle.dir_values.specs.Arguments.{Argument}
-use Rattle.dir_values.specs.Ports.{Ports, port_summary, summary_text}
 use Rattle.dir_values.specs.declared.digest.Fingerprint.{Fingerprint}
-use Rattle.dir_values.specs.declared.refusal.ValueRefusal.{ValueRefusal}
-use Rattle.dir_values.proofs.PortsAgain.{ports_again}
 use Rattle.dirdoc_grammar.specs.Writing.{written}
 use Rattle.item_terms.specs.Items.{Item}
 use Rattle.frame_terms.specs.Keywords.{same}
@@ -22,14 +19,13 @@ use Rattle.frame_terms.specs.declared.row.Row.{Row}
 use Rattle.frame_values.specs.Arguments.{arguments_of, next}
 use Rattle.frame_values.specs.Faults.{at_place}
 use Rattle.frame_values.specs.Items.{bare}
-use Rattle.frame_values.specs.declared.found.Span.{Span}
 use Rattle.frame_values.specs.declared.values.Value.TheVariants as value
 use Rattle.frame_laws.proofs.Base64Words.{word_of_base64}
 use Rattle.frame_laws.proofs.Both.{both}
 use Rattle.frame_laws.proofs.Entries.{AlwaysSuits, item_of}
 use Rattle.frame_laws.proofs.Following.{IsFirst}
 use Rattle.frame_laws.proofs.RowCounts.{said_none, said_once}
-use Rattle.frame_laws.proofs.RowValues.{row_if, said_any_if, said_if, text_entry}
+use Rattle.frame_laws.proofs.RowValues.{row_if, said_any_if, text_entry}
 use Rattle.frame_laws.proofs.SaidRows.{AreSaid, IsSaid}
 use Rattle.frame_laws.proofs.Sections.{IsWritten}
 use Rattle.frame_laws.proofs.Words.{IsWord, arguments_of_words, two_words}
@@ -38,20 +34,19 @@ use Rattle.relay_entries.specs.Fields.{identity}
 use Rattle.relay_family.specs.Families.{family_text}
 use Rattle.entry_laws.proofs.WrittenRelays.{identity_again, word_of_twenty}
 use Rattle.descriptor_frame.specs.Fields.{key}
-use Rattle.descriptor_frame.specs.Lines.{ports_at}
 use Rattle.descriptor_laws.specs.Ranges.{AreBytes}
 use Rattle.descriptor_laws.proofs.WrittenLines.{key_again}
-use Rattle.micro_frame.specs.Lines.{id_of, value_at}
-use Rattle.micro_frame.specs.Tables.{micro_tables}
-use Rattle.micro_frame.specs.declared.said.MicroId.{MicroId}
-use Rattle.micro_frame.specs.declared.said.MicroId.TheVariants.{Ed25519, Rsa1024}
-use Rattle.micro_frame.specs.declared.said.MicroKind.{MicroKind}
-use Rattle.micro_frame.specs.declared.said.MicroKind.TheVariants as kind
-use Rattle.micro_frame.specs.declared.said.MicroValue.{MicroValue}
-use Rattle.micro_frame.specs.declared.said.MicroValue.TheVariants as own
+use Rattle.micro_desc.specs.Lines.{id_of, value_at}
+use Rattle.micro_desc.specs.Tables.{micro_tables}
+use Rattle.micro_desc.specs.declared.said.MicroId.{MicroId}
+use Rattle.micro_desc.specs.declared.said.MicroId.TheVariants.{Ed25519, Rsa1024}
+use Rattle.micro_desc.specs.declared.said.MicroKind.{MicroKind}
+use Rattle.micro_desc.specs.declared.said.MicroKind.TheVariants as kind
+use Rattle.micro_desc.specs.declared.said.MicroValue.{MicroValue}
+use Rattle.micro_desc.specs.declared.said.MicroValue.TheVariants as own
 use Rattle.micro_desc.specs.declared.micro.Micro.{Micro}
 use Rattle.micro_desc.specs.Texts.{id_text}
-use Rattle.micro_laws.specs.Ranges.{ArePortsInRange, IsIdInRange, SaysInRange}
+use Rattle.micro_laws.specs.Ranges.{IsIdInRange, SaysInRange}
 use Rattle.micro_laws.proofs.MicroRows.{Says, Written, first_row, id_entry, its_section, key_entry, onion_entry}
 use Rattle.micro_laws.proofs.MicroRows.{other_rows, row_own}
 
@@ -73,17 +68,6 @@ onion_says : (key : Option (List ℕ)) (p : ℕ)
     → value_at kind.OnionKey (written p (item_of (onion_entry key))) ≡ Ok ((onion_entry key).value p)
 onion_says None p = refl
 onion_says (Some key) p = refl
-
--- a summary of ports
-abbrev SpellsPorts : List ℕ → Type 0
-SpellsPorts text = (ports : Ports) × (port_summary text ≡ Ok ports)
-
-ports_say : (keyword : Keyword) (text : List ℕ) → SpellsPorts text → (p : ℕ)
-    → value_at kind.Ports (written p (item_of {V = Says} (text_entry keyword text)))
-    ≡ Ok ((text_entry {W = MicroValue} keyword text).value p)
-ports_say keyword text spells p =
-    let item = written p (item_of {V = Says} (text_entry keyword text)) in
-    ap (λ (r : Result Ports ValueRefusal). says (λ (found : Span). value.Text found) (ports_at item r)) spells.1
 
 -- a key or an identity behind its kind
 ed_is : (item : Item) (b : Argument) (start : ℕ) (bytes : List ℕ)
@@ -132,22 +116,12 @@ said_key bytes are =
     suits kind.Key the.NtorOnionKey Optional (key_entry one) refl
     (λ p. ap (says (λ (found : List ℕ). value.Own (own.Key found))) (key_again p the.NtorOnionKey one is).0))
 
-said_family : (text : Option (List ℕ)) → IsSaid micro_tables (row_if (row the.Family Optional kind.Rest) text)
-said_family text =
-    said_any_if micro_tables (row the.Family Optional kind.Rest) text refl
-    (λ one. suits kind.Rest the.Family Optional (text_entry the.Family one) refl (λ p. refl))
-
-spelled_ports : (ports : Option Ports) → IfSome ports ArePortsInRange
-    → IfSome (option_map summary_text ports) SpellsPorts
-spelled_ports None are = tt
-spelled_ports (Some ports) are = (ports, ports_again ports are)
-
-said_ports : (keyword : Keyword) (ports : Option Ports) → IfSome ports ArePortsInRange
-    → IsSaid micro_tables (row_if (row keyword Optional kind.Ports) (option_map summary_text ports))
-said_ports keyword ports are =
-    said_if micro_tables (row keyword Optional kind.Ports) (option_map summary_text ports) SpellsPorts refl
-    (spelled_ports ports are)
-    (λ one is. suits kind.Ports keyword Optional (text_entry keyword one) refl (ports_say keyword one is))
+-- a text that is read no further
+said_rest : (keyword : Keyword) (text : Option (List ℕ))
+    → IsSaid micro_tables (row_if (row keyword Optional kind.Rest) text)
+said_rest keyword text =
+    said_any_if micro_tables (row keyword Optional kind.Rest) text refl
+    (λ one. suits kind.Rest keyword Optional (text_entry keyword one) refl (λ p. refl))
 
 said_id : (id : Option MicroId) → IfSome id IsIdInRange
     → IsSaid micro_tables (row_own (row the.Id Optional kind.Id) id_entry id)
@@ -159,9 +133,9 @@ said_id id are =
 rows_said : (micro : Micro) → SaysInRange micro → AreSaid micro_tables (other_rows micro)
 rows_said micro are =
     both (said_key micro.ntor_onion_key are.ntor_onion_key)
-    (both (said_family (option_map family_text micro.family))
-    (both (said_ports the.P micro.p are.p)
-    (both (said_ports the.P6 micro.p6 are.p6)
+    (both (said_rest the.Family (option_map family_text micro.family))
+    (both (said_rest the.P micro.p)
+    (both (said_rest the.P6 micro.p6)
     (both (said_id micro.id are.id) tt))))
 
 -- ---- its section

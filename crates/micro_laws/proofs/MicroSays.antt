@@ -1,11 +1,7 @@
 -- What is kept of a microdescriptor that was written says what the microdescriptor says.
-use Rattle.std.proofs.Common.{◌≡◌, ℕ, List, [], Option, Some, None, Result, refl, ap, ◌∙◌}
-use Rattle.std.specs.Prelude.{All, IfSome, option_map, option_and_then, true}
-use Rattle.std.specs.Result.{result_ok}
+use Rattle.std.proofs.Common.{◌≡◌, ℕ, List, [], Option, Some, None, refl, ap, ◌∙◌}
+use Rattle.std.specs.Prelude.{All, IfSome, option_map, true}
 use Rattle.item_terms.specs.Words.{words_of}
-use Rattle.dir_values.specs.Ports.{Ports, port_summary, summary_text}
-use Rattle.dir_values.specs.declared.refusal.ValueRefusal.{ValueRefusal}
-use Rattle.dir_values.proofs.PortsAgain.{ports_again}
 use Rattle.dirdoc_grammar.specs.Writers.{is_argument}
 use Rattle.frame_terms.specs.Keywords.{same}
 use Rattle.frame_terms.specs.declared.document.Taken.{Taken}
@@ -22,30 +18,19 @@ use Rattle.frame_laws.proofs.Sections.{rows_in, section_is_read, taken_in}
 use Rattle.frame_laws.proofs.StandingParts.{spelled}
 use Rattle.frame_laws.proofs.Words.{words_of-join}
 use Rattle.relay_family.specs.Families.{family_text}
-use Rattle.descriptor_doc.specs.Descriptors.{ports_in, words_in}
-use Rattle.micro_frame.specs.Tables.{micro_tables}
-use Rattle.micro_frame.specs.declared.said.MicroKind.{MicroKind}
+use Rattle.descriptor_doc.specs.Descriptors.{words_in}
+use Rattle.micro_desc.specs.Tables.{micro_tables}
+use Rattle.micro_desc.specs.declared.said.MicroKind.{MicroKind}
 use Rattle.micro_desc.specs.declared.micro.Micro.{Micro}
 use Rattle.micro_desc.specs.Heads.{ItemIf, head_of, id_in, key_in, onion_key_in}
 use Rattle.micro_desc.specs.Micros.{micro_in}
 use Rattle.micro_desc.specs.Reading.{max_micro}
-use Rattle.micro_laws.specs.Ranges.{ArePortsInRange, SaysInRange}
+use Rattle.micro_laws.specs.Ranges.{SaysInRange}
 use Rattle.micro_laws.proofs.MicroRows.{Says, Written, entries, first_row, id_entry, its_section, key_entry}
 use Rattle.micro_laws.proofs.MicroRows.{onion_entry, row_own}
 use Rattle.micro_laws.proofs.MicroSaid.{micro_written}
 
 -- ---- texts that are read further
-
--- what the parts of a text spell is what the text spells
-spelled_there : {A : Type 0} (of : List ℕ → Option A) (bytes : List ℕ) (at : Option Span)
-    → option_and_then (λ span. of (part bytes span)) at ≡ option_and_then of (option_map (part bytes) at)
-spelled_there of bytes None = refl
-spelled_there of bytes (Some span) = refl
-
-ports_there : (ports : Option Ports) → IfSome ports ArePortsInRange
-    → option_and_then (λ text. result_ok (port_summary text)) (option_map summary_text ports) ≡ ports
-ports_there None are = refl
-ports_there (Some ports) are = ap (λ (r : Result Ports ValueRefusal). result_ok r) (ports_again ports are)
 
 words_there : (bytes : List ℕ) (at : Option Span)
     → option_map (words_in bytes) at ≡ option_map words_of (option_map (part bytes) at)
@@ -66,16 +51,6 @@ module _ {limit : ℕ} {bytes : List ℕ} {taken : List (Taken Says)} {place : �
       → IsRead limit bytes taken place (row_own row entry value) → of (item_at taken row.keyword) ≡ value
   own_said of entry row None none some read = ap of (item_of_row read) ∙ none
   own_said of entry row (Some a) none some read = ap of (item_of_row read) ∙ some a place
-
-  -- a summary of ports
-  ports_said : (row : Row MicroKind) (ports : Option Ports) → IfSome ports ArePortsInRange
-      → IsRead limit bytes taken place (row_if row (option_map summary_text ports))
-      → option_and_then (ports_in bytes) (text_if (item_at taken row.keyword)) ≡ ports
-  ports_said row ports are read =
-      let of : List ℕ → Option Ports = λ text. result_ok (port_summary text) in
-      spelled_there of bytes (text_if (item_at taken row.keyword))
-      ∙ ap (λ (o : Option (List ℕ)). option_and_then of o) (text_if_said row (option_map summary_text ports) read)
-      ∙ ports_there ports are
 
   -- a family
   family_said : (row : Row MicroKind) (relays : Option (List (List ℕ)))
@@ -113,7 +88,7 @@ micro_says micro bytes are stand =
       ntor_onion_key =
           own_said key_in key_entry _ micro.ntor_onion_key refl (λ a p. refl) (row_read the.NtorOnionKey read refl) i;
       family = family_said _ micro.family are.family (row_read the.Family read refl) i;
-      p = ports_said _ micro.p are.p (row_read the.P read refl) i;
-      p6 = ports_said _ micro.p6 are.p6 (row_read the.P6 read refl) i;
+      p = text_if_said _ micro.p (row_read the.P read refl) i;
+      p6 = text_if_said _ micro.p6 (row_read the.P6 read refl) i;
       id = own_said id_in id_entry _ micro.id refl (λ a p. refl) (row_read the.Id read refl) i;
     }

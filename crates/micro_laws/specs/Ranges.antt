@@ -1,12 +1,11 @@
 -- What a microdescriptor may say that is written and read again (dir-spec, "Computing microdescriptors").
-use Rattle.std.specs.Prelude.{◌≡◌, IsTrue, true, All, IfSome}
-use Rattle.dir_values.specs.Ports.{Ports, are_ranges}
+use Rattle.std.specs.Prelude.{◌≡◌, true, All, IfSome}
 use Rattle.dirdoc_grammar.specs.Writers.{is_argument}
 use Rattle.dirdoc_grammar.specs.Writing.{AreWritable}
 use Rattle.frame_values.specs.Ranges.{AreTwenty}
 use Rattle.descriptor_laws.specs.Ranges.{AreBytes}
-use Rattle.micro_frame.specs.declared.said.MicroId.{MicroId}
-use Rattle.micro_frame.specs.declared.said.MicroId.TheVariants.{Ed25519, Rsa1024}
+use Rattle.micro_desc.specs.declared.said.MicroId.{MicroId}
+use Rattle.micro_desc.specs.declared.said.MicroId.TheVariants.{Ed25519, Rsa1024}
 use Rattle.micro_desc.specs.declared.micro.Micro.{Micro}
 use Rattle.micro_desc.specs.Reading.{max_micro}
 use Rattle.micro_desc.specs.Texts.{micro_items}
@@ -16,17 +15,11 @@ abbrev pub IsIdInRange : MicroId → Type 0
 IsIdInRange (Ed25519 key) = AreBytes 32 key
 IsIdInRange (Rsa1024 identity) = AreTwenty identity.0
 
--- the ranges of ports ascend and are apart
-abbrev pub ArePortsInRange : Ports → Type 0
-ArePortsInRange ports = IsTrue (are_ranges ports.ranges)
-
 -- each of the microdescriptor's values is one that can be read; the names of its family are words, of which there may
--- be none
+-- be none, and its summaries of ports are any texts
 pub record SaysInRange (micro : Micro) : Type 0 where
   pub ntor_onion_key : IfSome micro.ntor_onion_key (AreBytes 32)
   pub family : IfSome micro.family (λ relays. All (λ relay. is_argument relay ≡ true) relays)
-  pub p : IfSome micro.p ArePortsInRange
-  pub p6 : IfSome micro.p6 ArePortsInRange
   pub id : IfSome micro.id IsIdInRange
 
 -- The microdescriptor says what can be read, and its items may be written: its object is of bytes, and no line, no

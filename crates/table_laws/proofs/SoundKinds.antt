@@ -17,8 +17,8 @@ use Rattle.consensus_frame.specs.Tables.{consensus_tables}
 use Rattle.consensus_terms.specs.declared.flavour.Flavour.{Flavour}
 use Rattle.descriptor_frame.specs.declared.said.DescriptorKind.TheVariants as descriptor
 use Rattle.descriptor_frame.specs.Tables.{descriptor_tables}
-use Rattle.micro_frame.specs.declared.said.MicroKind.TheVariants as micro
-use Rattle.micro_frame.specs.Tables.{micro_tables}
+use Rattle.micro_desc.specs.declared.said.MicroKind.TheVariants as micro
+use Rattle.micro_desc.specs.Tables.{micro_tables}
 use Rattle.relay_entries.specs.declared.said.EntryKind.TheVariants as entry
 use Rattle.vote_frame.specs.declared.frame.VoteKind.TheVariants as item
 use Rattle.vote_frame.specs.declared.frame.VoteSection.{VoteSection}

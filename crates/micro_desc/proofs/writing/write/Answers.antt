@@ -2,7 +2,8 @@ use Rattle.std.proofs.Common.{◌∙◌, ◌++◌, List, ℕ, ap, sym}
 use Rattle.dirdoc_grammar.specs.Writing.{item_text, items_text}
 use Rattle.frame_terms.specs.declared.keyword.Keyword.TheVariants as the
 use Rattle.frame_values.proofs.ItemsTexts.{link}
-use Rattle.micro_desc.specs.Texts.{onion_key_item, ntor_key_items, family_items, ports_items, id_items}
+use Rattle.frame_values.specs.Items.{item_if}
+use Rattle.micro_desc.specs.Texts.{onion_key_item, ntor_key_items, family_items, id_items}
 use Rattle.micro_desc.proofs.MicroTexts.{parts}
 use Rattle.micro_desc.proofs.writing.write.Goals as goal
 
@@ -13,14 +14,14 @@ returns c =
     let text1 : List ℕ = item_text (onion_key_item micro.onion_key) in
     let text2 : List ℕ = items_text (ntor_key_items micro.ntor_onion_key) in
     let text3 : List ℕ = items_text (family_items micro.family) in
-    let text4 : List ℕ = items_text (ports_items the.P micro.p) in
-    let text5 : List ℕ = items_text (ports_items the.P6 micro.p6) in
+    let text4 : List ℕ = items_text (item_if the.P micro.p) in
+    let text5 : List ℕ = items_text (item_if the.P6 micro.p6) in
     let text6 : List ℕ = items_text (id_items micro.id) in
     let at1 = c.push_onion_key.new.out.items in
     let at2 = c.push_ntor_key.new.out.items in
     let at3 = c.push_family.new.out.items in
-    let at4 = c.push_ports.new.out.items in
-    let at5 = c.push_ports-2.new.out.items in
+    let at4 = c.push_if.new.out.items in
+    let at5 = c.push_if-2.new.out.items in
     let at6 = c.push_id.new.out.items in
     let rest5 : List ℕ = text6 in
     let rest4 : List ℕ = text5 ++ rest5 in
@@ -31,7 +32,7 @@ returns c =
     link start text1 at1 at6 rest1 c.in_ok-push_onion_key.ensures.ok
     (link at1 text2 at2 at6 rest2 c.in_ok-push_ntor_key.ensures.ok
     (link at2 text3 at3 at6 rest3 c.in_ok-push_family.ensures.ok
-    (link at3 text4 at4 at6 rest4 c.in_ok-push_ports.ensures.ok
-    (link at4 text5 at5 at6 rest5 c.in_ok-push_ports-2.ensures.ok c.in_ok-push_id.ensures.ok))))
+    (link at3 text4 at4 at6 rest4 c.in_ok-push_if.ensures.ok
+    (link at4 text5 at5 at6 rest5 c.in_ok-push_if-2.ensures.ok c.in_ok-push_id.ensures.ok))))
     ∙ ap (λ (l : List ℕ). l ++ whole) c.new-out.ensures.items
     ∙ sym (parts micro)

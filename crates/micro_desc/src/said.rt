@@ -20,8 +20,6 @@ pub enum MicroKind {
     Key,
     /// The rest of the line as it stands, which is read no further.
     Rest,
-    /// A summary of ports.
-    Ports,
     /// A kind of key, and an identity.
     Id,
 }

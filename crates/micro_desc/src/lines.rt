@@ -1,7 +1,7 @@
 // What the items of a microdescriptor say.
 ghost use Rattle.std.specs.Prelude.{◌≡◌};
 ghost use Rattle.dirdoc_grammar.specs.Seen.{seen, IsInside};
-ghost use Rattle.micro_frame.specs.Lines as lines;
+ghost use Rattle.micro_desc.specs.Lines as lines;
 
 use crate::said::MicroId;
 use descriptor_frame::key;

@@ -12,13 +12,13 @@ use Rattle.frame_values.specs.Lines.{rest_of}
 use Rattle.frame_values.specs.Signatures.{object_of}
 use Rattle.relay_entries.specs.Fields.{identity}
 use Rattle.descriptor_frame.specs.Fields.{key}
-use Rattle.descriptor_frame.specs.Lines.{first_of, ports_of}
-use Rattle.micro_frame.specs.declared.said.MicroId.{MicroId}
-use Rattle.micro_frame.specs.declared.said.MicroId.TheVariants.{Ed25519, Rsa1024}
-use Rattle.micro_frame.specs.declared.said.MicroKind.{MicroKind}
-use Rattle.micro_frame.specs.declared.said.MicroKind.TheVariants.{OnionKey, Key, Rest, Ports, Id}
-use Rattle.micro_frame.specs.declared.said.MicroValue.{MicroValue}
-use Rattle.micro_frame.specs.declared.said.MicroValue.TheVariants as own
+use Rattle.descriptor_frame.specs.Lines.{first_of}
+use Rattle.micro_desc.specs.declared.said.MicroId.{MicroId}
+use Rattle.micro_desc.specs.declared.said.MicroId.TheVariants.{Ed25519, Rsa1024}
+use Rattle.micro_desc.specs.declared.said.MicroKind.{MicroKind}
+use Rattle.micro_desc.specs.declared.said.MicroKind.TheVariants.{OnionKey, Key, Rest, Id}
+use Rattle.micro_desc.specs.declared.said.MicroValue.{MicroValue}
+use Rattle.micro_desc.specs.declared.said.MicroValue.TheVariants as own
 
 -- where the lines of an onion key stand: those of any object, and nowhere where there is none
 abbrev pub onion_key_of : Item → Option Span
@@ -39,5 +39,4 @@ abbrev pub value_at : MicroKind → Item → Result (Value MicroValue) ℕ
 value_at OnionKey item = Ok (value.Own (own.OnionKey (onion_key_of item)))
 value_at Key item = next (first_of key item) (λ bytes. Ok (value.Own (own.Key bytes)))
 value_at Rest item = Ok (value.Text (rest_of item))
-value_at Ports item = next (ports_of item) (λ text. Ok (value.Text text))
 value_at Id item = next (id_of item) (λ id. Ok (value.Own (own.Id id)))

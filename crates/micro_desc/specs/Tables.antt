@@ -9,10 +9,10 @@ use Rattle.frame_terms.specs.Rows.{row}
 use Rattle.frame_terms.specs.Tables.{Tables}
 use Rattle.frame_values.specs.declared.values.Value.{Value}
 use Rattle.frame_values.specs.Faults.{at_place}
-use Rattle.micro_frame.specs.declared.said.MicroKind.{MicroKind}
-use Rattle.micro_frame.specs.declared.said.MicroKind.TheVariants as kind
-use Rattle.micro_frame.specs.declared.said.MicroValue.{MicroValue}
-use Rattle.micro_frame.specs.Lines.{value_at}
+use Rattle.micro_desc.specs.declared.said.MicroKind.{MicroKind}
+use Rattle.micro_desc.specs.declared.said.MicroKind.TheVariants as kind
+use Rattle.micro_desc.specs.declared.said.MicroValue.{MicroValue}
+use Rattle.micro_desc.specs.Lines.{value_at}
 
 -- its items; the first one opens it
 abbrev pub rows : List (Row MicroKind)
@@ -20,8 +20,8 @@ rows =
     row the.OnionKey One kind.OnionKey
     ∷ row the.NtorOnionKey Optional kind.Key
     ∷ row the.Family Optional kind.Rest
-    ∷ row the.P Optional kind.Ports
-    ∷ row the.P6 Optional kind.Ports
+    ∷ row the.P Optional kind.Rest
+    ∷ row the.P6 Optional kind.Rest
     ∷ row the.Id Optional kind.Id
     ∷ []
 
