@@ -1,2 +1,3 @@
 pub mod LinesBehind
 pub mod NotRefused
+pub mod MadeOf

@@ -2,4 +2,5 @@ pub mod Blanks
 pub mod NextMicro
 pub mod Documents
 pub mod Answers
+pub mod Ends
 pub mod Private

@@ -1,7 +1,9 @@
 -- What the private functions of this crate return.
 use Rattle.std.specs.Prelude.{◌≡◌, ◌≤◌, ℕ, Result, Ok, Err}
+use Rattle.frame_terms.specs.declared.fault.FrameFault.{FrameFault}
 use Rattle.frame_terms.specs.declared.fault.ReadRefusal.{ReadRefusal}
 use Rattle.frame_terms.specs.Refusals.{Fails}
+use Rattle.document_commands.specs.Ends.{refusal_of}
 
 -- what was read is the document, or the refusal is its fault
 abbrev pub ReadsOne : {D : Type 0} → Result D ReadRefusal → Result D ReadRefusal → Type 0
@@ -13,7 +15,8 @@ abbrev pub IsOne : {D : Type 0} → Result D ReadRefusal → Result (Unit {0}) R
 IsOne {D} read (Ok _) = (document : D) × (read ≡ Ok document)
 IsOne read (Err refusal) = Fails refusal read
 
--- the same of a document and the place after it, which is within so many bytes
-abbrev pub ReadsFirst : {D : Type 0} → Result (D × ℕ) ReadRefusal → ℕ → Result (D × ℕ) ReadRefusal → Type 0
-ReadsFirst read most (Ok (document, used)) = (read ≡ Ok (document, used)) × (used ≤ most)
-ReadsFirst read most (Err refusal) = Fails refusal read
+-- the same of a document and the place after it, which is within so many bytes; a fault is the document's before it is told
+abbrev pub ReadsFirst : {D : Type 0} → (FrameFault → FrameFault) → Result (D × ℕ) ReadRefusal → ℕ
+    → Result (D × ℕ) ReadRefusal → Type 0
+ReadsFirst fault_of read most (Ok (document, used)) = (read ≡ Ok (document, used)) × (used ≤ most)
+ReadsFirst fault_of read most (Err refusal) = Fails (refusal_of fault_of refusal) read

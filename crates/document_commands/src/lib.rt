@@ -6,6 +6,7 @@ mod cert;
 mod commands;
 mod consensus;
 mod descriptor;
+mod ends;
 mod micro;
 mod next_micro;
 mod one;

@@ -1,35 +1,41 @@
 // A microdescriptor, as the commands see it.
+ghost use Rattle.micro_desc.specs.Reading.{max_micro};
 ghost use Rattle.micro_desc.specs.Texts.{micro_text};
-ghost use Rattle.document_commands.specs.NextMicro.{first_micro};
+ghost use Rattle.document_commands.specs.NextMicro.{first_micro, next_micro, unless_behind};
 
-use crate::next_micro::refused_of;
+use crate::next_micro::fault_of;
 use crate::one::Document;
 use bytes::Bytes;
 use dir_bytes::Memory;
-use document_ends::end_of_micro;
-use frame_terms::ReadRefusal;
-use micro_desc::Micro;
+use frame_terms::{FrameFault, ReadRefusal};
+use micro_desc::{Micro, MicroFrame};
 use std::alloc::Global;
 
 impl Document for Micro {
+    type Format = MicroFrame;
+
     ghost read_of = { first_micro };
+
+    ghost fault_of = { λ bytes fault. unless_behind (next_micro bytes) fault };
 
     ghost is_fit = { λ micro. Unit {0} };
 
     ghost text_of = { micro_text };
 
-    fn read(alloc: Global, bytes: &Bytes) -> Result<(Micro, usize), ReadRefusal> {
-        match micro_desc::read(alloc, bytes) {
-            Ok(read) => Ok(read),
-            Err(refusal) => Err(refused_of(bytes, refusal)),
-        }
+    ghost LIMIT = { max_micro };
+
+    const LIMIT: u64 = 65_536;
+
+    fn frame(_: Global, _: &[u8]) -> MicroFrame {
+        MicroFrame
     }
 
-    fn end(alloc: Global, bytes: &[u8]) -> Result<usize, ReadRefusal> {
-        match end_of_micro(alloc, bytes) {
-            Ok(end) => Ok(end),
-            Err(refusal) => Err(refused_of(bytes, refusal)),
-        }
+    fn read(alloc: Global, bytes: &Bytes) -> Result<(Micro, usize), ReadRefusal> {
+        micro_desc::read(alloc, bytes)
+    }
+
+    fn fault(bytes: &[u8], fault: FrameFault) -> FrameFault {
+        fault_of(bytes, fault)
     }
 
     fn write(&self, alloc: Global) -> Result<Vec<u8>, Memory> {

@@ -8,27 +8,24 @@ ghost use Rattle.document_commands.specs.NextMicro as next;
 
 use crate::blanks::{after_blanks, is_blank};
 use dirdoc_grammar::Items;
-use frame_terms::{FrameFault, FrameReason, ReadRefusal};
+use frame_terms::{FrameFault, FrameReason};
 use memchr::memchr;
 
 /// How many bytes a microdescriptor may have.
 const MAX_MICRO: u64 = 65_536;
 
-/// The refusal of an input whose first microdescriptor was refused: a fault in the line or the object of the next one's
-/// `onion-key` is that this line is out of order.
-pub fn refused_of(bytes: &[u8], refusal: ReadRefusal) -> ReadRefusal
+/// A fault of the first microdescriptor of an input, as it is told: one in the line or the object of the next one's `onion-key`
+/// is that this line is out of order.
+pub fn fault_of(bytes: &[u8], fault: FrameFault) -> FrameFault
     requires { length bytes.now < 2 ^ 61 }
-    ensures { result ≡ next.refused_of bytes.now refusal }
+    ensures { result ≡ next.unless_behind (next.next_micro bytes.now) fault }
 {
-    let ReadRefusal::Frame(fault) = refusal else {
-        return refusal;
-    };
     match next_micro(bytes) {
-        Some(next) if next as u64 <= fault.place => ReadRefusal::Frame(FrameFault {
+        Some(next) if next as u64 <= fault.place => FrameFault {
             place: next as u64,
             reason: FrameReason::Order,
-        }),
-        _ => refusal,
+        },
+        _ => fault,
     }
 }
 

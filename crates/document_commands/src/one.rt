@@ -1,18 +1,23 @@
 // One document of any kind, and what the commands answer of it.
 ghost use Rattle.std.specs.Prelude.{◌≡◌, ◌≤◌, ◌<◌, ◌^◌, ℕ, List, Result, IfOk, length};
+ghost use Rattle.item_terms.specs.Items.{items_of};
+ghost use Rattle.frame_terms.specs.declared.fault.FrameFault.{FrameFault};
 ghost use Rattle.frame_terms.specs.declared.fault.ReadRefusal.{ReadRefusal};
+ghost use Rattle.frame_terms.specs.Documents.{document_of};
 ghost use Rattle.exit_status.specs.Stops.{Answered};
-ghost use Rattle.document_ends.specs.Ends.{Ends};
 ghost use Rattle.document_commands.specs.Answers.{ReadAnswers, check_text};
 ghost use Rattle.document_commands.specs.Blanks as blanks;
 ghost use Rattle.document_commands.specs.Documents as documents;
+ghost use Rattle.document_commands.specs.Ends.{ComesOf};
 ghost use Rattle.document_commands.specs.Private.{IsOne, ReadsFirst, ReadsOne};
 
 use crate::blanks::after_blanks;
+use crate::ends::{end_of, refusal_of};
 use bytes::Bytes;
 use daemon_words::Kind;
 use dir_bytes::Memory;
 use exit_status::{Stop, of_kind};
+use frame_reader::Frame;
 use frame_terms::{FrameFault, FrameReason, ReadRefusal};
 use std::alloc::Global;
 
@@ -21,8 +26,14 @@ const OK: &[u8] = b"ok\n";
 
 /// A document of a kind, as the commands see it: how it is read, and how it is written.
 pub trait Document: Drop {
+    /// Its frame, by whose tables it is read.
+    type Format: Frame;
+
     /// The document that bytes begin with, and the place after it; or the first fault.
     ghost read_of: { List ℕ → Result (Self × ℕ) ReadRefusal };
+
+    /// How a fault of the document that bytes begin with is told.
+    ghost fault_of: { List ℕ → FrameFault → FrameFault };
 
     /// What is known of each document that was read, without which it has no text.
     ghost is_fit: { Self → Type 0 };
@@ -30,22 +41,31 @@ pub trait Document: Drop {
     /// Its canonical text.
     ghost text_of: { Self → List ℕ };
 
+    /// How many bytes it may have.
+    ghost LIMIT: { ℕ };
+
+    /// How many bytes it may have.
+    const LIMIT: u64;
+
+    /// The frame of the document that the bytes begin with: what is read comes of the sections that its tables make of their
+    /// items.
+    fn frame(alloc: Global, bytes: &[u8]) -> Self::Format
+        requires { length bytes.now < 2 ^ 61 }
+        ensures { ComesOf (fault_of bytes.now) (document_of (Self.Format.tables result) (length bytes.now) (items_of LIMIT bytes.now)) (read_of bytes.now) };
+
     /// The document that the bytes begin with, and the place after it.
     ///
     /// # Errors
-    /// `Frame` is its first fault: what is wrong and at which byte. `Memory` is want of memory.
+    /// `Frame` is its first fault, before it is told: what is wrong and at which byte. `Memory` is want of memory.
     fn read(alloc: Global, bytes: &Bytes) -> Result<(Self, usize), ReadRefusal>
         requires { length bytes.now < 2 ^ 61 }
-        ensures read { ReadsFirst (read_of bytes.now) (length bytes.now) result }
+        ensures read { ReadsFirst (fault_of bytes.now) (read_of bytes.now) (length bytes.now) result }
         ensures fit { IfOk result (λ read. is_fit read.0) };
 
-    /// The place after the document that the bytes begin with, of which nothing is kept.
-    ///
-    /// # Errors
-    /// As those of `read`.
-    fn end(alloc: Global, bytes: &[u8]) -> Result<usize, ReadRefusal>
+    /// A fault of the document that the bytes begin with, as it is told.
+    fn fault(bytes: &[u8], fault: FrameFault) -> FrameFault
         requires { length bytes.now < 2 ^ 61 }
-        ensures { Ends bytes.now (read_of bytes.now) result };
+        ensures { result ≡ fault_of bytes.now fault };
 
     /// Its canonical text.
     ///
@@ -82,8 +102,10 @@ fn one<D: Document>(alloc: Global, bytes: &Bytes) -> Result<D, ReadRefusal>
     ensures read { ReadsOne (documents.whole bytes.now (D.read_of bytes.now)) result }
     ensures fit { IfOk result (λ document. D.is_fit document) }
 {
-    let (document, used) = D::read(alloc, bytes)?;
-    alone(bytes, document, used)
+    match D::read(alloc, bytes) {
+        Ok((document, used)) => alone(bytes, document, used),
+        Err(refusal) => Err(refusal_of::<D>(bytes, refusal)),
+    }
 }
 
 /// Nothing, where the input is one document.
@@ -91,7 +113,7 @@ fn is_one<D: Document>(alloc: Global, bytes: &[u8]) -> Result<(), ReadRefusal>
     requires { length bytes.now < 2 ^ 61 }
     ensures { IsOne (documents.whole bytes.now (D.read_of bytes.now)) result }
 {
-    let end = D::end(alloc, bytes)?;
+    let end = end_of::<D>(alloc, bytes)?;
     alone(bytes, (), end)
 }
 

@@ -1,0 +1,15 @@
+use Rattle.std.proofs.Common.{length, refl}
+use Rattle.item_terms.specs.Items.{items_of}
+use Rattle.frame_terms.specs.Documents.{document_of}
+use Rattle.vote_frame.specs.Tables.{vote_tables}
+use Rattle.vote_doc.specs.Facts.{vote_in}
+use Rattle.vote_doc.specs.Kept.{kept_with, none_kept}
+use Rattle.vote_doc.specs.Reading.{max_vote, with_facts}
+use Rattle.document_commands.proofs.MadeOf.{comes_of}
+use Rattle.document_commands.proofs.vote.VoteDocument.frame.Goals as goal
+
+pub returns : goal.returns
+returns c =
+    let bytes = c.args.arg2.now in
+    comes_of (λ fault. fault) (with_facts bytes) (vote_in bytes) (λ kept n. refl) (λ fault. refl) kept_with none_kept
+    (document_of vote_tables (length bytes) (items_of max_vote bytes))
