@@ -3,6 +3,7 @@
 
 mod flags;
 mod lists;
+mod methods;
 mod protocol_lists;
 mod record;
 mod timing;

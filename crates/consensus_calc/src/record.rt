@@ -5,6 +5,7 @@ ghost use Rattle.consensus_calc.specs.Calculating.{Calculates, HasMoments};
 
 use crate::flags::known_flags;
 use crate::lists::lists_of;
+use crate::methods::chosen_method;
 use crate::timing::{Timing, median};
 use crate::weights::weighted_consensus;
 use bandwidth_rules::unmeasured_limit;
@@ -14,9 +15,6 @@ use relay_select::over;
 use router_calc::routers;
 use std::alloc::Global;
 use vote_doc::{Accepted, HeldVote, Vote};
-
-/// The consensus method.
-const METHOD: u32 = 32;
 
 /// Why there is no consensus.
 #[derive(Clone, Copy, Debug, PartialEq, Eq)]
@@ -63,9 +61,10 @@ fn facts_of(alloc: Global, roster: u32, votes: &Accepted) -> Result<ConsensusFac
     let lists = lists_of(alloc, roster, votes)?;
     let limit = unmeasured_limit(&lists.params);
     let known_flags = known_flags(alloc, votes)?;
-    let routers = routers(alloc, roster, METHOD, limit, &known_flags, votes)?;
+    let method = chosen_method(alloc, votes)?;
+    let routers = routers(alloc, roster, method, limit, &known_flags, votes)?;
     Ok(ConsensusFacts {
-        method: METHOD,
+        method,
         valid_after: median(alloc, votes, Timing::ValidAfter)?,
         fresh_until: median(alloc, votes, Timing::FreshUntil)?,
         valid_until: median(alloc, votes, Timing::ValidUntil)?,
