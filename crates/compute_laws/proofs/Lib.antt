@@ -1,2 +1,5 @@
 pub mod ListedLaw
 pub mod EmptyFlags
+mod Order
+mod Alike
+mod Joined

@@ -4,7 +4,7 @@ use Rattle.std.specs.Prelude.{Contains}
 use Rattle.vote_terms.specs.Votes.{ReadVote}
 use Rattle.vote_terms.specs.Held.{IsHeld}
 use Rattle.vote_terms.proofs.HeldLaw.{In, in_from}
-use Rattle.delivery_laws.specs.Deliveries.{HeldAlike}
+use Rattle.compute_laws.specs.Deliveries.{HeldAlike}
 
 -- a vote that stands in a list, with what stands before it and behind it
 pub record Found (list : List ReadVote) (v : ReadVote) : Type 0 where

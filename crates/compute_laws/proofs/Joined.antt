@@ -6,8 +6,8 @@ use Rattle.vote_terms.specs.Votes.{ReadVote, rank_of}
 use Rattle.vote_terms.specs.Held.{IsHeld, held, outranks}
 use Rattle.vote_terms.proofs.HeldLaw.{In, held_law, in_from, in_to}
 use Rattle.vote_terms.proofs.Orders.{above_other}
-use Rattle.delivery_laws.specs.Deliveries.{HeldOfLists}
-use Rattle.delivery_laws.proofs.Alike.{found, longer}
+use Rattle.compute_laws.specs.Deliveries.{HeldOfLists}
+use Rattle.compute_laws.proofs.Alike.{found, longer}
 
 in_both : (l m : List ReadVote) (v : ReadVote) → In v l ⊎ In v m → In v (l ++ m)
 in_both [] m v i = ⊎_elim (λ (j : ⊥). absurd j) (λ j. j) i

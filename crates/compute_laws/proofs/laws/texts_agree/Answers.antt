@@ -3,7 +3,7 @@ use Rattle.vote_terms.specs.Votes.{ReadVote}
 use Rattle.vote_terms.proofs.HeldLaw.{held_agree}
 use Rattle.compute_terms.specs.Consensuses.{consensus}
 use Rattle.consensus_terms.specs.Texts.{unsigned}
-use Rattle.delivery_laws.proofs.laws.texts_agree.Goals as goal
+use Rattle.compute_laws.proofs.laws.texts_agree.Goals as goal
 
 pub returns : goal.returns
 returns c = λ roster flavour l m same apart.

@@ -8,7 +8,7 @@ use Rattle.dir_values.proofs.Orders.{below_or_same, same_text}
 use Rattle.vote_terms.specs.declared.rank.Rank.{Rank}
 use Rattle.vote_terms.specs.Votes.{is_above}
 use Rattle.vote_terms.proofs.Orders.{above_itself, above_trans}
-use Rattle.delivery_laws.specs.Ranks.{RanksAreOrdered}
+use Rattle.compute_laws.specs.Ranks.{RanksAreOrdered}
 
 -- bytes of which neither come before the others are the same
 same_bytes_by : (same : Bool) (a b : List ℕ) → bytes_eq a b ≡ same → bytes_below a b ≡ false → bytes_below b a ≡ false → a ≡ b

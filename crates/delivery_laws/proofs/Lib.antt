@@ -1,3 +1,0 @@
-mod Order
-mod Alike
-mod Joined

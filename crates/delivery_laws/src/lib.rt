@@ -1,6 +1,0 @@
-//! Laws of votes that come in several lists, in any order and however often. Nothing that runs stands on them.
-#![tactic(auto)]
-
-mod laws;
-
-pub use laws::{held_alike, held_of_lists, ranks_are_ordered, texts_agree};
