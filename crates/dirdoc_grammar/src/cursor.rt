@@ -4,6 +4,7 @@ ghost use Rattle.std.specs.Prelude.{◌+◌, ◌<◌, ◌≡◌, ◌≤◌, ◌^
 ghost use Rattle.item_terms.specs.Steps.{Open};
 ghost use Rattle.dirdoc_grammar.specs.Cursors.{behind, fed_by, IsAt, IsOver, NoNl, Past};
 ghost use Rattle.dirdoc_grammar.specs.Feeding.{EndsNoEarlier, IfItem, IfNotYet, Takes};
+ghost use Rattle.dirdoc_grammar.specs.declared.feeder.Take.TheVariants.{NotYet};
 ghost use Rattle.dirdoc_grammar.specs.Reading.{IsOf};
 ghost use Rattle.dirdoc_grammar.specs.Seen.{seen, LiesInOrder};
 
@@ -144,7 +145,72 @@ impl Cursor {
         }
     }
 
-    /// What comes next where more bytes may follow, and the reader behind it.
+    /// Whether the new bytes of these end no line and pass no limit, so that what comes next is known no more than
+    /// before. Then they are not looked through again.
+    pub(crate) fn waits(&mut self, bytes: &[u8]) -> bool
+        requires at { IsAt bytes.now self.old }
+        requires short { length bytes.now < 2 ^ 62 }
+        ensures takes { IsTrue result → Takes (fed_by self.old bytes.now false) NotYet (fed_by self.new bytes.now false) }
+        ensures later { IsTrue result → EndsNoEarlier (length bytes.now) (fed_by self.new bytes.now false) }
+        ensures at { IsAt bytes.now self.new }
+        ensures limit { self.new.limit ≡ self.old.limit }
+        ensures same { result ≡ false → self.new ≡ self.old }
+    {
+        let Stop { line, phase, .. } = self.stop;
+        let quiet = is_quiet(bytes, self.limit, line, phase, self.scanned);
+        if quiet {
+            self.scanned = bytes.len();
+        }
+        quiet
+    }
+
+    /// What an item's reading from its first byte on says, where more bytes may follow, and the reader behind it.
+    fn take_next(self, bytes: &[u8]) -> (Take<'_>, Cursor)
+        requires at { IsAt bytes.now self }
+        requires short { length bytes.now < 2 ^ 62 }
+        ensures takes { Takes (fed_by self bytes.now false) result.0 (fed_by result.1 bytes.now false) }
+        ensures later { IfNotYet result.0 (EndsNoEarlier (length bytes.now) (fed_by result.1 bytes.now false)) }
+        ensures at { IsAt bytes.now result.1 }
+        ensures limit { result.1.limit ≡ self.limit }
+        ensures order { IfItem result.0 (λ item. LiesInOrder (seen item)) }
+    {
+        match next_item(bytes, self.stop.item, self.limit) {
+            Found::Whole(item) => (
+                Take::Item(item),
+                Cursor::behind(self.limit, item.after as usize),
+            ),
+            Found::Fault(fault) => (Take::Fault(fault), self),
+            Found::Open(stop, _) => {
+                let scanned = bytes.len();
+                (
+                    Take::NotYet,
+                    Cursor {
+                        stop,
+                        scanned,
+                        ..self
+                    },
+                )
+            }
+        }
+    }
+
+    /// The same, where that is not known yet is told without a reading.
+    fn take_quietly(mut self, bytes: &[u8]) -> (Take<'_>, Cursor)
+        requires at { IsAt bytes.now self }
+        requires short { length bytes.now < 2 ^ 62 }
+        ensures takes { Takes (fed_by self bytes.now false) result.0 (fed_by result.1 bytes.now false) }
+        ensures later { IfNotYet result.0 (EndsNoEarlier (length bytes.now) (fed_by result.1 bytes.now false)) }
+        ensures at { IsAt bytes.now result.1 }
+        ensures limit { result.1.limit ≡ self.limit }
+        ensures order { IfItem result.0 (λ item. LiesInOrder (seen item)) }
+    {
+        if self.waits(bytes) {
+            return (Take::NotYet, self);
+        }
+        self.take_next(bytes)
+    }
+
+    /// What comes next where more bytes may follow and a line was ended or a limit passed, and the reader behind it.
     fn take_more(self, bytes: &[u8]) -> (Take<'_>, Cursor)
         requires at { IsAt bytes.now self }
         requires short { length bytes.now < 2 ^ 62 }
@@ -154,25 +220,9 @@ impl Cursor {
         ensures limit { result.1.limit ≡ self.limit }
         ensures order { IfItem result.0 (λ item. LiesInOrder (seen item)) }
     {
-        let Stop { item, line, phase } = self.stop;
-        let scanned = bytes.len();
-        if is_quiet(bytes, self.limit, line, phase, self.scanned) {
-            return (Take::NotYet, Cursor { scanned, ..self });
-        }
-        match next_item(bytes, item, self.limit) {
-            Found::Whole(item) => (
-                Take::Item(item),
-                Cursor::behind(self.limit, item.after as usize),
-            ),
-            Found::Fault(fault) => (Take::Fault(fault), self),
-            Found::Open(stop, _) => (
-                Take::NotYet,
-                Cursor {
-                    stop,
-                    scanned,
-                    ..self
-                },
-            ),
+        match self.stop.phase {
+            Phase::Object(_) => self.onward(bytes).take_quietly(bytes),
+            _ => self.take_next(bytes),
         }
     }
 
@@ -191,7 +241,10 @@ impl Cursor {
             *self = cursor;
             return taken;
         }
-        let (taken, cursor) = self.onward(bytes).take_more(bytes);
+        if self.waits(bytes) {
+            return Take::NotYet;
+        }
+        let (taken, cursor) = self.take_more(bytes);
         *self = cursor;
         taken
     }

@@ -1,8 +1,9 @@
 // A document whose bytes arrive piece by piece (dir-spec, "Document meta-format").
 
-ghost use Rattle.std.specs.Prelude.{◌+◌, ◌-◌, ◌<◌, ◌≡◌, ◌≤◌, ◌^◌, ◌++◌, [], drop, false, length, take, true, vec_len, IfOk, OnErr, OnOk};
-ghost use Rattle.dirdoc_grammar.specs.Cursors.{IsAt};
-ghost use Rattle.dirdoc_grammar.specs.Feeding.{behind_place, Fed, IfFault, IfItem, Moves, Shows};
+ghost use Rattle.std.specs.Prelude.{◌+◌, ◌-◌, ◌<◌, ◌≡◌, ◌≤◌, ◌^◌, ◌++◌, [], drop, false, length, take, true, vec_len, IsTrue, IfOk, OnErr, OnOk};
+ghost use Rattle.dirdoc_grammar.specs.declared.feeder.Take.TheVariants.{NotYet};
+ghost use Rattle.dirdoc_grammar.specs.Cursors.{fed_by, IsAt};
+ghost use Rattle.dirdoc_grammar.specs.Feeding.{behind_place, Fed, IfFault, IfItem, Moves, Shows, Takes};
 ghost use Rattle.dirdoc_grammar.specs.Moving.{moved_item, moved_fault, moved_object};
 ghost use Rattle.dirdoc_grammar.specs.Seen.{seen, seen_object, LiesInOrder};
 
@@ -33,6 +34,7 @@ pub struct Feeder {
     bytes: Vec<u8>,
     base: u64,
     cursor: Cursor,
+    waits: bool,
     finished: bool,
 }
 
@@ -41,7 +43,7 @@ impl Model for Feeder {
 
     ghost view = { λ s. record { limit = s.base + s.cursor.limit; place = s.base + s.cursor.place; rest = drop s.cursor.place s.bytes.items; finished = s.finished } };
 
-    ghost invariant = { λ s. IsAt s.bytes.items s.cursor × (length s.bytes.items ≤ s.cursor.limit + 1) × (s.base + s.cursor.limit < 2 ^ 61) };
+    ghost invariant = { λ s. IsAt s.bytes.items s.cursor × (length s.bytes.items ≤ s.cursor.limit + 1) × (s.base + s.cursor.limit < 2 ^ 61) × (IsTrue s.waits → Takes (fed_by s.cursor s.bytes.items s.finished) NotYet (fed_by s.cursor s.bytes.items s.finished)) };
 }
 
 /// Takes so many bytes off the front.
@@ -113,6 +115,7 @@ impl Feeder {
             bytes: Vec::new(alloc),
             base: 0,
             cursor: Cursor::new(limit),
+            waits: false,
             finished: false,
         }
     }
@@ -126,7 +129,27 @@ impl Feeder {
             take_off(&mut self.bytes, taken);
             self.base += taken as u64;
             self.cursor = Cursor::new(self.cursor.limit - taken as u64);
+            self.waits = false;
         }
+    }
+
+    /// Keeps how far the bytes were looked through, and whether nothing is known of what comes next.
+    fn remember(&mut self)
+        requires { self.old.finished ≡ false }
+        ensures { self.new ≡ self.old }
+    {
+        let mut cursor = self.cursor;
+        if cursor.waits(&self.bytes) {
+            self.cursor = cursor;
+            self.waits = true;
+            return;
+        }
+        if let Take::NotYet = cursor.take(&self.bytes, false) {
+            self.cursor = cursor;
+            self.waits = true;
+            return;
+        }
+        self.waits = false;
     }
 
     /// Feeds the next piece. Of what the document may not have, one byte is kept.
@@ -138,11 +161,12 @@ impl Feeder {
         ensures ok { OnOk result (self.new ≡ record self.old { rest = take (self.old.limit + 1 - self.old.place) (self.old.rest ++ piece.now) }) }
         ensures err { OnErr result (self.new ≡ self.old) }
     {
-        self.remember();
         self.compact();
         let room = (self.cursor.limit + 1 - self.bytes.len() as u64) as usize;
         let piece = &piece[..piece.len().min(room)];
+        self.waits = false;
         self.bytes.extend_from_slice(piece)?;
+        self.remember();
         Ok(())
     }
 
@@ -151,22 +175,16 @@ impl Feeder {
         ensures { self.new ≡ record self.old { finished = true } }
     {
         self.finished = true;
-    }
-
-    /// Keeps how far the bytes were looked through, so that they are not again.
-    fn remember(&mut self)
-        ensures { self.new ≡ self.old }
-    {
-        let mut cursor = self.cursor;
-        if let Take::NotYet = cursor.take(&self.bytes, self.finished) {
-            self.cursor = cursor;
-        }
+        self.waits = false;
     }
 
     /// What comes next, if it is known. Places count from the document's first byte.
     pub fn look(&self) -> Take<'_>
         ensures { Shows self.now result }
     {
+        if self.waits {
+            return Take::NotYet;
+        }
         let mut cursor = self.cursor;
         take_at(self.base, cursor.take(&self.bytes, self.finished))
     }
@@ -178,5 +196,6 @@ impl Feeder {
         ensures { self.new ≡ behind_place self.old after }
     {
         self.cursor = Cursor::behind(self.cursor.limit, (after - self.base) as usize);
+        self.waits = false;
     }
 }

@@ -1,5 +1,6 @@
 use Rattle.std.proofs.Common.{◌≡◌, ◌≤◌, ◌+◌, List, ℕ, length, ap, subst, arith, ◌∙◌}
 use Rattle.dirdoc_grammar.specs.Cursors.{fed_by}
+use Rattle.dirdoc_grammar.specs.declared.feeder.Take.TheVariants.{NotYet}
 use Rattle.dirdoc_grammar.specs.Feeding.{Fed, Shows}
 use Rattle.dirdoc_grammar.proofs.Feeding.{fault_near}
 use Rattle.dirdoc_grammar.proofs.Later.{later, shows_later}
@@ -22,3 +23,9 @@ returns c =
     let bytes : later base (fed_by i.cursor c.deref.result.now i.finished) ≡ later base (fed_by i.cursor i.bytes.items i.finished) =
     ap (λ (l : List ℕ). later base (fed_by i.cursor l i.finished)) c.deref.ensures.value in
     subst (λ (f : Fed). Shows f c.take_at.result) (bytes ∙ c.self.view_is) (shows_later base (fed_by i.cursor c.deref.result.now i.finished) _ c.take.result c.take_at.result c.take.ensures.takes c.take_at.ensures)
+
+pub returns-then-self : goal.returns-then-self
+returns-then-self c =
+    let i = c.self.inside in
+    let fed = fed_by i.cursor i.bytes.items i.finished in
+    subst (λ (f : Fed). Shows f NotYet) c.self.view_is (shows_later i.base fed fed NotYet NotYet (c.self.invariant.3 c.if-self.true) tt)
