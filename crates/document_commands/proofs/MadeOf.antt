@@ -1,5 +1,5 @@
 -- A document ends where something is kept of it as it does where nothing is.
-use Rattle.std.proofs.Common.{◌≡◌, ℕ, List, length, Result, Ok, Err, ap, sym, subst, ◌∙◌}
+use Rattle.std.proofs.Common.{◌≡◌, ℕ, List, Result, Ok, Err, ap, sym, subst, ◌∙◌}
 use Rattle.std.specs.List.{fold}
 use Rattle.item_terms.specs.Items.{Contents, items_of}
 use Rattle.frame_terms.specs.declared.document.Group.{Group}

@@ -42,7 +42,6 @@ use Rattle.micro_desc.specs.declared.said.MicroId.{MicroId}
 use Rattle.micro_desc.specs.declared.said.MicroId.TheVariants.{Ed25519, Rsa1024}
 use Rattle.micro_desc.specs.declared.said.MicroKind.{MicroKind}
 use Rattle.micro_desc.specs.declared.said.MicroKind.TheVariants as kind
-use Rattle.micro_desc.specs.declared.said.MicroValue.{MicroValue}
 use Rattle.micro_desc.specs.declared.said.MicroValue.TheVariants as own
 use Rattle.micro_desc.specs.declared.micro.Micro.{Micro}
 use Rattle.micro_desc.specs.Texts.{id_text}
