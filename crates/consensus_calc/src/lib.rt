@@ -5,6 +5,7 @@ mod flags;
 mod lists;
 mod methods;
 mod protocol_lists;
+mod randoms;
 mod record;
 mod timing;
 mod version_lists;

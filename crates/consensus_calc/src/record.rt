@@ -6,11 +6,13 @@ ghost use Rattle.consensus_calc.specs.Calculating.{Calculates, HasMoments};
 use crate::flags::known_flags;
 use crate::lists::lists_of;
 use crate::methods::chosen_method;
+use crate::randoms::agreed_random;
 use crate::timing::{Timing, median};
 use crate::weights::weighted_consensus;
 use bandwidth_rules::unmeasured_limit;
 use consensus_terms::{Consensus, ConsensusFacts, SourceLine};
 use dir_bytes::{Memory, Seq, Text};
+use random_lines::RandomLine;
 use relay_select::over;
 use router_calc::routers;
 use std::alloc::Global;
@@ -72,6 +74,8 @@ fn facts_of(alloc: Global, roster: u32, votes: &Accepted) -> Result<ConsensusFac
         dist_seconds: median(alloc, votes, Timing::DistSeconds)? as u32,
         known_flags,
         lists,
+        random_previous: agreed_random(RandomLine::Previous, roster, votes),
+        random_current: agreed_random(RandomLine::Current, roster, votes),
         sources: sources(alloc, votes)?,
         routers,
     })
