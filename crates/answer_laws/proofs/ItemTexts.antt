@@ -13,7 +13,8 @@ use Rattle.authority_certs.specs.Texts.{cert_items}
 use Rattle.vote_terms.specs.declared.entry.EntryFacts.{EntryFacts}
 use Rattle.vote_terms.specs.declared.facts.VoteFacts.{VoteFacts}
 use Rattle.vote_text.specs.Entries.{entries_items, entry_items, flag_items, items_each, micro_items, relay_items}
-use Rattle.vote_text.specs.Texts.{authority_items, footer_items, preamble_items, source_text, vote_items}
+use Rattle.vote_text.specs.Texts.{authority_items, footer_items, preamble_items, random_items}
+use Rattle.vote_text.specs.Texts.{source_text, vote_items}
 use Rattle.computed_laws.specs.WithinLimits.{FillsLines, HasLineTexts}
 
 -- ---- some of the items
@@ -75,6 +76,7 @@ vote_fills facts all =
     back first authority (front (first ++ authority) cert (front (first ++ authority ++ cert) entries unsigned)) in
     record {
       contact = rest_of the.Contact facts.contact
-          (All-tail IsItem (bare the.DirSource (source_text facts)) (item_if the.Contact facts.contact) own);
+          (front (item_if the.Contact facts.contact) (random_items facts)
+          (All-tail IsItem (bare the.DirSource (source_text facts)) (item_if the.Contact facts.contact ++ random_items facts) own));
       entries = entries_fill facts.entries (back (first ++ authority ++ cert) entries unsigned);
     }
