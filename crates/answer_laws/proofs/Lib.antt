@@ -1,3 +1,4 @@
+mod Standing
 pub mod ItemTexts
 pub mod VotesRead
 pub mod TextsAgain

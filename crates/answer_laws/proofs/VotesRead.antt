@@ -7,7 +7,7 @@ use Rattle.vote_terms.specs.Held.{held}
 use Rattle.vote_terms.specs.Votes.{ReadVote}
 use Rattle.vote_terms.proofs.HeldLaw.{held_law}
 use Rattle.range_laws.proofs.VoteRead.{vote_in_range}
-use Rattle.input_laws.specs.Inputs.{AreVotes, InputsAreVotes}
+use Rattle.answer_laws.specs.Inputs.{AreVotes, InputsAreVotes}
 use Rattle.answer_laws.specs.Votes.{IsFit, VotesInRangeAreFit, VotesOfInputsAreFit, VotesReadAreFit}
 use Rattle.answer_laws.proofs.ItemTexts.{vote_fills}
 

@@ -1,8 +1,13 @@
-// That what is computed of an input of bytes can be read.
+// What an input of votes is, and that what is computed of it can be read.
+ghost use Rattle.answer_laws.specs.Inputs.{InputsAreVotes};
 ghost use Rattle.answer_laws.specs.Texts.{AnswersAreReadAgain};
 ghost use Rattle.answer_laws.specs.Votes.{VotesInRangeAreFit, VotesOfInputsAreFit, VotesReadAreFit};
 
-use input_laws::inputs_are_votes;
+/// A law: an input is these votes exactly where they stand in it one behind the other, at most 64, with nothing but blank lines
+/// before, between and behind them (dir-spec, "Vote and consensus status document formats").
+pub fn inputs_are_votes()
+    ensures { InputsAreVotes }
+{}
 
 /// A law: a vote that is in range, but for the limits, is in range where a consensus takes something of it, and its texts may be
 /// the rests of lines. So it is fit.

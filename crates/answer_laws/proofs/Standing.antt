@@ -4,7 +4,7 @@ use Rattle.frame_terms.specs.declared.fault.ReadRefusal.{ReadRefusal}
 use Rattle.vote_terms.specs.Votes.{ReadVote}
 use Rattle.vote_doc.specs.Reading.{vote_from}
 use Rattle.compute_command.specs.Votes.{most_votes, one_more, then_votes, unless_end, unless_more, votes_from, with_front}
-use Rattle.input_laws.specs.Inputs.{AreVotes, InputsAreVotes}
+use Rattle.answer_laws.specs.Inputs.{AreVotes, InputsAreVotes}
 
 -- ---- what is read stands there
 

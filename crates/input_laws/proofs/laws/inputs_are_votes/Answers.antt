@@ -1,5 +1,0 @@
-use Rattle.input_laws.proofs.Standing as law
-use Rattle.input_laws.proofs.laws.inputs_are_votes.Goals as goal
-
-pub returns : goal.returns
-returns c = law.inputs_are_votes

@@ -1,6 +1,0 @@
-//! What an input of votes is. Nothing that runs stands on it.
-#![tactic(auto)]
-
-mod laws;
-
-pub use laws::inputs_are_votes;
