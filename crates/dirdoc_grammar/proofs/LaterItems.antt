@@ -1,12 +1,12 @@
 -- An item that is not known yet ends no earlier than the bytes that are there.
-use Rattle.std.proofs.Common.{◌≡◌, ℕ, ◌+◌, ◌-◌, ◌<◌, ◌≤◌, ◌⊎◌, Bool, true, false, cond, List, [], ◌∷◌, ◌++◌, length, take, drop, Option, Some, None, Result, Ok, Err, refl, sym, ap, subst, ◌∙◌, inl, inr, arith}
+use Rattle.std.proofs.Common.{◌≡◌, ℕ, ◌+◌, ◌<◌, ◌≤◌, Bool, true, false, cond, List, [], ◌∷◌, ◌++◌, length, drop, Option, Some, None, Result, Ok, Err, refl, sym, ap, subst, ◌∙◌, inl, inr, arith}
 use Rattle.std.specs.Prelude.{nat_lt}
 use Rattle.std.proofs.lemmas.Bool.{cases_lt, lt-ltb, false≢true}
 use Rattle.std.proofs.lemmas.List.{length-append, length-drop, length-take, drop-append-le}
-use Rattle.item_terms.specs.declared.fault.DocReason.TheVariants.{Keyword, ObjectTooLong, ObjectWords, ObjectBase64, ObjectEnd}
+use Rattle.item_terms.specs.declared.fault.DocReason.TheVariants.{Keyword, ObjectTooLong, ObjectBase64, ObjectEnd}
 use Rattle.item_terms.specs.declared.fault.DocFault.{DocFault}
 use Rattle.item_terms.specs.Lines.{Line, lines, size}
-use Rattle.item_terms.specs.Words.{begins_dash, is_blank_line, is_keyword_line, begin_words, is_end_line}
+use Rattle.item_terms.specs.Words.{is_blank_line, is_keyword_line, begin_words, is_end_line}
 use Rattle.item_terms.specs.Base64Text.{is_body}
 use Rattle.item_terms.specs.Faults.{at, line_fault, object_line_fault, max_object}
 use Rattle.item_terms.specs.Steps.{Item, Open, Object, Step, step, nothing, keyword_line, object_lines, keyword_item, begun_object, with_line, with_object, open_item, item_unless, open_unless, step_unless, object_step, line_item, read_line, starts_dash, first_object_line}

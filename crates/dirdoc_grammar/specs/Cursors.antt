@@ -1,9 +1,10 @@
 -- A reader's place in bytes that may go on.
-use Rattle.std.specs.Prelude.{◌≡◌, ℕ, ◌-◌, ◌≤◌, ◌⊎◌, Bool, List, ◌++◌, length, drop}
+use Rattle.std.specs.Prelude.{◌≡◌, ℕ, ◌-◌, ◌≤◌, ◌⊎◌, Bool, List, ◌++◌, length, drop, IsTrue}
 use Rattle.item_terms.specs.Items.{Open, nothing}
 use Rattle.dirdoc_grammar.specs.declared.cursor.Cursor.{Cursor}
 use Rattle.dirdoc_grammar.specs.declared.front.Phase.TheVariants.{Between, Object}
-use Rattle.dirdoc_grammar.specs.Feeding.{Fed}
+use Rattle.dirdoc_grammar.specs.declared.feeder.Take.TheVariants.{NotYet}
+use Rattle.dirdoc_grammar.specs.Feeding.{Fed, Takes}
 use Rattle.dirdoc_grammar.specs.Reading.{first_line_len, from_place, IsCut, Stands}
 
 -- between these places no NL stands
@@ -35,3 +36,8 @@ behind limit place = record { limit = limit; place = place; stop = record { item
 -- what is left of the bytes
 abbrev pub fed_by : Cursor → List ℕ → Bool → Fed
 fed_by cursor bytes finished = record { limit = cursor.limit; place = cursor.place; rest = drop cursor.place bytes; finished = finished }
+
+-- where a reader is marked as waiting, what comes next of the bytes is not known
+abbrev pub WaitsIf : Bool → Cursor → List ℕ → Bool → Type 0
+WaitsIf waits cursor bytes finished =
+    IsTrue waits → Takes (fed_by cursor bytes finished) NotYet (fed_by cursor bytes finished)

@@ -1,9 +1,8 @@
 // A document whose bytes arrive piece by piece (dir-spec, "Document meta-format").
 
-ghost use Rattle.std.specs.Prelude.{◌+◌, ◌-◌, ◌<◌, ◌≡◌, ◌≤◌, ◌^◌, ◌++◌, [], drop, false, length, take, true, vec_len, IsTrue, IfOk, OnErr, OnOk};
-ghost use Rattle.dirdoc_grammar.specs.declared.feeder.Take.TheVariants.{NotYet};
-ghost use Rattle.dirdoc_grammar.specs.Cursors.{fed_by, IsAt};
-ghost use Rattle.dirdoc_grammar.specs.Feeding.{behind_place, Fed, IfFault, IfItem, Moves, Shows, Takes};
+ghost use Rattle.std.specs.Prelude.{◌+◌, ◌-◌, ◌<◌, ◌≡◌, ◌≤◌, ◌^◌, ◌++◌, [], drop, false, length, take, true, vec_len, IfOk, OnErr, OnOk};
+ghost use Rattle.dirdoc_grammar.specs.Cursors.{IsAt, WaitsIf};
+ghost use Rattle.dirdoc_grammar.specs.Feeding.{behind_place, Fed, IfFault, IfItem, Moves, Shows};
 ghost use Rattle.dirdoc_grammar.specs.Moving.{moved_item, moved_fault, moved_object};
 ghost use Rattle.dirdoc_grammar.specs.Seen.{seen, seen_object, LiesInOrder};
 
@@ -43,7 +42,7 @@ impl Model for Feeder {
 
     ghost view = { λ s. record { limit = s.base + s.cursor.limit; place = s.base + s.cursor.place; rest = drop s.cursor.place s.bytes.items; finished = s.finished } };
 
-    ghost invariant = { λ s. IsAt s.bytes.items s.cursor × (length s.bytes.items ≤ s.cursor.limit + 1) × (s.base + s.cursor.limit < 2 ^ 61) × (IsTrue s.waits → Takes (fed_by s.cursor s.bytes.items s.finished) NotYet (fed_by s.cursor s.bytes.items s.finished)) };
+    ghost invariant = { λ s. IsAt s.bytes.items s.cursor × (length s.bytes.items ≤ s.cursor.limit + 1) × (s.base + s.cursor.limit < 2 ^ 61) × WaitsIf s.waits s.cursor s.bytes.items s.finished };
 }
 
 /// Takes so many bytes off the front.
@@ -120,12 +119,12 @@ impl Feeder {
         }
     }
 
-    /// Moves what was not taken to the front, where that is no more than what was.
+    /// Moves what was not taken to the front.
     fn compact(&mut self)
         ensures { self.new ≡ self.old }
     {
         let taken = self.cursor.place;
-        if taken > 0 && taken >= self.bytes.len() - taken && taken as u64 <= self.cursor.limit {
+        if taken > 0 && taken as u64 <= self.cursor.limit {
             take_off(&mut self.bytes, taken);
             self.base += taken as u64;
             self.cursor = Cursor::new(self.cursor.limit - taken as u64);
@@ -152,7 +151,9 @@ impl Feeder {
         self.waits = false;
     }
 
-    /// Feeds the next piece. Of what the document may not have, one byte is kept.
+    /// Feeds the next piece. Of what the document may not have, one byte is kept; of what was taken, nothing. What was
+    /// not taken is moved to the front then: where all that is known is taken between two pieces, that is no
+    /// more than the last of them.
     ///
     /// # Errors
     /// There was no memory.

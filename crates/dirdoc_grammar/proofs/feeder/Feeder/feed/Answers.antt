@@ -20,7 +20,7 @@ returns-clause-ok c =
     let at_ = inv.0 in
     let count : c.min.result ≡ min (length c.args.piece.now) (i.cursor.limit + 1 - length i.bytes.items) = omega (arith, c.min.ensures, c.len.ensures) in
     let le : i.cursor.place ≤ length i.bytes.items = omega (arith, at_.taken, at_.order, at_.later, at_.within) in
-    c.remember.ensures ∙
-    ap (λ (l : List ℕ). record { limit = i.base + i.cursor.limit; place = i.base + i.cursor.place; rest = l; finished = i.finished })
+    c.remember.ensures
+    ∙ ap (λ (l : List ℕ). record { limit = i.base + i.cursor.limit; place = i.base + i.cursor.place; rest = l; finished = i.finished })
     (fed_rest i.base i.cursor.limit i.cursor.place c.min.result i.bytes.items c.args.piece.now c.extend_from_slice.new.self.items le inv.1 c.in_ok-extend_from_slice.ensures.items count)
     ∙ ap (λ (f : Fed). record { limit = f.limit; place = f.place; rest = take (f.limit + 1 - f.place) (f.rest ++ c.args.piece.now); finished = f.finished }) (c.self.view_is ∙ c.compact.ensures)

@@ -28,4 +28,5 @@ pub returns-then-self : goal.returns-then-self
 returns-then-self c =
     let i = c.self.inside in
     let fed = fed_by i.cursor i.bytes.items i.finished in
-    subst (λ (f : Fed). Shows f NotYet) c.self.view_is (shows_later i.base fed fed NotYet NotYet (c.self.invariant.3 c.if-self.true) tt)
+    subst (λ (f : Fed). Shows f NotYet) c.self.view_is
+    (shows_later i.base fed fed NotYet NotYet (c.self.invariant.3 c.if-self.true) tt)
