@@ -1,7 +1,7 @@
-//! Votes that are read, written and held: tests alone, of `vote_doc`.
+//! What is answered where votes are placed, and how a run without memory ends: tests alone, of `vote_doc` and `exit_status`.
 #![tactic(auto)]
 
 #[cfg(test)]
-mod entry_tests;
+mod placing;
 #[cfg(test)]
-mod tests;
+mod statuses;
