@@ -78,9 +78,7 @@ impl Accepted {
 
     /// How many votes are held.
     pub fn len(&self) -> usize
-        ensures value { result ≡ length self.now.votes }
-        ensures room { result ≤ self.now.room }
-        ensures ascending { VotesAscend self.now.votes }
+        ensures { result ≡ length self.now.votes }
     {
         self.votes.len()
     }
@@ -93,9 +91,11 @@ impl Accepted {
         &self.votes[i]
     }
 
-    /// The held vote of an authority, if there is one.
+    /// The held vote of an authority, if there is one. The held votes ascend, and are no more than may be held.
     pub fn vote_of(&self, authority: &Fingerprint) -> Option<&HeldVote>
-        ensures { option_map (λ held. held.now) result ≡ vote_of self.now.votes authority.now }
+        ensures value { option_map (λ held. held.now) result ≡ vote_of self.now.votes authority.now }
+        ensures ascending { VotesAscend self.now.votes }
+        ensures room { length self.now.votes ≤ self.now.room }
     {
         held_of(&self.votes, authority)
     }
