@@ -1,9 +1,11 @@
-//! Descriptors that are read, that hold and that do not, under the test scheme: tests alone, of `descriptor_doc`.
+//! What no command shows of server descriptors and microdescriptors: tests alone, of `descriptor_doc` and `micro_desc`.
 #![tactic(auto)]
 
 #[cfg(test)]
-mod fixtures;
+mod holding;
 #[cfg(test)]
-mod from_outside;
+mod making;
 #[cfg(test)]
-mod tests;
+mod said;
+#[cfg(test)]
+mod texts;

@@ -1,7 +1,7 @@
 // Descriptors from outside.
 
-// A descriptor that holds by the test scheme, with Ed25519 items.
-const SIGNED: &[u8] = b"router relay1 198.51.100.7 9001 0 0\n\
+/// One that holds by the test scheme, with Ed25519 items.
+pub const SIGNED: &[u8] = b"router relay1 198.51.100.7 9001 0 0\n\
 identity-ed25519\n\
 -----BEGIN ED25519 CERT-----\n\
 AQQACSfAAQNpCqtAEPAfS6YozW/WWlNB2xdz8Uo36WkcBDcQV7j9AQAgBACRnaCh\n\
@@ -26,8 +26,8 @@ vP+fl+WyyVUPS1aGJZeOu5OmVN0RKkz4em7UEiwI3aY=\n\
 -----END SIGNATURE-----\n\
 ";
 
-// A descriptor without Ed25519 items, whose signing key is the byte `a`. It holds by the test scheme.
-const PLAIN: &[u8] = b"router relay1 198.51.100.7 9001 0 0\n\
+/// One without Ed25519 items, whose signing key is the byte `a`. It holds by the test scheme.
+pub const PLAIN: &[u8] = b"router relay1 198.51.100.7 9001 0 0\n\
 published 2025-12-31 22:00:00\n\
 bandwidth 1000000 2000000 900000\n\
 signing-key\n\
@@ -43,8 +43,8 @@ pwN19z4/CmAMNLp5S1QZ45ZzBxpdsZX8c5v6DA/hk1o=\n\
 -----END SIGNATURE-----\n\
 ";
 
-// The same key's descriptor with an Ed25519 certificate of 490894 hours, which ends as it is published; else it holds.
-const EXPIRED: &[u8] = b"router relay1 198.51.100.7 9001 0 0\n\
+/// The same key's descriptor with an Ed25519 certificate of 490894 hours, which ends as it is published; else it holds.
+pub const EXPIRED: &[u8] = b"router relay1 198.51.100.7 9001 0 0\n\
 identity-ed25519\n\
 -----BEGIN ED25519 CERT-----\n\
 AQQAB32OAT/v0Jjr2z3l7iDTQG7pXJ/GNA0nToBirmwl01b8gEb4AQAgBAAmPMG5\n\
@@ -64,8 +64,8 @@ SiG30YSS8Rni6gnBGlb5QfmNq1wy4WVZ8igmI1hxLF0=\n\
 -----END SIGNATURE-----\n\
 ";
 
-// The same with a certificate of one hour more. It holds.
-const LASTS: &[u8] = b"router relay1 198.51.100.7 9001 0 0\n\
+/// The same with a certificate of one hour more. It holds.
+pub const LASTS: &[u8] = b"router relay1 198.51.100.7 9001 0 0\n\
 identity-ed25519\n\
 -----BEGIN ED25519 CERT-----\n\
 AQQAB32PAT/v0Jjr2z3l7iDTQG7pXJ/GNA0nToBirmwl01b8gEb4AQAgBAAmPMG5\n\
@@ -85,22 +85,27 @@ router-signature\n\
 -----END SIGNATURE-----\n\
 ";
 
-/// A descriptor that holds by the test scheme, with Ed25519 items.
-pub fn signed() -> &'static [u8] {
-    SIGNED
-}
-
-/// One without Ed25519 items, whose signing key is the byte `a`, which holds.
-pub fn plain() -> &'static [u8] {
-    PLAIN
-}
-
-/// One whose Ed25519 certificate ends as it is published, and which holds otherwise.
-pub fn expired() -> &'static [u8] {
-    EXPIRED
-}
-
-/// The same with a certificate of one hour more, which holds.
-pub fn lasting() -> &'static [u8] {
-    LASTS
-}
+/// One that holds, with all Ed25519 items.
+pub const WHOLE: &[u8] = b"router relay2 198.51.100.9 9001 0 0\n\
+identity-ed25519\n\
+-----BEGIN ED25519 CERT-----\n\
+AQQAB334ASFUOXTonOgq5DIANPkOwMxlsZIEBGkTv3Zcv0EM3o/yAQAgBAA0OxbJ\n\
+6i1+ksbAEGQefmztPV62IfPcBgVBnLdCdaIbmhqyHtl2aeeZ2DGR5TtYZUyoP5tm\n\
+cXsTLht5fOo9efCoGrIe2XZp55nYMZHlO1hlTKg/m2ZxexMuG3l86j158Kg=\n\
+-----END ED25519 CERT-----\n\
+master-key-ed25519 NDsWyeotfpLGwBBkHn5s7T1etiHz3AYFQZy3QnWiG5o\n\
+published 2025-12-31 22:00:00\n\
+bandwidth 1000 2000 900\n\
+signing-key\n\
+-----BEGIN RSA PUBLIC KEY-----\n\
+cmVsYXkyLWtleQ==\n\
+-----END RSA PUBLIC KEY-----\n\
+accept *:443\n\
+reject *:*\n\
+family gamma $AAAA BETA\n\
+router-sig-ed25519 u++f79sE2nzVV52TrZ4VR/5y8QcNberhW9xtqFrq3iu775/v2wTafNVXnZOtnhVH/nLxBw1t6uFb3G2oWureKw\n\
+router-signature\n\
+-----BEGIN SIGNATURE-----\n\
+0DR+tL4HSwsroR9vh77zM7YQVNP4IhbT6+WRwvjfP1U=\n\
+-----END SIGNATURE-----\n\
+";
