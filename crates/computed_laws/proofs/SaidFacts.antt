@@ -110,6 +110,8 @@ facts_said flavour c are =
       dist_seconds = are.dist_seconds;
       known_flags = are.known_flags;
       lists = are.lists;
+      random_previous = are.random_previous;
+      random_current = are.random_current;
       sources = are.sources;
       routers = subst (All (IsRouterInRange flavour)) same
           (routers_said flavour moment (all_within flavour c.method) (listed flavour c.routers) are.routers);
