@@ -1,0 +1,7 @@
+pub mod Gathering
+pub mod Sections
+pub mod Rows
+pub mod Steps
+pub mod LastValues
+pub mod FirstLines
+pub mod Lineage

@@ -1,0 +1,6 @@
+pub mod Gathered
+pub mod Lines
+pub mod Relays
+pub mod Files
+pub mod Refusals
+pub mod Lending

@@ -1,0 +1,17 @@
+//! Bandwidth files, as scanners write them: the measured bandwidths of relays.
+#![tactic(auto)]
+
+mod feeder;
+mod file;
+mod items;
+mod line;
+mod reading;
+mod refusal;
+mod relays;
+mod said;
+mod section;
+
+pub use feeder::BandFeeder;
+pub use file::{BandFile, Header};
+pub use refusal::{BandFault, BandReason, BandRefusal};
+pub use relays::Relays;
