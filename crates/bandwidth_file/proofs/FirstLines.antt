@@ -1,10 +1,9 @@
 -- The first line of some bytes, as a search for its NL finds it.
-use Rattle.std.proofs.Common.{◌≡◌, ℕ, ◌+◌, ◌<◌, ◌≤◌, Bool, true, false, ltb, List, [], ◌∷◌, length, take, drop, Some, None, refl, sym, ap, ap₂, ◌∙◌, subst, arith}
+use Rattle.std.proofs.Common.{◌≡◌, ℕ, ◌<◌, Bool, true, false, List, [], ◌∷◌, length, take, drop, Some, None, refl, sym, ap, ap₂, ◌∙◌, subst, arith}
 use Rattle.std.proofs.lemmas.Bool.{lt-ltb, le-ltb}
-use Rattle.std.proofs.lemmas.List.{length-take}
 use Rattle.memchr.specs.Find.{IsFirstByte, is_byte}
 use Rattle.item_terms.specs.Lines.{Line, lines, size}
-use Rattle.dirdoc_grammar.specs.Reading.{first_line, first_line_len}
+use Rattle.dirdoc_grammar.specs.Reading.{first_line}
 use Rattle.dirdoc_grammar.proofs.FirstByte.{before_found, before_none}
 use Rattle.dirdoc_grammar.proofs.FirstLine.{lines_first}
 

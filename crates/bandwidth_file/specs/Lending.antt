@@ -1,5 +1,5 @@
 -- What the private functions of this crate say.
-use Rattle.std.specs.Prelude.{◌≡◌, ℕ, ◌+◌, ◌==◌, ◌&&◌, Bool, List, [], ◌∷◌, ◌++◌, length, Option, Some, None, is_none, is_some, unwrap_or, option_to_list, if◌then◌else◌}
+use Rattle.std.specs.Prelude.{◌≡◌, ℕ, ◌==◌, ◌&&◌, Bool, List, [], ◌∷◌, ◌++◌, length, Option, Some, None, is_none, is_some, unwrap_or, option_to_list, if◌then◌else◌}
 use Rattle.std.specs.Option.{option_map}
 use Rattle.item_terms.specs.Lines.{Line}
 use Rattle.dir_values.specs.Arguments.{Argument}

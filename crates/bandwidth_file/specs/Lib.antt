@@ -4,3 +4,4 @@ pub mod Relays
 pub mod Files
 pub mod Refusals
 pub mod Lending
+pub mod Texts

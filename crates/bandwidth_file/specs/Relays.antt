@@ -1,5 +1,5 @@
 -- What a relay line says, and what relay lines say together.
-use Rattle.std.specs.Prelude.{ℕ, min, Bool, true, false, List, length, drop, reverse, nat_eq, Option, Some, None, is_some, if◌then◌else◌, codes}
+use Rattle.std.specs.Prelude.{ℕ, min, Bool, false, List, length, drop, reverse, nat_eq, Option, Some, None, is_some, if◌then◌else◌, codes}
 use Rattle.std.specs.List.{find, starts_with}
 use Rattle.std.specs.Option.{option_map}
 use Rattle.std.specs.Str.{bytes_eq}

@@ -10,8 +10,10 @@ mod refusal;
 mod relays;
 mod said;
 mod section;
+mod text;
 
 pub use feeder::BandFeeder;
 pub use file::{BandFile, Header};
 pub use refusal::{BandFault, BandReason, BandRefusal};
 pub use relays::Relays;
+pub use text::write;

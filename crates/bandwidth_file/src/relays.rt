@@ -1,10 +1,12 @@
 // The measured bandwidths of relays by their identities.
-ghost use Rattle.std.specs.Prelude.{◌≡◌, ◌==◌, ◌+◌, length, [], OnOk};
+ghost use Rattle.std.specs.Prelude.{◌≡◌, ◌==◌, ◌+◌, ◌++◌, length, [], OnOk};
+ghost use Rattle.std.specs.List.{flat_map};
 ghost use Rattle.bandwidth_file.specs.Relays as its;
+ghost use Rattle.bandwidth_file.specs.Texts.{relay_text};
 ghost use Rattle.bandwidth_file.specs.Lending.{HasRow, one_if_new};
 
 use crate::said::Row;
-use dir_bytes::Memory;
+use dir_bytes::{Memory, push_decimal};
 use dir_values::Fingerprint;
 use std::alloc::Global;
 use std::collections::BTreeMap;
@@ -68,4 +70,29 @@ impl Relays {
         self.map.insert(row.identity, row.bandwidth)?;
         Ok(())
     }
+
+    /// Appends a line for each relay, ascending by identity.
+    ///
+    /// # Errors
+    /// `Memory` is want of memory.
+    pub(crate) fn push(&self, out: &mut Vec<u8>) -> Result<(), Memory>
+        ensures { OnOk result (out.new.items ≡ out.old.items ++ flat_map relay_text self.now) }
+    {
+        for (identity, bandwidth) in &self.map {
+            push_relay(out, identity, *bandwidth)?;
+        }
+        Ok(())
+    }
+}
+
+/// Appends the line of a relay.
+fn push_relay(out: &mut Vec<u8>, identity: &Fingerprint, bandwidth: u32) -> Result<(), Memory>
+    ensures { OnOk result (out.new.items ≡ out.old.items ++ relay_text (identity.now, bandwidth)) }
+{
+    out.extend_from_slice(b"node_id=$")?;
+    identity.push(out)?;
+    out.extend_from_slice(b" bw=")?;
+    push_decimal(out, bandwidth as u64)?;
+    out.push(b'\n')?;
+    Ok(())
 }

@@ -1,4 +1,4 @@
-use Rattle.std.proofs.Common.{ℕ, ◌+◌, ap, refl, subst, sym, ◌≤◌, length}
+use Rattle.std.proofs.Common.{ℕ, ◌+◌, ap, subst, sym, ◌≤◌, length}
 use Rattle.std.proofs.lemmas.Result.{err_from_is_err_and}
 use Rattle.bandwidth_file.specs.Lending.{seen}
 use Rattle.bandwidth_file.proofs.Lineage.{read_one, refused_there, ends_inside}

@@ -1,10 +1,7 @@
-use Rattle.std.proofs.Common.{rules, ◌≡◌, ℕ, Bool, true, false, refl, ap₂, ◌∙◌, subst, sym}
+use Rattle.std.proofs.Common.{rules, ◌≡◌, true, false, refl}
 use Rattle.item_terms.specs.Words.{is_blank_line}
-use Rattle.bandwidth_file.specs.declared.said.Said.{Said}
-use Rattle.bandwidth_file.specs.declared.section.Section.{Section}
-use Rattle.bandwidth_file.specs.Lines.{line_fault, place_of}
-use Rattle.bandwidth_file.specs.Files.{said_if, said_by, rows_of}
-use Rattle.bandwidth_file.specs.Lending.{Keeps, seen}
+use Rattle.bandwidth_file.specs.Files.{rows_of}
+use Rattle.bandwidth_file.specs.Lending.{seen}
 use Rattle.bandwidth_file.proofs.Steps.{holds_one, keeps_there}
 use Rattle.bandwidth_file.proofs.reading.Reading.take.Goals as goal
 
