@@ -1,5 +1,6 @@
 -- What the items of a longer list say.
-use Rattle.std.proofs.Common.{◌≡◌, List, [], ◌∷◌, ◌++◌, Option, Some, None, option_to_list, slice_get, refl, sym, ap, ◌∙◌, append-nil, append_assoc}
+use Rattle.std.proofs.Common.{◌≡◌, List, [], ◌∷◌, ◌++◌, Option, Some, None, option_to_list, slice_get, refl, sym}
+use Rattle.std.proofs.Common.{ap, ◌∙◌, append-nil, append_assoc}
 use Rattle.std.specs.List.{cons_option}
 use Rattle.bandwidth_file.specs.Gathered.{gathered, gathered_behind}
 

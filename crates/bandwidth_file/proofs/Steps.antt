@@ -1,5 +1,6 @@
 -- What is known once one more line was read.
-use Rattle.std.proofs.Common.{◌≡◌, ℕ, ◌==◌, Bool, true, false, List, [], ◌∷◌, ◌++◌, Option, Some, None, option_to_list, unwrap_or, refl, sym, ap, ap₂, ◌∙◌, subst, append-nil, if◌then◌else◌}
+use Rattle.std.proofs.Common.{◌≡◌, ℕ, ◌==◌, Bool, true, false, List, [], ◌∷◌, ◌++◌, Option, Some, None}
+use Rattle.std.proofs.Common.{option_to_list, unwrap_or, refl, sym, ap, ap₂, ◌∙◌, subst, append-nil, if◌then◌else◌}
 use Rattle.std.specs.List.{list_any}
 use Rattle.item_terms.specs.Lines.{Line}
 use Rattle.item_terms.specs.Words.{is_blank_line}
@@ -18,7 +19,9 @@ use Rattle.bandwidth_file.specs.declared.section.Section.{Section}
 use Rattle.bandwidth_file.specs.declared.section.Section.TheVariants as section
 use Rattle.bandwidth_file.specs.Lines.{at, place_of, line_fault, last_value, node_id, bw, vote}
 use Rattle.bandwidth_file.specs.Relays.{is_no_vote, row_said, relay_said, relay_line, identity_in}
-use Rattle.bandwidth_file.specs.Files.{is_separator, names_relay, ends_header, section_of, time_said, header_line, filled_line, said_if, said_by, time_in, header_in, row_in, rows_of, fault_in, fault_of}
+use Rattle.bandwidth_file.specs.Files.{is_separator, names_relay, ends_header, section_of, time_said, header_line}
+use Rattle.bandwidth_file.specs.Files.{filled_line, said_if, said_by, time_in, header_in, row_in, rows_of, fault_in}
+use Rattle.bandwidth_file.specs.Files.{fault_of}
 use Rattle.bandwidth_file.specs.Lending.{next_section, time_if, HasRows, Holds, Keeps}
 use Rattle.bandwidth_file.proofs.Gathering.{gathered_one}
 use Rattle.bandwidth_file.proofs.Sections.{section_grows}

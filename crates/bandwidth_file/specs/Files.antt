@@ -1,5 +1,6 @@
 -- Bandwidth files as relations over their whole lines: the time of measuring, header lines, relay lines.
-use Rattle.std.specs.Prelude.{◌≡◌, ℕ, ◌==◌, ◌&&◌, ◌||◌, not, Bool, List, [], ◌∷◌, Option, Some, None, is_none, is_some, if◌then◌else◌, codes, slice_get}
+use Rattle.std.specs.Prelude.{◌≡◌, ℕ, ◌==◌, ◌&&◌, ◌||◌, not, Bool, List, [], ◌∷◌, Option, Some, None, is_none}
+use Rattle.std.specs.Prelude.{is_some, if◌then◌else◌, codes, slice_get}
 use Rattle.std.specs.List.{filter, list_any, before_first, after_first}
 use Rattle.std.specs.Option.{option_or}
 use Rattle.std.specs.Str.{bytes_eq}
@@ -42,10 +43,12 @@ names_relay text = is_some (last_value node_id 0 text)
 abbrev pub ends_header : List ℕ → Bool
 ends_header text = is_separator text || names_relay text
 
--- the section behind some lines with more than blanks: the first is the time, and the header goes on until a line ends it
+-- the section behind some lines with more than blanks: the first is the time, and the header goes on until a line ends
+-- it
 abbrev pub section_behind : List Line → Section
 section_behind [] = section.Time
-section_behind (first ∷ rest) = if list_any (λ (line : Line). ends_header line.text) rest then section.Relays else section.Headers
+section_behind (first ∷ rest) =
+    if list_any (λ (line : Line). ends_header line.text) rest then section.Relays else section.Headers
 
 -- the section behind some lines
 abbrev pub section_of : List Line → Section
@@ -65,7 +68,8 @@ header_said place text = if list_any (λ byte. byte == 61) text then said.Header
 -- the line that ends the header may be a relay line
 abbrev pub header_line : ℕ → List ℕ → Said
 header_line place text =
-    if is_separator text then said.Nothing else if names_relay text then relay_line place text else header_said place text
+    if is_separator text then said.Nothing else if names_relay text then relay_line place text
+    else header_said place text
 
 -- a line of a section
 abbrev pub filled_line : Section → ℕ → List ℕ → Said
@@ -126,7 +130,8 @@ rows_of file = gathered (λ before line. row_in (said_by before line)) file
 -- a row by which a file has more identities than it may
 abbrev pub many_fault : List Row → ℕ → Row → Option BandFault
 many_fault rows place row =
-    if is_none (last_bandwidth rows row.identity) && (number_of_identities rows == max_relays) then Some (at place reason.TooMany) else None
+    if is_none (last_bandwidth rows row.identity) && (number_of_identities rows == max_relays)
+    then Some (at place reason.TooMany) else None
 
 -- what is wrong with a line behind others that have these rows
 abbrev pub fault_in : List Row → ℕ → Said → Option BandFault
@@ -146,17 +151,19 @@ faults_of file = gathered fault_of file
 
 -- a file without a line has no time of measuring
 abbrev pub end_fault : List Line → Option BandFault
-end_fault file = if is_none (slice_get (filter is_filled file) 0) then Some (at (place_of file) reason.Timestamp) else None
+end_fault file =
+    if is_none (slice_get (filter is_filled file) 0) then Some (at (place_of file) reason.Timestamp) else None
 
 -- the first fault of a file: that of the first line that has one
 abbrev pub first_fault : List Line → Option BandFault
 first_fault file = option_or (slice_get (faults_of file) 0) (end_fault file)
 
--- Bytes are a bandwidth file, with this content: nothing is wrong with a line; the first one is the time of measuring, header lines
--- follow, and of each identity the last relay line counts.
+-- Bytes are a bandwidth file, with this content: nothing is wrong with a line; the first one is the time of measuring,
+-- header lines follow, and of each identity the last relay line counts.
 pub record IsBandFile (bytes : List ℕ) (file : BandFile) : Type 0 where
   pub sound : first_fault (lines bytes) ≡ None
   pub timestamp : times_of (lines bytes) ≡ file.timestamp ∷ []
   pub headers : file.headers ≡ headers_of (lines bytes)
   pub ascending : Ascend file.relays
-  pub relays : (identity : Fingerprint) → bandwidth_in file.relays identity ≡ last_bandwidth (rows_of (lines bytes)) identity
+  pub relays : (identity : Fingerprint)
+      → bandwidth_in file.relays identity ≡ last_bandwidth (rows_of (lines bytes)) identity

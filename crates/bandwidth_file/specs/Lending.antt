@@ -1,5 +1,6 @@
 -- What the private functions of this crate say.
-use Rattle.std.specs.Prelude.{◌≡◌, ℕ, ◌==◌, ◌&&◌, Bool, List, [], ◌∷◌, ◌++◌, length, Option, Some, None, is_none, is_some, unwrap_or, option_to_list, if◌then◌else◌}
+use Rattle.std.specs.Prelude.{◌≡◌, ℕ, ◌==◌, ◌&&◌, Bool, List, [], ◌∷◌, ◌++◌, length, Option, Some, None, is_none}
+use Rattle.std.specs.Prelude.{is_some, unwrap_or, option_to_list, if◌then◌else◌}
 use Rattle.std.specs.Option.{option_map}
 use Rattle.item_terms.specs.Lines.{Line}
 use Rattle.dir_values.specs.Arguments.{Argument}
@@ -14,7 +15,8 @@ use Rattle.bandwidth_file.specs.declared.said.Said.{Said}
 use Rattle.bandwidth_file.specs.declared.section.Section.{Section}
 use Rattle.bandwidth_file.specs.declared.section.Section.TheVariants as section
 use Rattle.bandwidth_file.specs.Relays.{bandwidth_in, last_bandwidth, number_of_identities}
-use Rattle.bandwidth_file.specs.Files.{max_relays, ends_header, section_of, time_in, header_in, row_in, times_of, headers_of, rows_of, fault_in, faults_of}
+use Rattle.bandwidth_file.specs.Files.{max_relays, ends_header, section_of, time_in, header_in, row_in, times_of}
+use Rattle.bandwidth_file.specs.Files.{headers_of, rows_of, fault_in, faults_of}
 
 -- a line as a contract sees it
 abbrev pub seen : LineText → Line
@@ -34,7 +36,8 @@ next_section section.Relays text = section.Relays
 abbrev pub HasRow : List (Fingerprint × ℕ) → Row → List (Fingerprint × ℕ) → Type 0
 HasRow old row new =
     (identity : Fingerprint)
-    → bandwidth_in new identity ≡ (if same_identity row.identity identity then Some row.bandwidth else bandwidth_in old identity)
+    → bandwidth_in new identity
+    ≡ (if same_identity row.identity identity then Some row.bandwidth else bandwidth_in old identity)
 
 -- one, where the identity is a new one
 abbrev pub one_if_new : List (Fingerprint × ℕ) → Fingerprint → ℕ

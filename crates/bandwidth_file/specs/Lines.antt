@@ -32,7 +32,8 @@ unterminated place line = if line.ended then None else Some (at (place + length 
 -- the first fault of a line at a place, whatever stands in it
 abbrev pub line_fault : ℕ → Line → Option BandFault
 line_fault place line =
-    option_or (too_long place line) (option_or (unterminated place line) (option_map (λ offset. at (place + offset) Nul) (nul_in line.text)))
+    option_or (too_long place line)
+    (option_or (unterminated place line) (option_map (λ offset. at (place + offset) Nul) (nul_in line.text)))
 
 -- ---- items `key=value`, with blanks between them
 

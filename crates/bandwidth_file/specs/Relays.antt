@@ -1,5 +1,6 @@
 -- What a relay line says, and what relay lines say together.
-use Rattle.std.specs.Prelude.{ℕ, min, Bool, false, List, length, drop, reverse, nat_eq, Option, Some, None, is_some, if◌then◌else◌, codes}
+use Rattle.std.specs.Prelude.{ℕ, min, Bool, false, List, length, drop, reverse, nat_eq, Option, Some, None, is_some}
+use Rattle.std.specs.Prelude.{if◌then◌else◌, codes}
 use Rattle.std.specs.List.{find, starts_with}
 use Rattle.std.specs.Option.{option_map}
 use Rattle.std.specs.Str.{bytes_eq}
@@ -48,7 +49,8 @@ relay_said (Some node) (Some band) voted =
 
 -- what a relay line at a place says: the last value of each key counts
 abbrev pub relay_line : ℕ → List ℕ → Said
-relay_line place text = relay_said (last_value node_id place text) (last_value bw place text) (last_value vote place text)
+relay_line place text =
+    relay_said (last_value node_id place text) (last_value bw place text) (last_value vote place text)
 
 -- ---- relay lines together
 

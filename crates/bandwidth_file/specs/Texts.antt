@@ -18,4 +18,5 @@ relay_text relay = codes "node_id=$" ++ fingerprint_text relay.0 ++ codes " bw="
 -- the time of measuring, the headers, the line between, and the relays by their identities
 abbrev pub text_of : BandFile → List ℕ
 text_of file =
-    decimal file.timestamp ++ line_feed ∷ [] ++ flat_map header_text file.headers ++ codes "=====\n" ++ flat_map relay_text file.relays
+    decimal file.timestamp ++ line_feed ∷ [] ++ flat_map header_text file.headers
+    ++ codes "=====\n" ++ flat_map relay_text file.relays
