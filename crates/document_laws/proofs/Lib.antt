@@ -15,4 +15,3 @@ pub mod Beginning
 pub mod Entering
 pub mod Resting
 pub mod Exact
-pub mod ClearKinds

@@ -1,4 +1,3 @@
 pub mod Clear
 pub mod Parts
 pub mod Documents
-pub mod Kinds

@@ -4,4 +4,4 @@
 
 mod laws;
 
-pub use laws::{documents_are_all, documents_are_read, kinds_are_clear, kinds_are_exact};
+pub use laws::{documents_are_all, documents_are_read};

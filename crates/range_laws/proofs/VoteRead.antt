@@ -14,7 +14,7 @@ use Rattle.frame_values.specs.declared.values.Value.{Value}
 use Rattle.table_laws.specs.Items.{AreItemsIn}
 use Rattle.table_laws.specs.Order.{AreInOrder, BeginsWithOpener, Part, sections_of}
 use Rattle.table_laws.proofs.Ordering.{stand_in_order}
-use Rattle.table_laws.proofs.SoundKinds.{kinds_are_sound}
+use Rattle.kind_laws.proofs.SoundKinds.{kinds_are_sound}
 use Rattle.table_laws.proofs.Taking.{are_said}
 use Rattle.vote_terms.specs.Votes.{ReadVote}
 use Rattle.vote_terms.specs.declared.entry.EntryFacts.{EntryFacts}

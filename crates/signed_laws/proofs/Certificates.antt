@@ -21,7 +21,7 @@ use Rattle.authority_certs.specs.Tables.{cert_tables}
 use Rattle.frame_laws.proofs.KnownWords.{same-sym, same-through}
 use Rattle.table_laws.specs.OneSection.{AreInside, HasOneSection, IsOneSection}
 use Rattle.table_laws.proofs.OneDocument.{one_section_is_all}
-use Rattle.table_laws.proofs.SoundKinds.{kinds_are_sound}
+use Rattle.kind_laws.proofs.SoundKinds.{kinds_are_sound}
 use Rattle.signed_laws.specs.Signed.{CertificatesCoverTheirItems, IsOfCovered, IsCertificateOfItems}
 use Rattle.signed_laws.proofs.Covered.{covered_is}
 use Rattle.signed_laws.proofs.KeywordTexts.{item_at-first, item_at-last, text_as}

@@ -28,7 +28,7 @@ use Rattle.frame_laws.proofs.Steps.{opening}
 use Rattle.table_laws.proofs.Makes.{Makes}
 use Rattle.table_laws.proofs.Placing.{IsNotEnded, not_ended_more}
 use Rattle.table_laws.proofs.Rules.{Holds, alone, behind}
-use Rattle.table_laws.proofs.SoundKinds.{kinds_are_sound}
+use Rattle.kind_laws.proofs.SoundKinds.{kinds_are_sound}
 use Rattle.table_laws.proofs.Ways.{IsEnding, IsEntering, IsOpening, LacksOpener, LaterMay}
 use Rattle.signed_laws.proofs.Pushes.{BeginsNone}
 use Rattle.signed_laws.proofs.VoteSections.{NextIs, V, begins_certificate, never_stops, next_is}

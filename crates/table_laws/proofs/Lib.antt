@@ -14,4 +14,3 @@ pub mod Others
 pub mod SectionItems
 pub mod OneSection
 pub mod OneDocument
-pub mod SoundKinds

@@ -4,4 +4,3 @@ pub mod Sound
 pub mod Order
 pub mod Passing
 pub mod OneSection
-pub mod Kinds

@@ -2,7 +2,6 @@
 ghost use Rattle.frame_terms.specs.Tables.{Tables};
 ghost use Rattle.table_laws.specs.Counts.{RowsStandAsOften};
 ghost use Rattle.table_laws.specs.Items.{ItemsAreSaid};
-ghost use Rattle.table_laws.specs.Kinds.{KindsAreSound};
 ghost use Rattle.table_laws.specs.OneSection.{OneSectionIsAll, OneSectionIsRead};
 ghost use Rattle.table_laws.specs.Order.{SectionsStandInOrder};
 ghost use Rattle.table_laws.specs.Passing.{OthersArePassedOver};
@@ -37,10 +36,4 @@ pub fn one_section_is_read<S, K, V, X>()
 /// A law: no others are read as such a document, where its tables are sound.
 pub fn one_section_is_all<S, K, V, X>()
     ensures { (tables : Tables S K V X) → OneSectionIsAll tables }
-{}
-
-/// A law: the tables of certificates, votes, consensuses of either flavour and server descriptors are sound, and
-/// certificates and descriptors have one section.
-pub fn kinds_are_sound()
-    ensures { KindsAreSound }
 {}

@@ -5,6 +5,6 @@
 mod laws;
 
 pub use laws::{
-    items_are_said, kinds_are_sound, one_section_is_all, one_section_is_read,
-    others_are_passed_over, rows_stand_as_often, sections_stand_in_order,
+    items_are_said, one_section_is_all, one_section_is_read, others_are_passed_over,
+    rows_stand_as_often, sections_stand_in_order,
 };

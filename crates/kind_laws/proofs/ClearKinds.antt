@@ -26,9 +26,9 @@ use Rattle.vote_frame.specs.declared.frame.VoteKind.TheVariants as item
 use Rattle.vote_frame.specs.declared.frame.VoteSection.{VoteSection}
 use Rattle.vote_frame.specs.declared.frame.VoteSection.TheVariants as vote
 use Rattle.vote_frame.specs.Tables.{vote_tables}
-use Rattle.table_laws.proofs.SoundKinds.{kinds_are_sound}
+use Rattle.kind_laws.proofs.SoundKinds.{kinds_are_sound}
 use Rattle.document_laws.specs.Clear.{AreClear, IsEnd, IsEntrance}
-use Rattle.document_laws.specs.Kinds.{KindsAreClear, KindsAreExact}
+use Rattle.kind_laws.specs.Kinds.{KindsAreClear, KindsAreExact}
 use Rattle.document_laws.proofs.Exact.{are_exact}
 
 -- ---- documents of one section

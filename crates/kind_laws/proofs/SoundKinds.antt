@@ -24,7 +24,7 @@ use Rattle.vote_frame.specs.declared.frame.VoteKind.TheVariants as item
 use Rattle.vote_frame.specs.declared.frame.VoteSection.{VoteSection}
 use Rattle.vote_frame.specs.declared.frame.VoteSection.TheVariants as vote
 use Rattle.vote_frame.specs.Tables.{vote_tables}
-use Rattle.table_laws.specs.Kinds.{KindsAreSound}
+use Rattle.kind_laws.specs.Kinds.{KindsAreSound}
 use Rattle.table_laws.specs.OneSection.{HasOneSection}
 use Rattle.table_laws.specs.Sound.{AreSound, IsInner, StandsOnce, ends_document}
 

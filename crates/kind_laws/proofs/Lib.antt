@@ -1,0 +1,2 @@
+pub mod SoundKinds
+pub mod ClearKinds
