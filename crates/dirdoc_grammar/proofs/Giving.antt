@@ -6,7 +6,7 @@ use Rattle.item_terms.specs.Items as model
 use Rattle.item_terms.specs.Items.{Open, nothing, keyword_line, object_lines, also, failed}
 use Rattle.dirdoc_grammar.specs.declared.cursor.Cursor.{Cursor}
 use Rattle.dirdoc_grammar.specs.declared.item.Item.{Item}
-use Rattle.dirdoc_grammar.specs.declared.feeder.Take.TheVariants as take_
+use Rattle.dirdoc_grammar.specs.declared.take.Take.TheVariants as take_
 use Rattle.dirdoc_grammar.specs.declared.front.Stop.{Stop}
 use Rattle.dirdoc_grammar.specs.declared.front.Found.TheVariants.{Open as More}
 use Rattle.dirdoc_grammar.specs.Seen.{seen}

@@ -10,11 +10,6 @@ pub mod Quiet
 pub mod Cursors
 pub mod LaterItems
 pub mod Giving
-pub mod Shifts
-pub mod Later
-pub mod FaultPlaces
-pub mod Feeding
-pub mod BehindLimit
 pub mod BodyLines
 pub mod Places
 pub mod DecodedBytes

@@ -3,7 +3,7 @@ use Rattle.std.specs.Prelude.{◌≡◌, ℕ, ◌-◌, ◌≤◌, ◌⊎◌, Boo
 use Rattle.item_terms.specs.Items.{Open, nothing}
 use Rattle.dirdoc_grammar.specs.declared.cursor.Cursor.{Cursor}
 use Rattle.dirdoc_grammar.specs.declared.front.Phase.TheVariants.{Between, Object}
-use Rattle.dirdoc_grammar.specs.declared.feeder.Take.TheVariants.{NotYet}
+use Rattle.dirdoc_grammar.specs.declared.take.Take.TheVariants.{NotYet}
 use Rattle.dirdoc_grammar.specs.Feeding.{Fed, Takes}
 use Rattle.dirdoc_grammar.specs.Reading.{first_line_len, from_place, IsCut, Stands}
 

@@ -2,10 +2,9 @@
 use Rattle.std.specs.Prelude.{◌≡◌, ℕ, ◌+◌, ◌-◌, ◌<◌, ◌≤◌, Bool, true, false, List, [], ◌∷◌, ◌++◌, length, drop, Option, Some, None, Result, Ok, Err}
 use Rattle.item_terms.specs.declared.fault.DocFault.{DocFault}
 use Rattle.item_terms.specs.Items as model
-use Rattle.dirdoc_grammar.specs.declared.feeder.Take.{Take}
-use Rattle.dirdoc_grammar.specs.declared.feeder.Take.TheVariants.{Item, NotYet, End, Fault}
+use Rattle.dirdoc_grammar.specs.declared.take.Take.{Take}
+use Rattle.dirdoc_grammar.specs.declared.take.Take.TheVariants.{Item, NotYet, End, Fault}
 use Rattle.dirdoc_grammar.specs.declared.item.Item as item
-use Rattle.dirdoc_grammar.specs.Moving.{moved_item, moved_fault}
 use Rattle.dirdoc_grammar.specs.Seen.{seen}
 
 -- The bytes that were fed and not taken, the place of the first of them, the place that the document may not reach, and
@@ -61,49 +60,9 @@ IfNotYet (Fault fault) fact = Unit {0}
 IfNotYet NotYet fact = fact
 IfNotYet End fact = Unit {0}
 
--- a fact about the item or the fault that is given, if one is
+-- a fact about the item that is given, if one is
 abbrev pub IfItem : Take → (item.Item → Type 0) → Type 0
 IfItem (Item item) fact = fact item
 IfItem (Fault fault) fact = Unit {0}
 IfItem NotYet fact = Unit {0}
 IfItem End fact = Unit {0}
-
-abbrev pub IfFault : Take → (DocFault → Type 0) → Type 0
-IfFault (Item item) fact = Unit {0}
-IfFault (Fault fault) fact = fact fault
-IfFault NotYet fact = Unit {0}
-IfFault End fact = Unit {0}
-
--- the same is given, so many places later
-abbrev pub Moves : ℕ → Take → Take → Type 0
-Moves k (Item one) (Item other) = (seen other ≡ moved_item k (seen one)) × (other.after ≡ k + one.after)
-Moves k (Item one) NotYet = ⊥
-Moves k (Item one) End = ⊥
-Moves k (Item one) (Fault other) = ⊥
-Moves k (Fault one) (Item other) = ⊥
-Moves k (Fault one) NotYet = ⊥
-Moves k (Fault one) End = ⊥
-Moves k (Fault one) (Fault other) = other ≡ moved_fault k one
-Moves k NotYet (Item other) = ⊥
-Moves k NotYet NotYet = Unit {0}
-Moves k NotYet End = ⊥
-Moves k NotYet (Fault other) = ⊥
-Moves k End (Item other) = ⊥
-Moves k End NotYet = ⊥
-Moves k End End = Unit {0}
-Moves k End (Fault other) = ⊥
-
--- what is left behind a place
-abbrev pub behind_place : Fed → ℕ → Fed
-behind_place fed after = record fed { place = after; rest = drop (after - fed.place) fed.rest }
-
--- what is left behind what comes next
-abbrev pub behind_next : Fed → Take → Fed
-behind_next fed (Item item) = behind_place fed item.after
-behind_next fed (Fault fault) = fed
-behind_next fed NotYet = fed
-behind_next fed End = fed
-
--- what comes next
-abbrev pub Shows : Fed → Take → Type 0
-Shows fed taken = Takes fed taken (behind_next fed taken)

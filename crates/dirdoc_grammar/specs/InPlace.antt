@@ -1,6 +1,6 @@
 -- The parts of each item stand in the input where the item says.
-use Rattle.std.specs.Prelude.{◌≡◌, ℕ, ◌+◌, ◌≤◌, List, [], ◌∷◌, length, take, drop, IfSome}
-use Rattle.item_terms.specs.Items.{Item, Open, contents, items_from}
+use Rattle.std.specs.Prelude.{◌≡◌, ℕ, ◌≤◌, List, [], ◌∷◌, length, take, drop, IfSome}
+use Rattle.item_terms.specs.Items.{Item, items_from}
 use Rattle.dirdoc_grammar.specs.Seen.{LiesInOrder}
 
 -- the item's keyword, arguments and object are what stands at its places, in order, within the input
@@ -19,7 +19,3 @@ EachInPlace bytes (item ∷ items) = InPlace bytes item × EachInPlace bytes ite
 -- each item of a document stands in place
 abbrev pub StandInPlace : Type 0
 StandInPlace = (start limit : ℕ) (bytes : List ℕ) → EachInPlace bytes (items_from start limit bytes).items
-
--- Of a document that begins at a place within its limit, the bytes that it may have and one more tell all.
-abbrev pub LimitIsEnough : Type 0
-LimitIsEnough = (limit place n : ℕ) (so_far : Open) (bytes : List ℕ) → place ≤ limit → limit + 1 ≤ place + n → contents limit place so_far (take n bytes) ≡ contents limit place so_far bytes

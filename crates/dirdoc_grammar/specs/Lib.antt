@@ -5,6 +5,5 @@ pub mod Bodies
 pub mod Writing
 pub mod Writers
 pub mod InPlace
-pub mod Moving
 pub mod Feeding
 pub mod Cursors

@@ -4,15 +4,15 @@ ghost use Rattle.std.specs.Prelude.{◌+◌, ◌<◌, ◌≡◌, ◌≤◌, ◌^
 ghost use Rattle.item_terms.specs.Steps.{Open};
 ghost use Rattle.dirdoc_grammar.specs.Cursors.{behind, fed_by, IsAt, IsOver, NoNl, Past};
 ghost use Rattle.dirdoc_grammar.specs.Feeding.{EndsNoEarlier, IfItem, IfNotYet, Takes};
-ghost use Rattle.dirdoc_grammar.specs.declared.feeder.Take.TheVariants.{NotYet};
+ghost use Rattle.dirdoc_grammar.specs.declared.take.Take.TheVariants.{NotYet};
 ghost use Rattle.dirdoc_grammar.specs.Reading.{IsOf};
 ghost use Rattle.dirdoc_grammar.specs.Seen.{seen, LiesInOrder};
 
 use crate::bytes::{begins_dash, line_len};
-use crate::feeder::Take;
 use crate::front::{Found, Phase, Stop, between, next_item, whole_item};
 use crate::line::MAX_LINE;
 use crate::object::{MAX_OBJECT, object_line};
+use crate::take::Take;
 
 /// Where a reader stands in a document's bytes, which may go on. The bytes are kept by the caller, who
 /// hands in all of them each time: those of before, and more behind them.
@@ -89,8 +89,8 @@ impl Cursor {
         Cursor::behind(limit, 0)
     }
 
-    /// Behind an item that ends at this place.
-    pub(crate) fn behind(limit: u64, place: usize) -> Cursor
+    /// Behind an item that ends at this place, in a document that may have at most `limit` bytes.
+    pub fn behind(limit: u64, place: usize) -> Cursor
         ensures { result ≡ behind limit place }
     {
         Cursor {
@@ -147,7 +147,7 @@ impl Cursor {
 
     /// Whether the new bytes of these end no line and pass no limit, so that what comes next is known no more than
     /// before. Then they are not looked through again.
-    pub(crate) fn waits(&mut self, bytes: &[u8]) -> bool
+    pub fn waits(&mut self, bytes: &[u8]) -> bool
         requires at { IsAt bytes.now self.old }
         requires short { length bytes.now < 2 ^ 62 }
         ensures takes { IsTrue result → Takes (fed_by self.old bytes.now false) NotYet (fed_by self.new bytes.now false) }

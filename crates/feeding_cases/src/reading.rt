@@ -3,7 +3,8 @@ ghost use Rattle.std.specs.Prelude.{◌≡◌, ◌<◌, ◌^◌, length};
 
 use crate::texts::push_item;
 use anyhow::Result;
-use dirdoc_grammar::{DocFault, Feeder, Item, Items, Take};
+use dirdoc_grammar::{DocFault, Item, Items, Take};
+use item_feeder::Feeder;
 use std::alloc::{AllocError, Global};
 
 /// What a reader gave of a document.

@@ -9,7 +9,7 @@ use Rattle.item_terms.specs.Words.{nul_in, begin_words}
 use Rattle.item_terms.specs.Faults.{at, or_else, unterminated, nul_fault, line_fault, object_line_fault, max_line, max_object}
 use Rattle.item_terms.specs.Steps.{Item, Open, Step, step, nothing, keyword_line, object_lines, open_item, item_unless, open_unless, step_unless, object_step, line_item, read_line, starts_dash, first_object_line}
 use Rattle.item_terms.specs.Items.{Contents, contents_of, also, proceed, failed}
-use Rattle.dirdoc_grammar.specs.InPlace.{LimitIsEnough}
+use Rattle.item_feeder.specs.Limits.{LimitIsEnough}
 
 -- ---- lines that are alike
 

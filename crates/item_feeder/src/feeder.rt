@@ -2,28 +2,14 @@
 
 ghost use Rattle.std.specs.Prelude.{◌+◌, ◌-◌, ◌<◌, ◌≡◌, ◌≤◌, ◌^◌, ◌++◌, [], drop, false, length, take, true, vec_len, IfOk, OnErr, OnOk};
 ghost use Rattle.dirdoc_grammar.specs.Cursors.{IsAt, WaitsIf};
-ghost use Rattle.dirdoc_grammar.specs.Feeding.{behind_place, Fed, IfFault, IfItem, Moves, Shows};
-ghost use Rattle.dirdoc_grammar.specs.Moving.{moved_item, moved_fault, moved_object};
+ghost use Rattle.dirdoc_grammar.specs.Feeding.{Fed, IfItem};
+ghost use Rattle.item_feeder.specs.Feeders.{behind_place, IfFault, Moves, Shows};
+ghost use Rattle.item_feeder.specs.Moving.{moved_item, moved_fault, moved_object};
 ghost use Rattle.dirdoc_grammar.specs.Seen.{seen, seen_object, LiesInOrder};
 
-use crate::cursor::Cursor;
-use crate::item::{Item, ObjectText};
-use item_terms::DocFault;
+use dirdoc_grammar::{Cursor, DocFault, Item, ObjectText, Take};
 use std::alloc::{AllocError, Global};
 use std::marker::Model;
-
-/// What a reader gives whose bytes arrive piece by piece.
-#[derive(Clone, Copy, Debug)]
-pub enum Take<'a> {
-    /// The next item.
-    Item(Item<'a>),
-    /// The bytes hold no whole item and no fault, and more may follow.
-    NotYet,
-    /// The input is finished, and all its items were taken.
-    End,
-    /// The first fault of the document, and from then on.
-    Fault(DocFault),
-}
 
 /// The items of a document whose bytes arrive piece by piece, up to its first fault. A contract
 /// sees a reader as the bytes that were fed and not taken, as far as the document may have them and

@@ -2,12 +2,13 @@
 use Rattle.std.proofs.Common.{◌≡◌, ℕ, ◌+◌, ◌-◌, List, [], ◌∷◌, ◌++◌, drop, Option, Some, None, Result, Ok, Err, refl, sym, ap, subst, ◌∙◌, arith}
 use Rattle.item_terms.specs.declared.fault.DocFault.{DocFault}
 use Rattle.item_terms.specs.Items.{Item, Object, nothing, also, failed}
-use Rattle.dirdoc_grammar.specs.declared.feeder.Take.{Take}
-use Rattle.dirdoc_grammar.specs.declared.feeder.Take.TheVariants as take_
-use Rattle.dirdoc_grammar.specs.Moving.{moved_object_if, moved_item, moved_fault, moved_fault_if, moved_items, moved_contents}
-use Rattle.dirdoc_grammar.specs.Feeding.{Fed, left_with, first_by, first_of, behind_next, Settles, Shows, Takes, Moves}
+use Rattle.dirdoc_grammar.specs.declared.take.Take.{Take}
+use Rattle.dirdoc_grammar.specs.declared.take.Take.TheVariants as take_
+use Rattle.item_feeder.specs.Moving.{moved_object_if, moved_item, moved_fault, moved_fault_if, moved_items, moved_contents}
+use Rattle.dirdoc_grammar.specs.Feeding.{Fed, left_with, first_by, first_of, Settles, Takes}
+use Rattle.item_feeder.specs.Feeders.{behind_next, Shows, Moves}
 use Rattle.dirdoc_grammar.specs.Seen.{seen}
-use Rattle.dirdoc_grammar.proofs.Shifts.{contents_moved}
+use Rattle.item_feeder.proofs.Shifts.{contents_moved}
 
 abbrev pub later : ℕ → Fed → Fed
 later k fed = record { limit = k + fed.limit; place = k + fed.place; rest = fed.rest; finished = fed.finished }

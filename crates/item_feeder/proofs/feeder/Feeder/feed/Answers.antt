@@ -2,8 +2,8 @@ use Rattle.std.proofs.Common.{◌≡◌, ◌+◌, ◌-◌, ◌≤◌, ◌++◌, 
 use Rattle.std.specs.Prelude.{min}
 use Rattle.std.proofs.lemmas.Bool.{false≢true}
 use Rattle.dirdoc_grammar.specs.Feeding.{Fed}
-use Rattle.dirdoc_grammar.proofs.Feeding.{appended, fed_rest}
-use Rattle.dirdoc_grammar.proofs.feeder.Feeder.feed.Goals as goal
+use Rattle.item_feeder.proofs.Feeders.{appended, fed_rest}
+use Rattle.item_feeder.proofs.feeder.Feeder.feed.Goals as goal
 
 pub invariant_of-self-2 : goal.invariant_of-self-2
 invariant_of-self-2 c =

@@ -1,10 +1,11 @@
 use Rattle.std.proofs.Common.{◌≡◌, ◌≤◌, ◌+◌, List, ℕ, length, ap, subst, arith, ◌∙◌}
 use Rattle.dirdoc_grammar.specs.Cursors.{fed_by}
-use Rattle.dirdoc_grammar.specs.declared.feeder.Take.TheVariants.{NotYet}
-use Rattle.dirdoc_grammar.specs.Feeding.{Fed, Shows}
-use Rattle.dirdoc_grammar.proofs.Feeding.{fault_near}
-use Rattle.dirdoc_grammar.proofs.Later.{later, shows_later}
-use Rattle.dirdoc_grammar.proofs.feeder.Feeder.look.Goals as goal
+use Rattle.dirdoc_grammar.specs.declared.take.Take.TheVariants.{NotYet}
+use Rattle.dirdoc_grammar.specs.Feeding.{Fed}
+use Rattle.item_feeder.specs.Feeders.{Shows}
+use Rattle.item_feeder.proofs.Feeders.{fault_near}
+use Rattle.item_feeder.proofs.Later.{later, shows_later}
+use Rattle.item_feeder.proofs.feeder.Feeder.look.Goals as goal
 
 pub take_at-requires-clause-fault : goal.take_at-requires-clause-fault
 take_at-requires-clause-fault c =

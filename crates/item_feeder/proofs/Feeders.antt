@@ -6,12 +6,13 @@ use Rattle.std.proofs.Math.Seq.{take-append-add}
 use Rattle.item_terms.specs.declared.fault.DocFault.{DocFault}
 use Rattle.item_terms.specs.Items.{Contents, contents, nothing, failed}
 use Rattle.dirdoc_grammar.specs.declared.cursor.Cursor.{Cursor}
-use Rattle.dirdoc_grammar.specs.declared.feeder.Take.{Take}
-use Rattle.dirdoc_grammar.specs.declared.feeder.Take.TheVariants as take_
+use Rattle.dirdoc_grammar.specs.declared.take.Take.{Take}
+use Rattle.dirdoc_grammar.specs.declared.take.Take.TheVariants as take_
 use Rattle.dirdoc_grammar.specs.Cursors.{IsAt, fed_by}
-use Rattle.dirdoc_grammar.specs.Feeding.{Fed, IfFault, MayFollow, Takes}
+use Rattle.dirdoc_grammar.specs.Feeding.{Fed, MayFollow, Takes}
+use Rattle.item_feeder.specs.Feeders.{IfFault}
 use Rattle.dirdoc_grammar.proofs.Cursors.{at_more}
-use Rattle.dirdoc_grammar.proofs.FaultPlaces.{fault_within}
+use Rattle.item_feeder.proofs.FaultPlaces.{fault_within}
 
 pub appended : (bytes piece new : List ℕ) (cursor : Cursor) (n : ℕ) → IsAt bytes cursor → length bytes ≤ cursor.limit + 1 → new ≡ bytes ++ take n piece → n ≤ cursor.limit + 1 - length bytes
     → IsAt new cursor × (length new ≤ cursor.limit + 1)

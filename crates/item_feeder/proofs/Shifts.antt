@@ -10,7 +10,7 @@ use Rattle.item_terms.specs.Base64Text.{is_body}
 use Rattle.item_terms.specs.Faults.{at, or_else, too_long, unterminated, nul_fault, line_fault, object_line_fault, max_line, max_object}
 use Rattle.item_terms.specs.Steps.{Item, Open, Step, Object, step, nothing, keyword_line, object_lines, keyword_item, with_line, open_item, item_unless, open_unless, step_unless, object_step, line_item, read_line, starts_dash, first_object_line, with_object}
 use Rattle.item_terms.specs.Items.{Contents, contents, contents_of, also, proceed, at_end}
-use Rattle.dirdoc_grammar.specs.Moving.{moved_object, moved_item, moved_if, moved_fault, moved_fault_if, moved_open, moved_next, moved_step, moved_contents}
+use Rattle.item_feeder.specs.Moving.{moved_object, moved_item, moved_if, moved_fault, moved_fault_if, moved_open, moved_next, moved_step, moved_contents}
 
 -- ---- faults of a line
 

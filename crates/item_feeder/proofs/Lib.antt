@@ -1,0 +1,5 @@
+pub mod Shifts
+pub mod Later
+pub mod FaultPlaces
+pub mod Feeders
+pub mod BehindLimit

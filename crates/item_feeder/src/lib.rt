@@ -1,0 +1,8 @@
+//! The items of a document whose bytes arrive piece by piece (dir-spec, meta-format).
+#![tactic(auto)]
+
+mod feeder;
+mod laws;
+
+pub use feeder::Feeder;
+pub use laws::limit_is_enough;
