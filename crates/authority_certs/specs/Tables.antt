@@ -67,6 +67,7 @@ cert_tables = record {
   sections = tt ∷ [];
   shape = λ _. cert_shape;
   rows = λ _. cert_rows (λ kind. kind);
+  strangers = λ _ _. false;
   ignores = λ _ _. false;
   value_of = λ _ kind item. at_place (cert_value kind item);
   start = tt;

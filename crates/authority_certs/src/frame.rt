@@ -136,6 +136,10 @@ impl Frame for CertFrame {
         &ROWS
     }
 
+    fn strangers(self, _: (), _: Keyword) -> bool {
+        false
+    }
+
     fn ignores(self, _: CertKind, _: &Item<'_>) -> bool {
         false
     }

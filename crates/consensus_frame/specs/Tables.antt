@@ -180,6 +180,7 @@ consensus_tables flavour = record {
   sections = Preamble ∷ Source ∷ Router ∷ Footer ∷ [];
   shape = shape;
   rows = rows flavour;
+  strangers = λ _ _. false;
   ignores = ignores;
   value_of = λ across kind item. at_place (value_at flavour across kind item);
   start = nothing_across;

@@ -8,7 +8,7 @@ use crate::value::{ConsensusValue, note_value, value_at};
 use consensus_terms::Flavour;
 use dirdoc_grammar::Item;
 use frame_reader::Frame;
-use frame_terms::{ReadRefusal, Row, Shape, Taken};
+use frame_terms::{Keyword, ReadRefusal, Row, Shape, Taken};
 use frame_values::Value;
 use relay_entries::{is_ignored, none_listed};
 use std::alloc::Global;
@@ -45,6 +45,10 @@ impl Frame for ConsensusFrame {
 
     fn rows(self, section: ConsensusSection) -> &'static [Row<ConsensusKind>] {
         rows_of(self.flavour, section)
+    }
+
+    fn strangers(self, _: ConsensusSection, _: Keyword) -> bool {
+        false
     }
 
     fn ignores(self, kind: ConsensusKind, item: &Item<'_>) -> bool {

@@ -59,6 +59,7 @@ descriptor_tables = record {
   sections = tt ∷ [];
   shape = λ _. shape;
   rows = λ _. rows;
+  strangers = λ _ _. false;
   ignores = λ _ _. false;
   value_of = λ _ kind item. at_place (value_at kind item);
   start = tt;

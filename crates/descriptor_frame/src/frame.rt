@@ -134,6 +134,10 @@ impl Frame for DescriptorFrame {
         &ROWS
     }
 
+    fn strangers(self, _: (), _: Keyword) -> bool {
+        false
+    }
+
     fn ignores(self, _: DescriptorKind, _: &Item<'_>) -> bool {
         false
     }

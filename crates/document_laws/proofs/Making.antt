@@ -16,7 +16,7 @@ use Rattle.frame_terms.specs.declared.section.Again.{Again}
 use Rattle.frame_terms.specs.declared.section.Again.TheVariants as again
 use Rattle.frame_terms.specs.Decisions.{beyond_inner, made_later, unless_fault}
 use Rattle.frame_terms.specs.Keywords.{same, word_of}
-use Rattle.frame_terms.specs.Order.{first_of, following, inner, is_keyword, knows, opened_by, opener, passed_over}
+use Rattle.frame_terms.specs.Order.{first_of, following, inner, is_keyword, is_strange, opened_by, opener, passed_over}
 use Rattle.frame_terms.specs.Refusals.{refused}
 use Rattle.frame_terms.specs.Rows.{is_many}
 use Rattle.frame_terms.specs.Sections.{accept, lacking, lacking_but, row_of, stands, taken_as, taken_of}
@@ -140,7 +140,7 @@ module _ {S K V X : Type 0} (tables : Tables S K V X) (across : X) (section : S)
       (λ not_last. on_also keyword row (begins_again tables section row) known has_row refl))
 
   elsewhere_also : (keyword : Keyword) (other : Option S) → Makes Also (elsewhere tables across here item keyword other)
-  elsewhere_also keyword None = of_if Also (knows tables keyword) _ _ (λ is. tt) (λ is. tt)
+  elsewhere_also keyword None = of_if Also (is_strange tables section keyword) _ _ (λ is. tt) (λ is. tt)
   elsewhere_also keyword (Some other) =
       of_unless Also item.place
       (first_of (lacking (tables.rows section) taken) (passed_over tables keyword (following tables section))) _

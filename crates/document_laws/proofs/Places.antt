@@ -28,7 +28,7 @@ use Rattle.document_laws.specs.Parts.{EndsWithin}
 
 -- ---- tests of a list
 
-or_front : (a b : Bool) → (a || b) ≡ false → a ≡ false
+pub or_front : (a b : Bool) → (a || b) ≡ false → a ≡ false
 or_front true b e = absurd (false≢true (sym e))
 or_front false b e = refl
 

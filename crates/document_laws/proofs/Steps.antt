@@ -18,7 +18,7 @@ use Rattle.frame_terms.specs.Decisions.{beginning_reason, beyond_inner, first_it
 use Rattle.frame_terms.specs.Decisions.{unless_refused}
 use Rattle.frame_terms.specs.Documents.{start}
 use Rattle.frame_terms.specs.Keywords.{same, word_of}
-use Rattle.frame_terms.specs.Order.{first_of, following, inner, is_keyword, knows, opened_by, opener, passed_over}
+use Rattle.frame_terms.specs.Order.{first_of, following, inner, is_keyword, is_strange, knows, opened_by, opener, passed_over}
 use Rattle.frame_terms.specs.Refusals.{refused}
 use Rattle.frame_terms.specs.Rows.{is_many}
 use Rattle.frame_terms.specs.Sections.{accept, lacking, lacking_but, row_of, stands}
@@ -31,7 +31,7 @@ use Rattle.table_laws.specs.Passing.{IsPassedIn}
 use Rattle.table_laws.proofs.Openers.{row_of-one, row_of-same}
 use Rattle.document_laws.specs.Clear.{AreClear}
 use Rattle.document_laws.specs.Parts.{Stands}
-use Rattle.document_laws.proofs.Places.{IsAt, IsNear, ignored_begins, never_beyond, never_beyond_again}
+use Rattle.document_laws.proofs.Places.{IsAt, IsNear, ignored_begins, never_beyond, never_beyond_again, or_front}
 use Rattle.document_laws.proofs.Places.{never_beyond_unknown, no_row_begins, regarded_of, unknown_opens, unknown_row}
 use Rattle.document_laws.proofs.Rows.{accepted, named}
 
@@ -59,20 +59,21 @@ module _ {S K V X : Type 0} (tables : Tables S K V X) (clear : AreClear tables) 
 
   passes_unknown : (across : X) (section : S) (around : Option (Group S V)) (first : Taken V) (taken : List (Taken V))
       (item : Item) (word : Option Keyword) → word_of item.keyword ≡ word → IsAt tables clear section around
-      → IsNear tables clear section around first item → IfSome word (λ keyword. knows tables keyword ≡ false)
+      → IsNear tables clear section around first item → IfSome word (λ keyword. is_strange tables section keyword ≡ false)
       → made_by tables across (opening section (first ∷ taken) around) item ≡ Ok Passes
   passes_unknown across section around first taken item None known at near is =
       made_so across section around first taken item None known
       (never_beyond_unknown tables clear section around first taken item near)
   passes_unknown across section around first taken item (Some keyword) known at near is =
       let open_ = opening section (first ∷ taken) around in
-      let none = unknown_row tables clear section around keyword at is in
+      let nowhere : knows tables keyword ≡ false = or_front (knows tables keyword) (tables.strangers section keyword) is in
+      let none = unknown_row tables clear section around keyword at nowhere in
       made_so across section around first taken item (Some keyword) known
       (never_beyond tables clear section around first taken item keyword near
       (no_row_begins tables clear section keyword none))
       ∙ ap (λ (r : Option (Row K)). by_row tables across open_ item keyword r) none
       ∙ ap (λ (s : Option S). elsewhere tables across open_ item keyword s)
-      (unknown_opens tables clear section around keyword at is)
+      (unknown_opens tables clear section around keyword at nowhere)
       ∙ ap (λ (t : Bool). if t then Err (refused item.place Order) else Ok Passes) is
 
   pub passes : (across : X) (section : S) (around : Option (Group S V)) (first : Taken V) (taken : List (Taken V))

@@ -1,5 +1,5 @@
 // The flags that some list has.
-ghost use Rattle.std.specs.Prelude.{◌≡◌, List, ℕ, IfOk, OnOk};
+ghost use Rattle.std.specs.Prelude.{◌≡◌, List, ℕ, IfOk, OnOk, OnErr};
 ghost use Rattle.dir_values.specs.FlagSets.{as_set};
 ghost use Rattle.field_votes.specs.Flags as flags;
 ghost use Rattle.field_votes.specs.Private.{with_own};
@@ -24,9 +24,10 @@ pub fn known_flags(alloc: Global, lists: &[FlagSet]) -> Result<FlagSet, Memory>
 /// is among them.
 ///
 /// # Errors
-/// `Memory` is want of memory; the first of both may have been added.
+/// `Memory` is want of memory; the set stays as it was.
 pub fn add_own_flags(alloc: Global, set: &mut FlagSet) -> Result<(), Memory>
-    ensures { OnOk result ((listed : List (List ℕ)) → set.old ≡ as_set listed → set.new ≡ as_set (flags.with_own_flags listed)) }
+    ensures ok { OnOk result ((listed : List (List ℕ)) → set.old ≡ as_set listed → set.new ≡ as_set (flags.with_own_flags listed)) }
+    ensures err { OnErr result (set.new ≡ set.old) }
 {
     add_own(alloc, set)?;
     Ok(())
@@ -43,14 +44,14 @@ pub(crate) fn listed_flags(alloc: Global, lists: &[FlagSet]) -> Result<FlagSet, 
     Ok(set)
 }
 
-/// Adds the flags that a consensus has of its own.
+/// Adds the flags that a consensus has of its own. Without memory the set stays as it was.
 fn add_own(alloc: Global, set: &mut FlagSet) -> Result<(), Memory>
-    ensures { OnOk result (set.new ≡ with_own set.old) }
+    ensures ok { OnOk result (set.new ≡ with_own set.old) }
+    ensures err { OnErr result (set.new ≡ set.old) }
 {
-    let middle_only = set.contains(b"MiddleOnly");
-    set.insert(alloc, b"NoEdConsensus")?;
-    if middle_only {
-        set.insert(alloc, b"BadExit")?;
+    if set.contains(b"MiddleOnly") {
+        set.insert_words(alloc, b"NoEdConsensus BadExit")
+    } else {
+        set.insert(alloc, b"NoEdConsensus")
     }
-    Ok(())
 }

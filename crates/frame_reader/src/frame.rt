@@ -7,7 +7,7 @@ ghost use Rattle.frame_reader.specs.Giving as giving;
 ghost use Rattle.frame_reader.specs.Giving.{Gives};
 
 use dirdoc_grammar::Item;
-use frame_terms::{FrameFault, ReadRefusal, Row, Shape, Taken};
+use frame_terms::{FrameFault, Keyword, ReadRefusal, Row, Shape, Taken};
 use std::alloc::Global;
 
 /// A kind of document, by the tables of its sections.
@@ -42,6 +42,11 @@ pub trait Frame: Copy {
     /// The items of a section, a row for each that it knows.
     fn rows(self, section: Self::Section) -> &'static [Row<Self::Kind>]
         ensures { result.now ≡ (tables self).rows section };
+
+    /// Whether a keyword that none of its sections has may not stand in this one. Most documents have none such, and pass
+    /// over what they do not know.
+    fn strangers(self, section: Self::Section, keyword: Keyword) -> bool
+        ensures { result ≡ (tables self).strangers section keyword };
 
     /// Whether an item of this kind is passed over, as one that the document does not know.
     fn ignores(self, kind: Self::Kind, item: &Item<'_>) -> bool

@@ -64,13 +64,20 @@ fn knows_with<F: Frame>(frame: F, section: F::Section, keyword: Keyword) -> bool
 }
 
 /// Whether a document knows a keyword in some section.
-pub fn knows<F: Frame>(frame: F, keyword: Keyword) -> bool
+fn knows<F: Frame>(frame: F, keyword: Keyword) -> bool
     ensures { result ≡ order.knows (F.tables frame) keyword }
 {
     frame
         .sections()
         .iter()
         .any(|section| knows_with(frame, *section, keyword))
+}
+
+/// Whether a keyword that has no row in a section may not stand in it.
+pub fn is_strange<F: Frame>(frame: F, section: F::Section, keyword: Keyword) -> bool
+    ensures { result ≡ order.is_strange (F.tables frame) section keyword }
+{
+    knows(frame, keyword) || frame.strangers(section, keyword)
 }
 
 fn place_of<F: Frame>(frame: F, section: F::Section, list: &[F::Section]) -> usize

@@ -7,7 +7,9 @@ ghost use Rattle.frame_reader.specs.Steps as steps;
 ghost use Rattle.frame_reader.specs.Steps.{Leads};
 
 use crate::frame::Frame;
-use crate::order::{first_of, following, inner, is_keyword, knows, opened_by, opener, passed_over};
+use crate::order::{
+    first_of, following, inner, is_keyword, is_strange, opened_by, opener, passed_over,
+};
 use crate::section::{lacking, lacking_but, refused, row_of};
 use crate::step::Step;
 use dirdoc_grammar::Item;
@@ -106,7 +108,7 @@ fn elsewhere<F: Frame>(
 {
     let later = following(frame, state.section);
     let Some(other) = opened_by(frame, keyword, later) else {
-        if knows(frame, keyword) {
+        if is_strange(frame, state.section, keyword) {
             return Err(refused(item.place, FrameReason::Order));
         }
         return Ok(Step::Passes);

@@ -48,6 +48,11 @@ module _ {S K V X : Type 0} where
   abbrev pub knows : Tables S K V X → Keyword → Bool
   knows tables keyword = list_any (λ section. knows_with tables section keyword) tables.sections
 
+  -- whether a keyword that has no row in a section may not stand in it: the document knows it, or it is a stranger to the
+  -- section
+  abbrev pub is_strange : Tables S K V X → S → Keyword → Bool
+  is_strange tables section keyword = knows tables keyword || tables.strangers section keyword
+
   -- how many sections of a list stand before one of them
   abbrev pub place_of : Tables S K V X → S → List S → ℕ
   place_of tables section list = prefix_len (λ other. not (same (opener tables other) (opener tables section))) list

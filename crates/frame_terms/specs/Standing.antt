@@ -13,7 +13,7 @@ use Rattle.frame_terms.specs.declared.row.Row.{Row}
 use Rattle.frame_terms.specs.declared.section.Again.{Again}
 use Rattle.frame_terms.specs.declared.section.Again.TheVariants.{Nothing, Section, Document}
 use Rattle.frame_terms.specs.Keywords.{same}
-use Rattle.frame_terms.specs.Order.{is_keyword, opener, knows, following, opened_by, passed_over, first_of, inner}
+use Rattle.frame_terms.specs.Order.{is_keyword, opener, is_strange, following, opened_by, passed_over, first_of, inner}
 use Rattle.frame_terms.specs.Refusals.{refused}
 use Rattle.frame_terms.specs.Sections.{row_of, lacking, lacking_but, accept}
 use Rattle.frame_terms.specs.Tables.{Tables}
@@ -71,7 +71,7 @@ module _ {S K V X : Type 0} where
   -- an item of no row of the section that is open, and the section that it opens
   abbrev pub elsewhere : Tables S K V X → X → Open S V → Item → Keyword → Option S → Result (Made S V) ReadRefusal
   elsewhere tables across open_ item keyword None =
-      if knows tables keyword then Err (refused item.place Order) else Ok Passes
+      if is_strange tables open_.section keyword then Err (refused item.place Order) else Ok Passes
   elsewhere tables across open_ item keyword (Some other) =
       unless item.place
       (first_of (lacking (tables.rows open_.section) open_.taken) (passed_over tables keyword (following tables open_.section)))

@@ -12,6 +12,7 @@ use Rattle.frame_terms.specs.declared.section.Shape.{Shape}
 -- sections  its sections in order, without those inside others
 -- shape     how a section begins and ends, and what may stand inside it
 -- rows      the items of a section; the first one opens it
+-- strangers whether a keyword that none of its sections has may not stand in this one
 -- ignores   whether an item of this kind is passed over, as one that the document does not know
 -- value_of  what an item of a kind says, or what is wrong with it, where this is remembered of those before it
 -- start     what is remembered of nothing
@@ -21,6 +22,7 @@ pub record Tables (S K V X : Type 0) : Type 0 where
   pub sections : List S
   pub shape : S → Shape S
   pub rows : S → List (Row K)
+  pub strangers : S → Keyword → Bool
   pub ignores : K → Item → Bool
   pub value_of : X → K → Item → Result V FrameFault
   pub start : X

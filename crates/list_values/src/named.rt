@@ -1,7 +1,8 @@
 // Values with names.
-ghost use Rattle.std.specs.Prelude.{◌≡◌, ◌≤◌, length, IfOk, OnOk};
+ghost use Rattle.std.specs.Prelude.{◌≡◌, ◌≤◌, length, IfOk, OnOk, OnErr};
 ghost use Rattle.std.specs.List.{fold};
 ghost use Rattle.dir_values.specs.FlagSets.{with_flag};
+ghost use Rattle.dir_values.specs.WordSets.{HasFirst};
 ghost use Rattle.list_values.specs.Lending as lending;
 ghost use Rattle.list_values.specs.Maps.{Ascend, names_of, value_at};
 
@@ -46,12 +47,13 @@ impl Spelled for Named<u64> {
     }
 }
 
-/// Puts the names of values into a set of words.
+/// Puts the names of values into a set of words, one behind the other.
 ///
 /// # Errors
-/// `Memory` is want of memory; some of them may have been put in.
+/// `Memory` is want of memory; so many of the first names were put in, and nothing else has changed.
 pub(crate) fn add_names<'a, V>(items: &'a [Named<V>], names: &mut WordSet<'a>) -> Result<(), Memory>
-    ensures { OnOk result (names.new ≡ fold with_flag names.old (names_of items.now)) }
+    ensures ok { OnOk result (names.new ≡ fold with_flag names.old (names_of items.now)) }
+    ensures err { OnErr result (HasFirst names.old (names_of items.now) names.new) }
 {
     for item in items {
         names.insert(item.name.as_bytes())?;

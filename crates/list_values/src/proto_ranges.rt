@@ -3,6 +3,7 @@ ghost use Rattle.std.specs.Prelude.{◌≡◌, ◌==◌, ◌+◌, ◌<◌, ◌�
 ghost use Rattle.std.specs.List.{fold};
 ghost use Rattle.dir_values.specs.FlagSets.{with_flag};
 ghost use Rattle.dir_values.specs.Refusals.{Reads};
+ghost use Rattle.dir_values.specs.WordSets.{HasFirst};
 ghost use Rattle.text_page.specs.Pages.{with_text};
 ghost use Rattle.list_values.specs.Maps as maps;
 ghost use Rattle.list_values.specs.Masks as masks;
@@ -80,12 +81,13 @@ impl ProtoRanges {
         Ok(ProtoRanges { items })
     }
 
-    /// Puts the names into a set of words.
+    /// Puts the names into a set of words, one behind the other.
     ///
     /// # Errors
-    /// `Memory` is want of memory; some of them may have been put in.
+    /// `Memory` is want of memory; so many of the first names were put in, and nothing else has changed.
     pub fn add_names<'a>(&'a self, names: &mut WordSet<'a>) -> Result<(), Memory>
-        ensures { OnOk result (names.new ≡ fold with_flag names.old (maps.names_of self.now)) }
+        ensures ok { OnOk result (names.new ≡ fold with_flag names.old (maps.names_of self.now)) }
+        ensures err { OnErr result (HasFirst names.old (maps.names_of self.now) names.new) }
     {
         add_names(&self.items, names)
     }

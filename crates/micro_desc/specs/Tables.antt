@@ -42,6 +42,7 @@ micro_tables = record {
   sections = tt ∷ [];
   shape = λ _. shape;
   rows = λ _. rows;
+  strangers = λ _ _. false;
   ignores = λ _ _. false;
   value_of = λ _ kind item. at_place (value_at kind item);
   start = tt;

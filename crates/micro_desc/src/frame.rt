@@ -84,6 +84,10 @@ impl Frame for MicroFrame {
         &ROWS
     }
 
+    fn strangers(self, _: (), _: Keyword) -> bool {
+        false
+    }
+
     fn ignores(self, _: MicroKind, _: &Item<'_>) -> bool {
         false
     }

@@ -1,5 +1,6 @@
 // A set of Ed25519 keys.
-ghost use Rattle.std.specs.Prelude.{◌≡◌, not, IfOk, OnOk};
+ghost use Rattle.std.specs.Prelude.{◌≡◌, not, IfOk, OnOk, OnErr};
+ghost use Rattle.std.specs.Bool.{OnFalse};
 ghost use Rattle.std.specs.FinSet as set;
 
 use std::alloc::{AllocError, Global};
@@ -43,13 +44,15 @@ impl KeySet {
         self.alloc
     }
 
-    /// Adds a key, and tells whether it is new.
+    /// Adds a key, and tells whether it is new. One that is there already changes nothing.
     ///
     /// # Errors
-    /// There was no memory.
+    /// There was no memory; the set stays as it was.
     pub fn insert(&mut self, key: [u8; 32]) -> Result<bool, AllocError>
         ensures added { IfOk result (λ added. added ≡ not (set.contains self.old key)) }
         ensures ok { OnOk result (self.new ≡ set.insert self.old key) }
+        ensures there { IfOk result (λ added. OnFalse added (self.new ≡ self.old)) }
+        ensures err { OnErr result (self.new ≡ self.old) }
     {
         Ok(self.keys.insert(key)?)
     }

@@ -1,5 +1,5 @@
 // What is remembered of the relays that a document lists.
-ghost use Rattle.std.specs.Prelude.{◌≡◌};
+ghost use Rattle.std.specs.Prelude.{◌≡◌, OnErr};
 ghost use Rattle.frame_terms.specs.Refusals.{Becomes};
 ghost use Rattle.relay_entries.specs.Listing as listing;
 
@@ -50,7 +50,8 @@ fn refused(place: u64, reason: FrameReason) -> ReadRefusal
 
 /// Remembers one more relay, if it comes after all before it.
 fn note_relay(listed: &mut Listed, place: u64, relay: RelayLine) -> Result<(), ReadRefusal>
-    ensures { Becomes (listing.note_entry listed.old place (EntryValue.Relay relay)) listed.new result }
+    ensures becomes { Becomes (listing.note_entry listed.old place (EntryValue.Relay relay)) listed.new result }
+    ensures err { OnErr result (listed.new ≡ listed.old) }
 {
     if !is_next(listed.last, relay.identity) {
         return Err(refused(place, FrameReason::Unsorted));
@@ -62,7 +63,8 @@ fn note_relay(listed: &mut Listed, place: u64, relay: RelayLine) -> Result<(), R
 
 /// Remembers one more key, if no relay before has it.
 fn note_key(listed: &mut Listed, place: u64, key: [u8; 32]) -> Result<(), ReadRefusal>
-    ensures { Becomes (listing.note_entry listed.old place (EntryValue.Ed (EdOpinion.Key key))) listed.new result }
+    ensures becomes { Becomes (listing.note_entry listed.old place (EntryValue.Ed (EdOpinion.Key key))) listed.new result }
+    ensures err { OnErr result (listed.new ≡ listed.old) }
 {
     if !listed.keys.insert(key)? {
         return Err(refused(place, FrameReason::DuplicateEd));
@@ -74,9 +76,10 @@ fn note_key(listed: &mut Listed, place: u64, key: [u8; 32]) -> Result<(), ReadRe
 ///
 /// # Errors
 /// `Unsorted` of a relay that does not come after the last one, `DuplicateEd` of a key that a relay before has, or want of
-/// memory.
+/// memory. What is remembered stays as it was.
 pub fn note_entry(listed: &mut Listed, place: u64, said: EntryValue) -> Result<(), ReadRefusal>
-    ensures { Becomes (listing.note_entry listed.old place said) listed.new result }
+    ensures becomes { Becomes (listing.note_entry listed.old place said) listed.new result }
+    ensures err { OnErr result (listed.new ≡ listed.old) }
 {
     match said {
         EntryValue::Relay(relay) => note_relay(listed, place, relay),

@@ -1,5 +1,5 @@
 // The entries at places of the votes.
-ghost use Rattle.std.specs.Prelude.{◌≡◌, Some, IsSome, OnOk, option_map};
+ghost use Rattle.std.specs.Prelude.{◌≡◌, Some, IsSome, OnOk, OnErr, option_map};
 ghost use Rattle.compute_terms.specs.Listings as listings;
 ghost use Rattle.compute_terms.specs.Identities.{eds_of};
 
@@ -16,30 +16,34 @@ pub fn entry_at<'a>(votes: &'a Accepted, at: &Belong) -> Entry<'a>
     votes.vote(at.vote).vote().entry(at.entry)
 }
 
-/// Replaces what is in `entries` by the entries at these places.
+/// Replaces what is in `entries` by the entries at these places. Without memory it stays as it was.
 pub fn entries_at<'a>(
     votes: &'a Accepted,
     members: &[Belong],
     entries: &mut Vec<Entry<'a>>,
 ) -> Result<(), Memory>
     requires { listings.AreMembers votes.now.votes members.now }
-    ensures { OnOk result (entries.new.items ≡ listings.entries_of (listings.listings_at votes.now.votes members.now)) }
+    ensures ok { OnOk result (entries.new.items ≡ listings.entries_of (listings.listings_at votes.now.votes members.now)) }
+    ensures err { OnErr result (entries.new.items ≡ entries.old.items) }
 {
+    entries.try_reserve(members.len())?;
     entries.clear();
     'members: for at in members {
-        entries.push(entry_at(votes, at))?;
+        entries.push_reserved(entry_at(votes, at));
     }
     Ok(())
 }
 
-/// Replaces what is in `eds` by what the `id` lines of the entries at these places say.
+/// Replaces what is in `eds` by what the `id` lines of the entries at these places say. Without memory it stays as it was.
 pub fn eds_at(votes: &Accepted, members: &[Belong], eds: &mut Vec<EdOpinion>) -> Result<(), Memory>
     requires { listings.AreMembers votes.now.votes members.now }
-    ensures { OnOk result (eds.new.items ≡ eds_of (listings.listings_at votes.now.votes members.now)) }
+    ensures ok { OnOk result (eds.new.items ≡ eds_of (listings.listings_at votes.now.votes members.now)) }
+    ensures err { OnErr result (eds.new.items ≡ eds.old.items) }
 {
+    eds.try_reserve(members.len())?;
     eds.clear();
     'members: for at in members {
-        eds.push(entry_at(votes, at).ed())?;
+        eds.push_reserved(entry_at(votes, at).ed());
     }
     Ok(())
 }

@@ -14,7 +14,7 @@ use Rattle.frame_terms.specs.declared.row.Row.{Row}
 use Rattle.frame_terms.specs.declared.section.Again.{Again}
 use Rattle.frame_terms.specs.declared.section.Again.TheVariants as again
 use Rattle.frame_terms.specs.Decisions.{beyond_inner, made_later, unless_fault}
-use Rattle.frame_terms.specs.Order.{first_of, following, inner, is_keyword, knows, opened_by, passed_over}
+use Rattle.frame_terms.specs.Order.{first_of, following, inner, is_keyword, is_strange, opened_by, passed_over}
 use Rattle.frame_terms.specs.Refusals.{refused}
 use Rattle.frame_terms.specs.Rows.{is_many}
 use Rattle.frame_terms.specs.Sections.{accept, lacking, lacking_but, row_of, stands, taken_as, taken_of}
@@ -98,7 +98,7 @@ module _ {S K V X : Type 0} (tables : Tables S K V X) (section : S) where
 
     none_elsewhere : (keyword : Keyword) (other : Option S)
         → BeginsNone (elsewhere tables across (opening section taken around) item keyword other)
-    none_elsewhere keyword None = none_if (knows tables keyword) (Err (refused item.place Order)) (Ok Passes) tt tt
+    none_elsewhere keyword None = none_if (is_strange tables section keyword) (Err (refused item.place Order)) (Ok Passes) tt tt
     none_elsewhere keyword (Some other) =
         none_unless item.place
         (first_of (lacking (tables.rows section) taken) (passed_over tables keyword (following tables section))) _

@@ -1,7 +1,7 @@
 -- What is left of a vote: its signature, the end of its certificate, its certificate.
 use Rattle.std.proofs.Common.{◌≡◌, ℕ, ◌+◌, ◌-◌, ◌^◌, true, false, List, ◌∷◌, ◌++◌, length, Option, Some, None}
 use Rattle.std.proofs.Common.{refl, sym, ap, subst, ◌∙◌, inl, inr}
-use Rattle.std.specs.Prelude.{◌≢◌, IfSome, codes, min}
+use Rattle.std.specs.Prelude.{◌≢◌, ◌||◌, Bool, IfSome, codes, min}
 use Rattle.std.proofs.lemmas.Bool.{false≢true}
 use Rattle.std.proofs.lemmas.List.Elements.{All-cons}
 use Rattle.std.proofs.lemmas.Option.{none-some}
@@ -11,7 +11,7 @@ use Rattle.frame_terms.specs.declared.keyword.Keyword.TheVariants as the
 use Rattle.frame_terms.specs.declared.row.Count.TheVariants.{One}
 use Rattle.frame_terms.specs.declared.row.Row.{Row}
 use Rattle.frame_terms.specs.Keywords.{same, text_of, word_of}
-use Rattle.frame_terms.specs.Order.{knows}
+use Rattle.frame_terms.specs.Order.{is_strange, knows}
 use Rattle.frame_terms.specs.Rows.{row}
 use Rattle.frame_terms.specs.Sections.{row_of}
 use Rattle.authority_certs.specs.declared.frame.CertKind.TheVariants as cert
@@ -129,9 +129,9 @@ pub other_passed : (section : VoteSection) (keyword : Keyword) (item : Item) →
     → IsPassedIn vote_tables section item → item.keyword ≢ text_of keyword
 other_passed section keyword item heeded (inl unknown) e =
     let word : word_of item.keyword ≡ Some keyword = ap word_of e ∙ known keyword in
-    let none : knows vote_tables keyword ≡ false =
-    subst (λ (w : Option Keyword). IfSome w (λ k. knows vote_tables k ≡ false)) word unknown in
-    false≢true (sym none ∙ heeded.is_known)
+    let none : is_strange vote_tables section keyword ≡ false =
+    subst (λ (w : Option Keyword). IfSome w (λ k. is_strange vote_tables section k ≡ false)) word unknown in
+    false≢true (sym none ∙ ap (λ (known : Bool). known || vote_tables.strangers section keyword) heeded.is_known)
 other_passed section keyword item heeded (inr ignored) e =
     let word : word_of item.keyword ≡ Some keyword = ap word_of e ∙ known keyword in
     let one : Some ignored.keyword ≡ Some keyword = sym ignored.known ∙ word in

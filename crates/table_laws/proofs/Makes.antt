@@ -18,7 +18,7 @@ use Rattle.frame_terms.specs.declared.section.Again.TheVariants as again
 use Rattle.frame_terms.specs.Decisions.{beyond_inner, first_item, made_first, made_later}
 use Rattle.frame_terms.specs.Decisions.{unless_fault, unless_refused}
 use Rattle.frame_terms.specs.Keywords.{same, word_of}
-use Rattle.frame_terms.specs.Order.{begins_document, first_of, following, inner, is_keyword, knows, opened_by, opener}
+use Rattle.frame_terms.specs.Order.{begins_document, first_of, following, inner, is_keyword, is_strange, opened_by, opener}
 use Rattle.frame_terms.specs.Order.{passed_over}
 use Rattle.frame_terms.specs.Refusals.{refused}
 use Rattle.frame_terms.specs.Rows.{is_many}
@@ -252,9 +252,9 @@ module _ {S K V X : Type 0} (tables : Tables S K V X) (across : X) (section : S)
       → opened_by tables keyword (following tables section) ≡ other
       → Makes May (elsewhere tables across here item keyword other)
   makes_elsewhere keyword None known opened =
-      makes_if May (knows tables keyword) _ _ (λ is. tt)
+      makes_if May (is_strange tables section keyword) _ _ (λ is. tt)
       (λ is_unknown.
-      inl (inl (subst (λ (w : Option Keyword). IfSome w (λ k. knows tables k ≡ false)) (sym known) is_unknown)))
+      inl (inl (subst (λ (w : Option Keyword). IfSome w (λ k. is_strange tables section k ≡ false)) (sym known) is_unknown)))
   makes_elsewhere keyword (Some other) known opened =
       makes_unless May item.place
       (first_of (lacking (tables.rows section) taken) (passed_over tables keyword (following tables section))) _
@@ -281,7 +281,7 @@ module _ {S K V X : Type 0} (tables : Tables S K V X) (across : X) (section : S)
   makes_by_keyword : (word : Option Keyword) → word_of item.keyword ≡ word
       → Makes May (by_keyword tables across here item word)
   makes_by_keyword None known =
-      inl (inl (subst (λ (w : Option Keyword). IfSome w (λ k. knows tables k ≡ false)) (sym known) tt))
+      inl (inl (subst (λ (w : Option Keyword). IfSome w (λ k. is_strange tables section k ≡ false)) (sym known) tt))
   makes_by_keyword (Some keyword) known = makes_by_row keyword (row_of (tables.rows section) keyword) known refl
 
   -- a later item of a document

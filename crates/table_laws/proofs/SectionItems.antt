@@ -16,7 +16,7 @@ use Rattle.frame_terms.specs.declared.section.Again.{Again}
 use Rattle.frame_terms.specs.declared.section.Again.TheVariants as again
 use Rattle.frame_terms.specs.Decisions.{beyond_inner, beyond_inside, made_by, unless_fault}
 use Rattle.frame_terms.specs.Keywords.{same, word_of}
-use Rattle.frame_terms.specs.Order.{after, following, inner, is_keyword, knows, knows_in, knows_inside}
+use Rattle.frame_terms.specs.Order.{after, following, inner, is_keyword, is_strange, knows, knows_in, knows_inside}
 use Rattle.frame_terms.specs.Order.{knows_with, opened_by, opener, section_if}
 use Rattle.frame_terms.specs.Refusals.{refused}
 use Rattle.frame_terms.specs.Rows.{is_many}
@@ -83,6 +83,10 @@ module _ {S K V X : Type 0} (tables : Tables S K V X) (kind : HasOneSection tabl
   not_first true b c e = absurd (false≢true (sym e))
   not_first false b c e = refl
 
+  known_nowhere : (a b : Bool) → (a || b) ≡ false → a ≡ false
+  known_nowhere true b e = absurd (false≢true (sym e))
+  known_nowhere false b e = refl
+
   unknown_row : (keyword : Keyword) → knows tables keyword ≡ false → row_of (tables.rows tables.first) keyword ≡ None
   unknown_row keyword none =
       let none_here : (knows_with tables tables.first keyword || false) ≡ false =
@@ -92,12 +96,12 @@ module _ {S K V X : Type 0} (tables : Tables S K V X) (kind : HasOneSection tabl
       (knows_inside tables ((tables.shape tables.first).inner) keyword) false none_here)
 
   passes_unknown : (across : X) (first : Taken V) (taken : List (Taken V)) (item : Item) (word : Option Keyword)
-      → IfSome word (λ keyword. knows tables keyword ≡ false)
+      → IfSome word (λ keyword. is_strange tables tables.first keyword ≡ false)
       → by_keyword tables across (opening tables.first (first ∷ taken) None) item word ≡ Ok Passes
   passes_unknown across first taken item None is = refl
   passes_unknown across first taken item (Some keyword) is =
       let open_ = opening tables.first (first ∷ taken) None in
-      ap (λ (r : Option (Row K)). by_row tables across open_ item keyword r) (unknown_row keyword is)
+      ap (λ (r : Option (Row K)). by_row tables across open_ item keyword r) (unknown_row keyword (known_nowhere (knows tables keyword) (tables.strangers tables.first keyword) is))
       ∙ ap (λ (l : List S). elsewhere tables across open_ item keyword (opened_by tables keyword l)) none_follows
       ∙ ap (λ (t : Bool). if t then Err (refused item.place Order) else Ok Passes) is
 

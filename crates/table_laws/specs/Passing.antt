@@ -7,7 +7,7 @@ use Rattle.frame_terms.specs.declared.keyword.Keyword.{Keyword}
 use Rattle.frame_terms.specs.declared.row.Row.{Row}
 use Rattle.frame_terms.specs.Documents.{Document, document_of}
 use Rattle.frame_terms.specs.Keywords.{word_of}
-use Rattle.frame_terms.specs.Order.{knows}
+use Rattle.frame_terms.specs.Order.{is_strange}
 use Rattle.frame_terms.specs.Sections.{row_of}
 use Rattle.frame_terms.specs.Tables.{Tables}
 use Rattle.table_laws.specs.Items.{IsItemIn}
@@ -22,13 +22,13 @@ pub record IsIgnored {S K V X : Type 0} (tables : Tables S K V X) (section : S) 
   pub ignored : tables.ignores row.kind item ≡ true
 
 module _ {S K V X : Type 0} where
-  -- an item whose keyword no section of the document knows
-  abbrev pub IsUnknown : Tables S K V X → Item → Type 0
-  IsUnknown tables item = IfSome (word_of item.keyword) (λ keyword. knows tables keyword ≡ false)
+  -- an item whose keyword no section of the document knows, and which is no stranger to the one that is open
+  abbrev pub IsUnknown : Tables S K V X → S → Item → Type 0
+  IsUnknown tables section item = IfSome (word_of item.keyword) (λ keyword. is_strange tables section keyword ≡ false)
 
   -- an item that a section passes over
   abbrev pub IsPassedIn : Tables S K V X → S → Item → Type 0
-  IsPassedIn tables section item = IsUnknown tables item ⊎ IsIgnored tables section item
+  IsPassedIn tables section item = IsUnknown tables section item ⊎ IsIgnored tables section item
 
   -- an item that may be passed over
   abbrev pub IsPassedOver : Tables S K V X → Item → Type 0
@@ -78,7 +78,7 @@ pub record IsOfItems {S K V X : Type 0} (tables : Tables S K V X) (length : ℕ)
 
 module _ {S K V X : Type 0} where
   -- Each item of the input, up to where a document ends, stands in one of its sections, or may be passed over: the
-  -- document does not know its keyword, or its tables ignore it. No other is passed over. One that stands says what its
+  -- document does not know its keyword, which is no stranger to the section, or its tables ignore it. No other is passed over. One that stands says what its
   -- row gives by what is remembered of those before it that stand, and may stand behind them.
   abbrev pub OthersArePassedOver : Tables S K V X → Type 0
   OthersArePassedOver tables =

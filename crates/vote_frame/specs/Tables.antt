@@ -134,6 +134,7 @@ vote_tables = record {
   sections = Preamble ∷ Authority ∷ EntrySection ∷ Footer ∷ [];
   shape = shape;
   rows = rows;
+  strangers = λ _ _. false;
   ignores = ignores;
   value_of = λ across kind item. unless_fault (over_limit across.listed kind item) (at_place (value_at kind item));
   start = nothing_across;

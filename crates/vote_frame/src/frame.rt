@@ -215,6 +215,10 @@ impl Frame for VoteFrame {
         }
     }
 
+    fn strangers(self, _: VoteSection, _: Keyword) -> bool {
+        false
+    }
+
     fn ignores(self, kind: VoteKind, item: &Item<'_>) -> bool {
         match kind {
             VoteKind::Entry(kind) => is_ignored(kind, item),

@@ -38,7 +38,7 @@ relays-preserved c =
     let s = step votes c.relays.walk.left c.next.new.self.left rsa c.next.new.group.items c.in-Some.ensures.gives.0 c.relays.invariant.groups in
     let part : c.included_part-part.result ≡ included_part roster (eds_of (listings votes rsa)) =
     c.included_part-part.ensures
-    ∙ ap (λ (eds : List EdOpinion). included_part roster eds) (c.deref-in-Some.ensures.value ∙ c.in_ok-eds_at.ensures ∙ ap (λ (ms : List Belong). eds_of (listings_at votes ms)) c.deref.ensures.value ∙ ap (λ (ls : List Listing). eds_of ls) s.listings_are) in
+    ∙ ap (λ (eds : List EdOpinion). included_part roster eds) (c.deref-in-Some.ensures.value ∙ c.in_ok-eds_at.ensures.ok ∙ ap (λ (ms : List Belong). eds_of (listings_at votes ms)) c.deref.ensures.value ∙ ap (λ (ls : List Listing). eds_of ls) s.listings_are) in
     let given : option_map (λ (ed : EdPart). record { rsa = rsa; ed = ed }) c.included_part-part.result ≡ included_identity roster votes rsa = ap (λ (o : Option EdPart). option_map (λ (ed : EdPart). record { rsa = rsa; ed = ed }) o) part in
     record {
       identities = gives_more (included_identity roster votes) c.relays.identities.items c.push_if.new.identities.items (option_map (λ (ed : EdPart). record { rsa = rsa; ed = ed }) c.included_part-part.result) rsa (map (λ (g : Group). g.identity) c.next.new.self.left) (map (λ (g : Group). g.identity) c.relays.walk.left) _ s.identities given c.in_ok-push_if.ensures.ok c.relays.invariant.identities;

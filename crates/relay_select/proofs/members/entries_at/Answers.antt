@@ -3,6 +3,6 @@ use Rattle.compute_terms.specs.Listings.{Listing, listing_at}
 use Rattle.relay_select.proofs.Filters.{part_more}
 use Rattle.relay_select.proofs.members.entries_at.Goals as goal
 
-pub members-preserved : goal.members-preserved
-members-preserved c =
-    part_more (listing_at c.args.votes.now.votes) (λ (l : Listing). l.entry) c.args.members.now c.members.at-index _ c.members.entries.items c.push.new.self.items c.entry_at.result (omega arith) c.members.invariant c.entry_at.ensures c.in_ok-push.ensures.items
+pub members-preserved-value : goal.members-preserved-value
+members-preserved-value c =
+    part_more (listing_at c.args.votes.now.votes) (λ (l : Listing). l.entry) c.args.members.now c.members.at-index _ c.members.entries.items c.push_reserved.new.self.items c.entry_at.result (omega arith) c.members.invariant.value c.entry_at.ensures c.push_reserved.ensures.items

@@ -12,7 +12,7 @@ returns-then-not-is_listed-clause-value c =
     let votes = c.args.votes.now.votes in
     let said = listings_at votes c.args.group.now in
     let inc : included_part c.args.roster (eds_of said) ≡ Some c.in-Some.part =
-    ap (λ (eds : List EdOpinion). included_part c.args.roster eds) (sym (c.deref.ensures.value ∙ c.in_ok-eds_at.ensures)) ∙ sym c.included_part.ensures ∙ c.in-Some.is in
+    ap (λ (eds : List EdOpinion). included_part c.args.roster eds) (sym (c.deref.ensures.value ∙ c.in_ok-eds_at.ensures.ok)) ∙ sym c.included_part.ensures ∙ c.in-Some.is in
     let f : IsFound c.args.roster votes said (listings_at votes c.deref-2.result.now) c.in-Some.part c.in_ok-set.set = record {
       included = inc;
       kept_are = ap (listings_at votes) c.deref-2.ensures.value ∙ c.in_ok-keep_belonging.ensures.listings;
@@ -25,12 +25,12 @@ returns-clause-value c =
     let votes = c.args.votes.now.votes in
     let said = listings_at votes c.args.group.now in
     let inc : included_part c.args.roster (eds_of said) ≡ Some c.in-Some.part =
-    ap (λ (eds : List EdOpinion). included_part c.args.roster eds) (sym (c.deref.ensures.value ∙ c.in_ok-eds_at.ensures)) ∙ sym c.included_part.ensures ∙ c.in-Some.is in
+    ap (λ (eds : List EdOpinion). included_part c.args.roster eds) (sym (c.deref.ensures.value ∙ c.in_ok-eds_at.ensures.ok)) ∙ sym c.included_part.ensures ∙ c.in-Some.is in
     let f : IsFound c.args.roster votes said (listings_at votes c.deref-2.result.now) c.in-Some.part c.in_ok-set.set = record {
       included = inc;
       kept_are = ap (listings_at votes) c.deref-2.ensures.value ∙ c.in_ok-keep_belonging.ensures.listings;
       flags_are = c.in_ok-set.ensures;
     } in
     listed c.args.roster c.args.method c.args.most votes c.args.identity said (listings_at votes c.deref-2.result.now) c.in-Some.part c.in_ok-set.set c.deref-4.result.now c.in_ok-line.line f (search rules)
-    (c.deref-4.ensures.value ∙ c.in_ok-entries_at.ensures ∙ ap (λ (ms : List Belong). entries_of (listings_at votes ms)) (c.deref-3.ensures.value ∙ sym c.deref-2.ensures.value))
+    (c.deref-4.ensures.value ∙ c.in_ok-entries_at.ensures.ok ∙ ap (λ (ms : List Belong). entries_of (listings_at votes ms)) (c.deref-3.ensures.value ∙ sym c.deref-2.ensures.value))
     c.in_ok-line.ensures.value
