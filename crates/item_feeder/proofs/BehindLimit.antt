@@ -64,41 +64,43 @@ lines_alike limit place (suc n) (b ∷ bytes) le enough =
 
 -- ---- what a line that passes the limit makes
 
-abbrev far_fault : ℕ → ℕ → DocFault
+abbrev pub far_fault : ℕ → ℕ → DocFault
 far_fault limit place = cond (nat_le (limit - place) max_line) (at limit DocumentTooLong) (at (place + max_line) LineTooLong)
 
-far_is : (limit place : ℕ) (line : Line) → limit - place < size line → line_fault limit place line ≡ Some (far_fault limit place)
+pub far_is : (limit place : ℕ) (line : Line) → limit - place < size line → line_fault limit place line ≡ Some (far_fault limit place)
 far_is limit place line lt =
     ap (λ (t : Bool). or_else (cond t None (Some (far_fault limit place))) (or_else (unterminated place line) (nul_fault place (nul_in line.text)))) (lt-leb _ _ (omega (arith, lt)))
 
-over_is : (room m n : ℕ) → m < n → (nat_lt room m && nat_lt room n) ≡ nat_lt room m
-over_is room m n lt = elim (cases_lt room m) [
-  | inl less ↦ ap (λ (t : Bool). t && nat_lt room n) (lt-ltb _ _ less) ∙ lt-ltb _ _ (omega (arith, lt, less)) ∙ sym (lt-ltb _ _ less)
+over_is : (room m n : ℕ) → m ≤ n → (nat_lt room m && nat_lt room n) ≡ nat_lt room m
+over_is room m n fits = elim (cases_lt room m) [
+  | inl less ↦ ap (λ (t : Bool). t && nat_lt room n) (lt-ltb _ _ less) ∙ lt-ltb _ _ (omega (arith, fits, less)) ∙ sym (lt-ltb _ _ less)
   | inr le ↦ ap (λ (t : Bool). t && nat_lt room n) (le-ltb _ _ le) ∙ sym (le-ltb _ _ le)
 ]
 
-abbrev inside_fault : ℕ → ℕ → ℕ → DocFault
-inside_fault limit begin place = cond (nat_lt (max_object - (place - begin)) (min (limit - place) max_line)) (at begin ObjectTooLong) (far_fault limit place)
+-- the fault of a line that reaches the limits, inside an object
+abbrev pub inside_fault : DocFault → ℕ → ℕ → ℕ → DocFault
+inside_fault far limit begin place = cond (nat_lt (max_object - (place - begin)) (min (limit - place) max_line)) (at begin ObjectTooLong) far
 
 inside_by : (over : Bool) (begin : ℕ) (far : DocFault) → cond over (Some (at begin ObjectTooLong)) (Some far) ≡ Some (cond over (at begin ObjectTooLong) far)
 inside_by true begin far = refl
 inside_by false begin far = refl
 
-inside_is : (limit begin place : ℕ) (line : Line) → limit - place < size line → object_line_fault limit begin place line ≡ Some (inside_fault limit begin place)
-inside_is limit begin place line lt =
+inside_is : (limit begin place : ℕ) (line : Line) (far : DocFault) → min (limit - place) max_line ≤ size line → line_fault limit place line ≡ Some far
+    → object_line_fault limit begin place line ≡ Some (inside_fault far limit begin place)
+inside_is limit begin place line far reaches is =
     let room = max_object - (place - begin) in
     let m = min (limit - place) max_line in
-    ap (λ (t : Bool). cond t (Some (at begin ObjectTooLong)) (line_fault limit place line)) (over_is room m (size line) (omega (arith, lt)))
-    ∙ ap (λ (f : Option DocFault). cond (nat_lt room m) (Some (at begin ObjectTooLong)) f) (far_is limit place line lt)
-    ∙ inside_by (nat_lt room m) begin (far_fault limit place)
+    ap (λ (t : Bool). cond t (Some (at begin ObjectTooLong)) (line_fault limit place line)) (over_is room m (size line) reaches)
+    ∙ ap (λ (f : Option DocFault). cond (nat_lt room m) (Some (at begin ObjectTooLong)) f) is
+    ∙ inside_by (nat_lt room m) begin far
 
--- the contents where the first line passes the limit
-abbrev stopped : ℕ → ℕ → Open → Bool → Contents
-stopped limit place nothing dash = failed (far_fault limit place)
-stopped limit place (keyword_line item) dash = cond dash (failed (far_fault limit place)) (also (Some item) (failed (far_fault limit place)))
-stopped limit place (object_lines item begin object) dash = failed (inside_fault limit begin place)
+-- the contents where the first line reaches the limits and has this fault
+abbrev pub stopped : DocFault → ℕ → ℕ → Open → Bool → Contents
+stopped far limit place nothing dash = failed far
+stopped far limit place (keyword_line item) dash = cond dash (failed far) (also (Some item) (failed far))
+stopped far limit place (object_lines item begin object) dash = failed (inside_fault far limit begin place)
 
-abbrev Rest : Type 0
+abbrev pub Rest : Type 0
 Rest = Open → Contents
 
 dash_by : (dash : Bool) (item : Item) (far : DocFault) (object read : Result Open DocFault) (rest : Rest) → object ≡ Err far → read ≡ Err far
@@ -107,17 +109,21 @@ dash_by : (dash : Bool) (item : Item) (far : DocFault) (object read : Result Ope
 dash_by true item far object read rest a b = ap (λ (n : Result Open DocFault). also None (proceed n rest)) a
 dash_by false item far object read rest a b = ap (λ (n : Result Open DocFault). also (Some item) (proceed n rest)) b
 
-stops : (limit place : ℕ) (so_far : Open) (line : Line) (rest : Rest) → limit - place < size line
-    → (let made = step limit place so_far line in also made.whole (proceed made.next rest)) ≡ stopped limit place so_far (starts_dash line)
-stops limit place nothing line rest lt =
-    ap (λ (f : Option DocFault). also None (proceed (open_item (item_unless f (line_item place line))) rest)) (far_is limit place line lt)
-stops limit place (keyword_line item) line rest lt =
-    let far = far_fault limit place in
+pub stops : (limit place : ℕ) (so_far : Open) (line : Line) (rest : Rest) (far : DocFault) → min (limit - place) max_line ≤ size line → line_fault limit place line ≡ Some far
+    → (let made = step limit place so_far line in also made.whole (proceed made.next rest)) ≡ stopped far limit place so_far (starts_dash line)
+stops limit place nothing line rest far reaches is =
+    ap (λ (f : Option DocFault). also None (proceed (open_item (item_unless f (line_item place line))) rest)) is
+stops limit place (keyword_line item) line rest far reaches is =
     dash_by (starts_dash line) item far (open_unless (line_fault limit place line) (first_object_line place item line (begin_words line.text))) (open_item (read_line limit place line)) rest
-    (ap (λ (f : Option DocFault). open_unless f (first_object_line place item line (begin_words line.text))) (far_is limit place line lt))
-    (ap (λ (f : Option DocFault). open_item (item_unless f (line_item place line))) (far_is limit place line lt))
-stops limit place (object_lines item begin object) line rest lt =
-    ap (λ (f : Option DocFault). also (step_unless f (object_step item begin object place line)).whole (proceed (step_unless f (object_step item begin object place line)).next rest)) (inside_is limit begin place line lt)
+    (ap (λ (f : Option DocFault). open_unless f (first_object_line place item line (begin_words line.text))) is)
+    (ap (λ (f : Option DocFault). open_item (item_unless f (line_item place line))) is)
+stops limit place (object_lines item begin object) line rest far reaches is =
+    ap (λ (f : Option DocFault). also (step_unless f (object_step item begin object place line)).whole (proceed (step_unless f (object_step item begin object place line)).next rest)) (inside_is limit begin place line far reaches is)
+
+-- the same of a line that passes the document's limit
+pub stops_far : (limit place : ℕ) (so_far : Open) (line : Line) (rest : Rest) → limit - place < size line
+    → (let made = step limit place so_far line in also made.whole (proceed made.next rest)) ≡ stopped (far_fault limit place) limit place so_far (starts_dash line)
+stops_far limit place so_far line rest lt = stops limit place so_far line rest (far_fault limit place) (omega (arith, lt)) (far_is limit place line lt)
 
 -- ---- a text
 
@@ -138,9 +144,9 @@ alike limit place so_far (one ∷ rest) (two ∷ more) (inl h) =
     (λ open_. alike limit (place + size one) open_ rest more h.1)
     ∙ ap (λ (l : Line). let made = step limit place so_far l in also made.whole (proceed made.next (λ open_. contents_of limit (place + size l) open_ more))) (sym h.0)
 alike limit place so_far (one ∷ rest) (two ∷ more) (inr h) =
-    stops limit place so_far one (λ open_. contents_of limit (place + size one) open_ rest) h.first
-    ∙ ap (stopped limit place so_far) (sym h.dash)
-    ∙ sym (stops limit place so_far two (λ open_. contents_of limit (place + size two) open_ more) h.second)
+    stops_far limit place so_far one (λ open_. contents_of limit (place + size one) open_ rest) h.first
+    ∙ ap (stopped (far_fault limit place) limit place so_far) (sym h.dash)
+    ∙ sym (stops_far limit place so_far two (λ open_. contents_of limit (place + size two) open_ more) h.second)
 
 pub limit_is_enough : LimitIsEnough
 limit_is_enough limit place n so_far bytes le enough = alike limit place so_far (lines (take n bytes)) (lines bytes) (lines_alike limit place n bytes le enough)

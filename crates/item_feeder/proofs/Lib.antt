@@ -3,3 +3,4 @@ pub mod Later
 pub mod FaultPlaces
 pub mod Feeders
 pub mod BehindLimit
+pub mod OneMore
