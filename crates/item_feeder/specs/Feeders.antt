@@ -1,6 +1,7 @@
 -- What a feeder shows: what comes next of a document whose bytes arrive piece by piece.
-use Rattle.std.specs.Prelude.{◌≡◌, ℕ, ◌+◌, ◌-◌, drop}
+use Rattle.std.specs.Prelude.{◌≡◌, ℕ, ◌+◌, ◌-◌, ◌≤◌, Bool, List, ◌++◌, length, drop, Option, Some, None, option_to_list}
 use Rattle.item_terms.specs.declared.fault.DocFault.{DocFault}
+use Rattle.dirdoc_grammar.specs.declared.cursor.Cursor.{Cursor}
 use Rattle.dirdoc_grammar.specs.declared.take.Take.{Take}
 use Rattle.dirdoc_grammar.specs.declared.take.Take.TheVariants.{Item, NotYet, End, Fault}
 use Rattle.dirdoc_grammar.specs.Feeding.{Fed, Takes}
@@ -47,3 +48,13 @@ behind_next fed End = fed
 -- what comes next
 abbrev pub Shows : Fed → Take → Type 0
 Shows fed taken = Takes fed taken (behind_next fed taken)
+
+-- The bytes that are kept are no more than the document may have. A byte stands beside them only where they are as many.
+abbrev pub KeepsWithin : ℕ → List ℕ → Option ℕ → Type 0
+KeepsWithin limit bytes None = length bytes ≤ limit
+KeepsWithin limit bytes (Some beside) = length bytes ≡ limit
+
+-- what is left of the bytes and of the one beside them
+abbrev pub fed_with : Cursor → List ℕ → Option ℕ → Bool → Fed
+fed_with cursor bytes beside finished =
+    record { limit = cursor.limit; place = cursor.place; rest = drop cursor.place bytes ++ option_to_list beside; finished = finished }

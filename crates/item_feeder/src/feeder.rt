@@ -1,22 +1,24 @@
 // A document whose bytes arrive piece by piece (dir-spec, "Document meta-format").
 
-ghost use Rattle.std.specs.Prelude.{◌+◌, ◌-◌, ◌<◌, ◌≡◌, ◌≤◌, ◌^◌, ◌++◌, [], drop, false, length, take, true, vec_len, IfOk, OnErr, OnOk};
+ghost use Rattle.std.specs.Prelude.{◌+◌, ◌-◌, ◌<◌, ◌≡◌, ◌≤◌, ◌^◌, ◌++◌, [], drop, Bool, false, length, take, true, vec_len, min, None, Some, option_to_list, IfOk, IsTrue, OnErr, OnOk};
 ghost use Rattle.dirdoc_grammar.specs.Cursors.{IsAt, WaitsIf};
 ghost use Rattle.dirdoc_grammar.specs.Feeding.{Fed, IfItem};
-ghost use Rattle.item_feeder.specs.Feeders.{behind_place, IfFault, Moves, Shows};
+ghost use Rattle.item_feeder.specs.Feeders.{behind_place, fed_with, IfFault, KeepsWithin, Moves, Shows};
 ghost use Rattle.item_feeder.specs.Moving.{moved_item, moved_fault, moved_object};
 ghost use Rattle.dirdoc_grammar.specs.Seen.{seen, seen_object, LiesInOrder};
 
-use dirdoc_grammar::{Cursor, DocFault, Item, ObjectText, Take};
+use dirdoc_grammar::{Cursor, DocFault, DocReason, Item, ObjectText, Take};
 use std::alloc::{AllocError, Global};
 use std::marker::Model;
 
 /// The items of a document whose bytes arrive piece by piece, up to its first fault. A contract
 /// sees a reader as the bytes that were fed and not taken, as far as the document may have them and
-/// one more.
+/// one more. It keeps no byte in its buffer that the document may not have: of those that were fed, only the first is
+/// kept, beside the buffer, since it tells whether an object follows the last keyword line.
 #[derive(Drop)]
 pub struct Feeder {
     bytes: Vec<u8>,
+    beside: Option<u8>,
     base: u64,
     cursor: Cursor,
     waits: bool,
@@ -26,9 +28,9 @@ pub struct Feeder {
 impl Model for Feeder {
     ghost Value = { Fed };
 
-    ghost view = { λ s. record { limit = s.base + s.cursor.limit; place = s.base + s.cursor.place; rest = drop s.cursor.place s.bytes.items; finished = s.finished } };
+    ghost view = { λ s. record { limit = s.base + s.cursor.limit; place = s.base + s.cursor.place; rest = drop s.cursor.place s.bytes.items ++ option_to_list s.beside; finished = s.finished } };
 
-    ghost invariant = { λ s. IsAt s.bytes.items s.cursor × (length s.bytes.items ≤ s.cursor.limit + 1) × (s.base + s.cursor.limit < 2 ^ 61) × WaitsIf s.waits s.cursor s.bytes.items s.finished };
+    ghost invariant = { λ s. IsAt s.bytes.items s.cursor × KeepsWithin s.cursor.limit s.bytes.items s.beside × (s.base + s.cursor.limit < 2 ^ 61) × WaitsIf s.waits s.cursor s.bytes.items s.finished × (IsTrue s.waits → s.beside ≡ None) };
 }
 
 /// Takes so many bytes off the front.
@@ -90,6 +92,65 @@ fn take_at(base: u64, taken: Take<'_>) -> Take<'_>
     }
 }
 
+/// What of a piece a document may have that has room for so many bytes, and the byte behind, if one is there.
+fn split_at_room(piece: &[u8], room: usize) -> (&[u8], Option<u8>)
+    ensures fits { result.0.now ≡ take room piece.now }
+    ensures beside { option_to_list result.1 ≡ take 1 (drop room piece.now) }
+{
+    if piece.len() <= room {
+        return (piece, None);
+    }
+    let (fits, behind) = piece.split_at(room);
+    (fits, behind.first().copied())
+}
+
+/// What comes next of bytes that are as many as the document may have, where one more follows them: what the bytes
+/// hold, but an item whose keyword line ends them may have an object then.
+fn last_within(mut cursor: Cursor, bytes: &[u8], beside: u8) -> Take<'_>
+    requires at { IsAt bytes.now cursor }
+    requires full { length bytes.now ≡ cursor.limit }
+    requires short { length bytes.now < 2 ^ 62 }
+    ensures shows { (finished : Bool) → Shows (fed_with cursor bytes.now (Some beside) finished) result }
+    ensures order { IfItem result (λ item. LiesInOrder (seen item)) }
+    ensures within { IfItem result (λ item. item.after ≤ cursor.limit) }
+{
+    let limit = cursor.limit;
+    let too_long = Take::Fault(DocFault {
+        place: limit,
+        reason: DocReason::DocumentTooLong,
+    });
+    match cursor.take(bytes, true) {
+        Take::Item(item) => {
+            if beside == b'-' && item.line_end == limit {
+                return too_long;
+            }
+            Take::Item(item)
+        }
+        Take::Fault(fault) => {
+            if let DocReason::Unterminated = fault.reason {
+                return too_long;
+            }
+            Take::Fault(fault)
+        }
+        _ => too_long,
+    }
+}
+
+/// What comes next of bytes and the one beside them, if it is known.
+fn next_of(mut cursor: Cursor, bytes: &[u8], beside: Option<u8>, finished: bool) -> Take<'_>
+    requires at { IsAt bytes.now cursor }
+    requires within { KeepsWithin cursor.limit bytes.now beside }
+    requires short { length bytes.now < 2 ^ 62 }
+    ensures shows { Shows (fed_with cursor bytes.now beside finished) result }
+    ensures order { IfItem result (λ item. LiesInOrder (seen item)) }
+    ensures within { IfItem result (λ item. item.after ≤ cursor.limit) }
+{
+    match beside {
+        Some(byte) => last_within(cursor, bytes, byte),
+        None => cursor.take(bytes, finished),
+    }
+}
+
 impl Feeder {
     /// The reader of a document that may have at most `limit` bytes.
     pub fn new(alloc: Global, limit: u64) -> Feeder
@@ -98,6 +159,7 @@ impl Feeder {
     {
         Feeder {
             bytes: Vec::new(alloc),
+            beside: None,
             base: 0,
             cursor: Cursor::new(limit),
             waits: false,
@@ -123,6 +185,10 @@ impl Feeder {
         requires { self.old.finished ≡ false }
         ensures { self.new ≡ self.old }
     {
+        if self.beside.is_some() {
+            self.waits = false;
+            return;
+        }
         let mut cursor = self.cursor;
         if cursor.waits(&self.bytes) {
             self.cursor = cursor;
@@ -137,7 +203,7 @@ impl Feeder {
         self.waits = false;
     }
 
-    /// Feeds the next piece. Of what the document may not have, one byte is kept; of what was taken, nothing. What was
+    /// Feeds the next piece. Of what the document may not have, one byte is kept, beside the others; of what was taken, nothing. What was
     /// not taken is moved to the front then: where all that is known is taken between two pieces, that is no
     /// more than the last of them.
     ///
@@ -149,10 +215,14 @@ impl Feeder {
         ensures err { OnErr result (self.new ≡ self.old) }
     {
         self.compact();
-        let room = (self.cursor.limit + 1 - self.bytes.len() as u64) as usize;
-        let piece = &piece[..piece.len().min(room)];
+        if self.beside.is_some() {
+            return Ok(());
+        }
+        let room = (self.cursor.limit - self.bytes.len() as u64) as usize;
+        let (fits, beside) = split_at_room(piece, room);
         self.waits = false;
-        self.bytes.extend_from_slice(piece)?;
+        self.bytes.extend_from_slice(fits)?;
+        self.beside = beside;
         self.remember();
         Ok(())
     }
@@ -167,22 +237,34 @@ impl Feeder {
 
     /// What comes next, if it is known. Places count from the document's first byte.
     pub fn look(&self) -> Take<'_>
-        ensures { Shows self.now result }
+        ensures shows { Shows self.now result }
+        ensures within { IfItem result (λ item. item.after ≤ self.now.limit) }
     {
         if self.waits {
             return Take::NotYet;
         }
-        let mut cursor = self.cursor;
-        take_at(self.base, cursor.take(&self.bytes, self.finished))
+        take_at(
+            self.base,
+            next_of(self.cursor, &self.bytes, self.beside, self.finished),
+        )
     }
 
     /// Takes what was looked at, up to this place.
     pub fn pass(&mut self, after: u64)
         requires later { self.old.place ≤ after }
         requires inside { after ≤ self.old.place + length self.old.rest }
+        requires within { after ≤ self.old.limit }
         ensures { self.new ≡ behind_place self.old after }
     {
         self.cursor = Cursor::behind(self.cursor.limit, (after - self.base) as usize);
         self.waits = false;
+    }
+
+    /// How many bytes the buffer keeps: never more than the document may have.
+    pub fn held(&self) -> usize
+        ensures within { result ≤ self.now.limit }
+        ensures rest { min (length self.now.rest) (self.now.limit - self.now.place) ≤ result }
+    {
+        self.bytes.len()
     }
 }

@@ -1,9 +1,8 @@
 use Rattle.std.proofs.Common.{◌≡◌, ◌≤◌, ◌+◌, List, ℕ, length, ap, subst, arith, ◌∙◌}
-use Rattle.dirdoc_grammar.specs.Cursors.{fed_by}
 use Rattle.dirdoc_grammar.specs.declared.take.Take.TheVariants.{NotYet}
 use Rattle.dirdoc_grammar.specs.Feeding.{Fed}
-use Rattle.item_feeder.specs.Feeders.{Shows}
-use Rattle.item_feeder.proofs.Feeders.{fault_near}
+use Rattle.item_feeder.specs.Feeders.{Shows, behind_next, fed_with}
+use Rattle.item_feeder.proofs.Feeders.{fault_near, waits_with, within_length}
 use Rattle.item_feeder.proofs.Later.{later, shows_later}
 use Rattle.item_feeder.proofs.feeder.Feeder.look.Goals as goal
 
@@ -14,20 +13,23 @@ take_at-requires-clause-fault c =
     let at_ = inv.0 in
     let same : length c.deref.result.now ≡ length i.bytes.items = ap length c.deref.ensures.value in
     let le : i.cursor.place ≤ length c.deref.result.now = omega (arith, same, at_.taken, at_.order, at_.later, at_.within) in
-    let short : length c.deref.result.now ≤ i.cursor.limit + 1 = omega (arith, same, inv.1) in
-    fault_near i.base c.deref.result.now i.cursor i.finished c.take.result _ c.take.ensures.takes le short inv.2
+    let short : length c.deref.result.now ≤ i.cursor.limit = omega (arith, same, within_length i.cursor.limit i.bytes.items i.beside inv.1) in
+    let fed = fed_with i.cursor c.deref.result.now i.beside i.finished in
+    fault_near i.base c.deref.result.now i.cursor i.beside i.finished c.next_of.result (behind_next fed c.next_of.result) c.next_of.ensures.shows le short inv.2
 
-pub returns : goal.returns
-returns c =
+pub returns-clause-shows : goal.returns-clause-shows
+returns-clause-shows c =
     let i = c.self.inside in
     let base = i.base in
-    let bytes : later base (fed_by i.cursor c.deref.result.now i.finished) ≡ later base (fed_by i.cursor i.bytes.items i.finished) =
-    ap (λ (l : List ℕ). later base (fed_by i.cursor l i.finished)) c.deref.ensures.value in
-    subst (λ (f : Fed). Shows f c.take_at.result) (bytes ∙ c.self.view_is) (shows_later base (fed_by i.cursor c.deref.result.now i.finished) _ c.take.result c.take_at.result c.take.ensures.takes c.take_at.ensures)
+    let fed = fed_with i.cursor c.deref.result.now i.beside i.finished in
+    let bytes : later base (fed_with i.cursor c.deref.result.now i.beside i.finished) ≡ later base (fed_with i.cursor i.bytes.items i.beside i.finished) =
+    ap (λ (l : List ℕ). later base (fed_with i.cursor l i.beside i.finished)) c.deref.ensures.value in
+    subst (λ (f : Fed). Shows f c.take_at.result) (bytes ∙ c.self.view_is) (shows_later base fed (behind_next fed c.next_of.result) c.next_of.result c.take_at.result c.next_of.ensures.shows c.take_at.ensures)
 
-pub returns-then-self : goal.returns-then-self
-returns-then-self c =
+pub returns-then-self-clause-shows : goal.returns-then-self-clause-shows
+returns-then-self-clause-shows c =
     let i = c.self.inside in
-    let fed = fed_by i.cursor i.bytes.items i.finished in
+    let inv = c.self.invariant in
+    let fed = fed_with i.cursor i.bytes.items i.beside i.finished in
     subst (λ (f : Fed). Shows f NotYet) c.self.view_is
-    (shows_later i.base fed fed NotYet NotYet (c.self.invariant.3 c.if-self.true) tt)
+    (shows_later i.base fed fed NotYet NotYet (waits_with i.cursor i.bytes.items i.beside i.finished (inv.4 c.if-self.true) (inv.3 c.if-self.true)) tt)
