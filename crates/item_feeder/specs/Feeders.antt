@@ -1,9 +1,11 @@
 -- What a feeder shows: what comes next of a document whose bytes arrive piece by piece.
-use Rattle.std.specs.Prelude.{◌≡◌, ℕ, ◌+◌, ◌-◌, ◌≤◌, Bool, List, ◌++◌, length, drop, Option, Some, None, option_to_list}
+use Rattle.std.specs.Prelude.{◌≡◌, ℕ, ◌+◌, ◌-◌, ◌<◌, ◌≤◌, ◌^◌, Bool, IsTrue, List, ◌++◌, length, drop}
+use Rattle.std.specs.Prelude.{Option, Some, None, option_to_list}
 use Rattle.item_terms.specs.declared.fault.DocFault.{DocFault}
 use Rattle.dirdoc_grammar.specs.declared.cursor.Cursor.{Cursor}
 use Rattle.dirdoc_grammar.specs.declared.take.Take.{Take}
 use Rattle.dirdoc_grammar.specs.declared.take.Take.TheVariants.{Item, NotYet, End, Fault}
+use Rattle.dirdoc_grammar.specs.Cursors.{IsAt, WaitsIf}
 use Rattle.dirdoc_grammar.specs.Feeding.{Fed, Takes}
 use Rattle.dirdoc_grammar.specs.Seen.{seen}
 use Rattle.item_feeder.specs.Moving.{moved_item, moved_fault}
@@ -49,12 +51,24 @@ behind_next fed End = fed
 abbrev pub Shows : Fed → Take → Type 0
 Shows fed taken = Takes fed taken (behind_next fed taken)
 
+-- what is left of the bytes and of the one beside them
+abbrev pub fed_with : Cursor → List ℕ → Option ℕ → Bool → Fed
+fed_with cursor bytes beside finished = record {
+  limit = cursor.limit;
+  place = cursor.place;
+  rest = drop cursor.place bytes ++ option_to_list beside;
+  finished = finished;
+}
+
 -- The bytes that are kept are no more than the document may have. A byte stands beside them only where they are as many.
 abbrev pub KeepsWithin : ℕ → List ℕ → Option ℕ → Type 0
 KeepsWithin limit bytes None = length bytes ≤ limit
 KeepsWithin limit bytes (Some beside) = length bytes ≡ limit
 
--- what is left of the bytes and of the one beside them
-abbrev pub fed_with : Cursor → List ℕ → Option ℕ → Bool → Fed
-fed_with cursor bytes beside finished =
-    record { limit = cursor.limit; place = cursor.place; rest = drop cursor.place bytes ++ option_to_list beside; finished = finished }
+-- What a feeder knows of what it keeps: how far the bytes are read, how many they are, and where it waits for more.
+pub record Keeps (bytes : List ℕ) (beside : Option ℕ) (base : ℕ) (cursor : Cursor) (waits finished : Bool) : Type 0 where
+  pub reads : IsAt bytes cursor
+  pub within : KeepsWithin cursor.limit bytes beside
+  pub small : base + cursor.limit < 2 ^ 61
+  pub waiting : WaitsIf waits cursor bytes finished
+  pub alone : IsTrue waits → beside ≡ None

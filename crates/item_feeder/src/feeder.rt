@@ -1,9 +1,10 @@
 // A document whose bytes arrive piece by piece (dir-spec, "Document meta-format").
 
-ghost use Rattle.std.specs.Prelude.{◌+◌, ◌-◌, ◌<◌, ◌≡◌, ◌≤◌, ◌^◌, ◌++◌, [], drop, Bool, false, length, take, true, vec_len, min, None, Some, option_to_list, IfOk, IsTrue, OnErr, OnOk};
-ghost use Rattle.dirdoc_grammar.specs.Cursors.{IsAt, WaitsIf};
+ghost use Rattle.std.specs.Prelude.{◌+◌, ◌-◌, ◌<◌, ◌≡◌, ◌≤◌, ◌^◌, ◌++◌, [], drop, length, min, option_to_list, take, vec_len};
+ghost use Rattle.std.specs.Prelude.{false, true, Bool, None, Some, IfOk, OnErr, OnOk};
+ghost use Rattle.dirdoc_grammar.specs.Cursors.{IsAt};
 ghost use Rattle.dirdoc_grammar.specs.Feeding.{Fed, IfItem};
-ghost use Rattle.item_feeder.specs.Feeders.{behind_place, fed_with, IfFault, KeepsWithin, Moves, Shows};
+ghost use Rattle.item_feeder.specs.Feeders.{behind_place, fed_with, IfFault, Keeps, KeepsWithin, Moves, Shows};
 ghost use Rattle.item_feeder.specs.Moving.{moved_item, moved_fault, moved_object};
 ghost use Rattle.dirdoc_grammar.specs.Seen.{seen, seen_object, LiesInOrder};
 
@@ -28,9 +29,14 @@ pub struct Feeder {
 impl Model for Feeder {
     ghost Value = { Fed };
 
-    ghost view = { λ s. record { limit = s.base + s.cursor.limit; place = s.base + s.cursor.place; rest = drop s.cursor.place s.bytes.items ++ option_to_list s.beside; finished = s.finished } };
+    ghost view = { λ s. record {
+      limit = s.base + s.cursor.limit;
+      place = s.base + s.cursor.place;
+      rest = drop s.cursor.place s.bytes.items ++ option_to_list s.beside;
+      finished = s.finished;
+    } };
 
-    ghost invariant = { λ s. IsAt s.bytes.items s.cursor × KeepsWithin s.cursor.limit s.bytes.items s.beside × (s.base + s.cursor.limit < 2 ^ 61) × WaitsIf s.waits s.cursor s.bytes.items s.finished × (IsTrue s.waits → s.beside ≡ None) };
+    ghost invariant = { λ s. Keeps s.bytes.items s.beside s.base s.cursor s.waits s.finished };
 }
 
 /// Takes so many bytes off the front.
