@@ -101,7 +101,8 @@ module _ {S K V X : Type 0} (tables : Tables S K V X) (kind : HasOneSection tabl
   passes_unknown across first taken item None is = refl
   passes_unknown across first taken item (Some keyword) is =
       let open_ = opening tables.first (first ∷ taken) None in
-      ap (λ (r : Option (Row K)). by_row tables across open_ item keyword r) (unknown_row keyword (known_nowhere (knows tables keyword) (tables.strangers tables.first keyword) is))
+      let nowhere = known_nowhere (knows tables keyword) (tables.strangers tables.first keyword) is in
+      ap (λ (r : Option (Row K)). by_row tables across open_ item keyword r) (unknown_row keyword nowhere)
       ∙ ap (λ (l : List S). elsewhere tables across open_ item keyword (opened_by tables keyword l)) none_follows
       ∙ ap (λ (t : Bool). if t then Err (refused item.place Order) else Ok Passes) is
 

@@ -78,8 +78,9 @@ pub record IsOfItems {S K V X : Type 0} (tables : Tables S K V X) (length : ℕ)
 
 module _ {S K V X : Type 0} where
   -- Each item of the input, up to where a document ends, stands in one of its sections, or may be passed over: the
-  -- document does not know its keyword, which is no stranger to the section, or its tables ignore it. No other is passed over. One that stands says what its
-  -- row gives by what is remembered of those before it that stand, and may stand behind them.
+  -- document does not know its keyword, which is no stranger to the section, or its tables ignore it. No other is passed
+  -- over. One that stands says what its row gives by what is remembered of those before it that stand, and may stand
+  -- behind them.
   abbrev pub OthersArePassedOver : Tables S K V X → Type 0
   OthersArePassedOver tables =
       AreSound tables
