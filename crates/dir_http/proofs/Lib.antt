@@ -1,0 +1,7 @@
+mod Arrivals
+mod Bodies
+mod Lengths
+mod Lines
+mod Reading
+mod WholeAnswers
+mod Writing

@@ -1,0 +1,32 @@
+-- Why bytes are no whole response.
+use Rattle.std.proofs.Common.{◌≡◌, ℕ, ◌<◌, List, length, drop, ap, sym, subst, ◌∙◌, map, arith}
+use Rattle.httparse.specs.Grammar.{ResponseHead, print_response}
+use Rattle.httparse.specs.Spans.{name_and_value}
+use Rattle.httparse.proofs.GrammarLemmas.{response_unique}
+use Rattle.dir_http.specs.declared.length.Announcement.{Announcement}
+use Rattle.dir_http.specs.declared.answer_front.AnswerParts.{AnswerParts}
+use Rattle.dir_http.specs.Heads.{head_limit, announcement, length_values}
+use Rattle.dir_http.specs.Fronts.{AreAnswerPartsOf}
+use Rattle.dir_http.specs.Responses.{FitsLength, IsNoResponse}
+
+-- the one head that stands there is too long
+pub too_long_answer : (bytes : List ℕ) (parts : AnswerParts) (head : ResponseHead)
+    → AreAnswerPartsOf bytes parts head → head_limit < parts.len
+    → IsNoResponse bytes
+too_long_answer bytes parts head are long other body whole =
+    let same = response_unique bytes head other (drop parts.len bytes) body are.reads whole.reads in
+    omega (arith, long, are.len, ap (λ (h : ResponseHead). length (print_response h)) same.0, whole.size)
+
+-- the one head that stands there announces another length
+pub other_length : (bytes : List ℕ) (parts : AnswerParts) (head : ResponseHead) (rest : List ℕ)
+    → AreAnswerPartsOf bytes parts head
+    → rest ≡ drop parts.len bytes → ¬ (FitsLength parts.announcement (length rest)) → IsNoResponse bytes
+other_length bytes parts head rest are is not other body whole =
+    let same = response_unique bytes head other (drop parts.len bytes) body are.reads whole.reads in
+    let said : announcement (length_values (map name_and_value other.fields)) ≡ parts.announcement =
+    ap (λ (h : ResponseHead). announcement (length_values (map name_and_value h.fields))) (sym same.0)
+    ∙ sym are.announcement in
+    let as_long : length body ≡ length rest = ap (λ (l : List ℕ). length l) (sym same.1 ∙ sym is) in
+    not (subst (λ (a : Announcement). FitsLength a (length rest)) said
+    (subst (λ (n : ℕ). FitsLength (announcement (length_values (map name_and_value other.fields))) n) as_long
+    whole.fits))

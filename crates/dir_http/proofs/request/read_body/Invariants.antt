@@ -1,0 +1,16 @@
+use Rattle.std.proofs.Common.{◌≡◌, ◌≤◌, ◌-◌, vec_len}
+use Rattle.std.specs.Io.KnownBytes.{Consumes}
+use Rattle.dir_http.specs.Requests.{body_ahead}
+use Rattle.dir_http.proofs.request.read_body.Given as goal
+
+abbrev pub invariant-pieces : goal.invariant-pieces
+invariant-pieces g l = record {
+  taken : Consumes (body_ahead 0 l.head (g.S.Source.left l.fn.source))
+      (body_ahead l.reader.given l.head (g.S.Source.left l.source)) l.body.items;
+  counted : vec_len l.body ≡ l.reader.given;
+  within : l.reader.given ≤ l.head.length;
+  faults : g.S.Source.faults l.source ≡ g.S.Source.faults l.fn.source;
+}
+
+abbrev pub decreases-pieces : goal.decreases-pieces
+decreases-pieces g l = l.head.length - l.reader.given

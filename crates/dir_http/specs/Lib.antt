@@ -1,0 +1,9 @@
+pub mod Arrivals
+pub mod Fronts
+pub mod Gates
+pub mod Heads
+pub mod Links
+pub mod MemoryLinks
+pub mod Requests
+pub mod Responses
+pub mod Watches
