@@ -94,7 +94,7 @@ still_open [] e = refl
 still_open (b ∷ rest) e = still_by (eqb b 10) b rest (still_open rest) e
 
 -- a fault other than that the bytes end at this place
-abbrev IsLater : ℕ → DocFault → Type 0
+abbrev pub IsLater : ℕ → DocFault → Type 0
 IsLater n fault = fault ≡ at n Unterminated → ⊥
 
 -- a line without its NL has a fault: that its limit is passed, or that the bytes end behind it
@@ -139,10 +139,10 @@ later_object limit begin place n line open_ lt =
     later_by (nat_lt room (min (limit - place) max_line) && nat_lt room (size line)) begin n (line_fault limit place line) (later_line limit place n line open_ lt)
 
 -- the bytes end before a line or within it, and one more byte follows
-record OneMore (limit line : ℕ) (open_ : Open) (bytes : List ℕ) : Type 0 where
-  fault : DocFault
-  is : from_place limit line open_ (bytes ++ 45 ∷ []) ≡ failed fault
-  later : IsLater (length bytes) fault
+pub record OneMore (limit line : ℕ) (open_ : Open) (bytes : List ℕ) : Type 0 where
+  pub fault : DocFault
+  pub is : from_place limit line open_ (bytes ++ 45 ∷ []) ≡ failed fault
+  pub later : IsLater (length bytes) fault
 
 -- the line is in an object, if it follows a keyword line
 abbrev Dashes : Open → List ℕ → Type 0
@@ -221,7 +221,7 @@ now_only limit line (object_lines item begin object) bytes (inl e) =
     (ap first_of (ends limit line (object_lines item begin object) bytes (omega (arith, e)) ∙ ap (λ (n : ℕ). failed (at n Unterminated)) e))
 now_only limit line open_ bytes (inr cut) = only_cut (from_place limit line open_ bytes) (length bytes) (ap first_of (cut_now limit line open_ bytes cut))
 
-more_of : (limit line : ℕ) (open_ : Open) (bytes : List ℕ) → IsOver limit line open_ bytes → OneMore limit line open_ bytes
+pub more_of : (limit line : ℕ) (open_ : Open) (bytes : List ℕ) → IsOver limit line open_ bytes → OneMore limit line open_ bytes
 more_of limit line open_ bytes (inl e) = one_more limit line open_ bytes (omega (arith, e)) (ends_empty line bytes e) (empty_dash line open_ bytes e)
 more_of limit line open_ bytes (inr cut) = one_more limit line open_ bytes (omega (arith, cut.inside)) (cut_open limit line open_ bytes cut) (cut_dash limit line open_ bytes cut)
 
