@@ -1,0 +1,13 @@
+pub mod Members
+pub mod Rows
+pub mod LaterPeriods
+pub mod Digests
+pub mod Honest
+pub mod Accepted
+pub mod Leading
+pub mod Told
+pub mod Signers
+pub mod Given
+pub mod Keeping
+pub mod Storing
+pub mod Standing

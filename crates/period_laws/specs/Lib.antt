@@ -1,0 +1,5 @@
+pub mod Worlds
+pub mod Periods
+pub mod KeptLaws
+pub mod Chances
+pub mod ShortForms

@@ -1,0 +1,24 @@
+//! Laws of the period of an authority. Nothing that runs stands on them.
+#![tactic(auto)]
+
+mod chances;
+mod kept;
+mod short_forms;
+mod stations;
+mod times;
+mod worlds;
+
+pub use chances::{
+    first_votes_are_kept, greater_votes_replace, majorities_compute, signatures_are_kept,
+};
+pub use kept::{changes_tell, steps_keep_it};
+pub use short_forms::{base_is_last_begin, forms_are_stored};
+pub use stations::{
+    accepted_are_wanted, computed_of_accepted, front_counts, front_of_history, given_is_told,
+    held_are_held, history_goes_on, history_is_one, history_leads, lines_are_accepted,
+    published_is_signed, ranks_are_one, signed_is_published, stations_agree, texts_stand,
+};
+pub use times::next_is_next;
+pub use worlds::{
+    all_honest_agree, equal_digests_equal_texts, published_agree, stations_sign_once,
+};

@@ -1,0 +1,9 @@
+pub mod Schedules
+pub mod States
+pub mod Offers
+pub mod Advances
+pub mod SignIns
+pub mod Readings
+pub mod Steps
+pub mod Histories
+pub mod KeptFacts
