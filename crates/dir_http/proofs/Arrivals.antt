@@ -1,8 +1,8 @@
 -- When a request at the front is settled.
-use Rattle.std.proofs.Common.{◌≡◌, ◌∙◌, ◌⊎◌, inr, ℕ, ◌+◌, ◌-◌, ◌<◌, ◌≤◌, List, [], ◌∷◌, ◌++◌, length, take, drop}
-use Rattle.std.proofs.Common.{refl, ap, sym, subst, Result, Ok, Err, arith, length-append, length-drop}
+use Rattle.std.proofs.Common.{◌≡◌, ◌∙◌, inr, ℕ, ◌+◌, ◌-◌, ◌<◌, ◌≤◌, List, [], ◌∷◌, ◌++◌, length, drop}
+use Rattle.std.proofs.Common.{refl, ap, sym, Result, Ok, Err, arith, length-append, length-drop}
 use Rattle.std.proofs.lemmas.List.{append-nil}
-use Rattle.httparse.specs.Grammar.{RequestHead, HasNoRequest, print_request}
+use Rattle.httparse.specs.Grammar.{RequestHead, HasNoRequest}
 use Rattle.httparse.specs.Spans.{RequestOverflows}
 use Rattle.httparse.proofs.GrammarLemmas.{request_unique, ReadsRequest-append}
 use Rattle.dir_http.specs.declared.fault.HttpFault.{HttpFault}
@@ -12,7 +12,7 @@ use Rattle.dir_http.specs.declared.length.Announcement.{Announcement}
 use Rattle.dir_http.specs.declared.front.Parts.{Parts}
 use Rattle.dir_http.specs.Heads.{head_limit, field_limit, IsOfHead, length_after, body_length, method_of}
 use Rattle.dir_http.specs.Fronts.{ArePartsOf}
-use Rattle.dir_http.specs.Arrivals.{HasRequest, IsRefused, IsSettled, AwaitsBytes}
+use Rattle.dir_http.specs.Arrivals.{IsSettled, AwaitsBytes}
 use Rattle.dir_http.proofs.Reading.{too_long, handed_on, unfinished}
 
 -- no head of so few fields can stand there

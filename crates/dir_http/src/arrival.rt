@@ -23,8 +23,8 @@ fn missing_behind(bytes: &[u8], parts: Parts) -> u64
     }
 }
 
-/// How many bytes of a request are still to come at least. None are where it is settled: whatever follows, the request is
-/// read, or refused.
+/// How many bytes of a request are still to come at least. None are where it is settled: whatever follows, the request
+/// is read, or refused.
 pub fn missing(bytes: &[u8]) -> u64
     ensures settled { result ≡ 0 → IsSettled bytes.now }
     ensures awaits { AwaitsBytes bytes.now result }

@@ -47,7 +47,8 @@ impl MemoryLink {
         ensures failing { self.new.failing ≡ self.old.failing }
         ensures calls { self.new.calls ≡ self.old.calls }
         ensures faults { self.new.faults ≡ self.old.faults }
-        ensures asked { OnOk result (self.new.asked.items ≡ self.old.asked.items ++ exchange_of peer.now request.now limit ∷ []) }
+        ensures asked { OnOk result
+            (self.new.asked.items ≡ self.old.asked.items ++ exchange_of peer.now request.now limit ∷ []) }
     {
         let peer = Text::copy_of(alloc, peer)?;
         let request = Text::copy_of(alloc, request)?;

@@ -1,5 +1,4 @@
-use Rattle.std.proofs.Common.{◌∙◌, ap, sym, subst, arith}
-use Rattle.dir_http.specs.Arrivals.{AwaitsBytes}
+use Rattle.std.proofs.Common.{◌∙◌, arith}
 use Rattle.dir_http.proofs.Arrivals.{head_too_long, head_refused, body_awaited}
 use Rattle.dir_http.proofs.arrival.missing_behind.Goals as goal
 
