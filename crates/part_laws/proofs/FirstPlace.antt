@@ -5,14 +5,14 @@ use Rattle.std.proofs.lemmas.Bool.Decides.{nat_tests}
 use Rattle.std.specs.Prelude.{nat_lt, ◌==◌, ◌&&◌, if◌then◌else◌}
 use Rattle.std.specs.List.{list_all}
 use Rattle.item_terms.specs.declared.fault.DocFault.{DocFault}
-use Rattle.item_terms.specs.declared.fault.DocReason.TheVariants.{Keyword, ObjectBase64, ObjectEnd, ObjectTooLong}
+use Rattle.item_terms.specs.declared.fault.DocReason.TheVariants.{Keyword, ObjectTooLong}
 use Rattle.item_terms.specs.Base64Text.{is_body}
 use Rattle.item_terms.specs.Faults.{at, line_fault, max_object, object_line_fault}
 use Rattle.item_terms.specs.Lines.{Line, lines, onto, size}
 use Rattle.item_terms.specs.Words.{begin_words, first_is, is_blank, is_blank_line, is_end_line, is_keyword_line}
 use Rattle.item_terms.specs.Words.{is_letter_or_digit}
 use Rattle.item_terms.specs.Steps.{Item, Object, Open, Step, begun_object, first_object_line, item_unless, keyword_item}
-use Rattle.item_terms.specs.Steps.{keyword_line, line_item, nothing, object_lines, object_step, open_item, open_unless}
+use Rattle.item_terms.specs.Steps.{keyword_line, nothing, object_lines, object_step, open_item, open_unless}
 use Rattle.item_terms.specs.Steps.{read_line, starts_dash, step, step_unless}
 use Rattle.part_laws.specs.Moved.{Reads, with_whole}
 use Rattle.part_laws.proofs.MovedLines.{after_line, object_made}
@@ -32,18 +32,21 @@ IsAt p None (Err fault) = Unit {0}
 abbrev MadeAt : ℕ → Step → Type 0
 MadeAt p made = IsAt p made.whole made.next
 
-begun_at : (p : ℕ) (f : Option DocFault) (place : ℕ) (item : Item) (line : Line) (words : Option (List ℕ)) → item.place ≡ p
+begun_at : (p : ℕ) (f : Option DocFault) (place : ℕ) (item : Item) (line : Line) (words : Option (List ℕ))
+    → item.place ≡ p
     → IsAt p None (open_unless f (first_object_line place item line words))
 begun_at p (Some f) place item line words is = tt
 begun_at p None place item line None is = tt
 begun_at p None place item line (Some words) is = by (nat_lt max_object (size line))
   where
     by : (t : Bool)
-        → IsAt p None (if t then Err (at place ObjectTooLong) else Ok (object_lines item place (begun_object place line words)))
+        → IsAt p None (if t then Err (at place ObjectTooLong) else Ok
+        (object_lines item place (begun_object place line words)))
     by true = tt
     by false = is
 
-object_at : (p : ℕ) (f : Option DocFault) (place : ℕ) (item : Item) (begin : ℕ) (object : Object) (line : Line) → item.place ≡ p
+object_at : (p : ℕ) (f : Option DocFault) (place : ℕ) (item : Item) (begin : ℕ) (object : Object) (line : Line)
+    → item.place ≡ p
     → MadeAt p (step_unless f (object_step item begin object place line))
 object_at p (Some f) place item begin object line is = tt
 object_at p None place item begin object line is =
@@ -60,7 +63,8 @@ step_at p limit place nothing line is = absurd is
 step_at p limit place (keyword_line item) line is = by (starts_dash line)
   where
     by : (dash : Bool) → MadeAt p
-        (after_line dash (open_unless (line_fault limit place line) (first_object_line place item line (begin_words line.text)))
+        (after_line dash (open_unless (line_fault limit place line)
+        (first_object_line place item line (begin_words line.text)))
         item (open_item (read_line limit place line)))
     by true = begun_at p (line_fault limit place line) place item line (begin_words line.text) is
     by false = is
@@ -89,14 +93,16 @@ open_at p limit place open_ (line ∷ rest) items at_ (whole, next, others, made
 
 first_line : (limit place : ℕ) (line : Line) (next : Open) → is_blank_line line.text ≡ false
     → open_item (read_line limit place line) ≡ Ok next → BeginsAt place next
-first_line limit place line next dark is = by (line_fault limit place line) (is_blank_line line.text) (is_keyword_line line.text) dark is
+first_line limit place line next dark is =
+    by (line_fault limit place line) (is_blank_line line.text) (is_keyword_line line.text) dark is
   where
     open_or : Result Open DocFault → Open
     open_or (Ok open_) = open_
     open_or (Err f) = nothing
 
     by : (f : Option DocFault) (blank key : Bool) → blank ≡ false
-        → open_item (item_unless f (if blank then Ok None else if key then Ok (Some (keyword_item place line)) else Err (at place Keyword)))
+        → open_item (item_unless f (if blank then Ok None else if key then Ok (Some (keyword_item place line)) else Err
+        (at place Keyword)))
         ≡ Ok next → BeginsAt place next
     by (Some f) blank key dark is = absurd (cc is)
     by None true key dark is = absurd (cc dark)
@@ -115,7 +121,8 @@ not_blank : (text : List ℕ) → first_is is_letter_or_digit text ≡ true → 
 not_blank [] e line rest is = absurd (cc e)
 not_blank (b ∷ text) e line rest is =
     by_lines (lines text)
-    (sym (ap (λ (t : Bool). if t then record { text = []; ended = true } ∷ lines text else onto b (lines text)) (letter_no_end b e)) ∙ is)
+    (sym (ap (λ (t : Bool). if t then record { text = []; ended = true } ∷ lines text else onto b (lines text))
+    (letter_no_end b e)) ∙ is)
   where
     line_or : List Line → Line
     line_or [] = line
@@ -129,7 +136,8 @@ not_blank (b ∷ text) e line rest is =
     by_lines (l ∷ ls) is = subst (λ (l : Line). is_blank_line l.text ≡ false) (ap line_or is) (begins_so l.text)
 
 -- Where a text begins with a letter or digit, and its lines have no fault, its first item begins with it.
-pub first_at : (limit place : ℕ) (text : List ℕ) (item : Item) (items : List Item) → first_is is_letter_or_digit text ≡ true
+pub first_at : (limit place : ℕ) (text : List ℕ) (item : Item) (items : List Item)
+    → first_is is_letter_or_digit text ≡ true
     → Reads limit place nothing (lines text) (item ∷ items) nothing → item.place ≡ place
 first_at limit place text item items first is = by (lines text) (not_blank text first) is
   where
@@ -140,5 +148,6 @@ first_at limit place text item items first is = by (lines text) (not_blank text 
         let w : None ≡ whole = ap (λ (s : Step). s.whole) made in
         let n : open_item (read_line limit place line) ≡ Ok next = ap (λ (s : Step). s.next) made in
         let all : FirstAt place others =
-        open_at place limit (place + size line) next rest others (first_line limit place line next (dark line rest refl) n) more in
+        open_at place limit (place + size line) next rest others
+            (first_line limit place line next (dark line rest refl) n) more in
         subst (FirstAt place) (sym (come ∙ ap (λ (o : Option Item). with_whole o others) (sym w))) all

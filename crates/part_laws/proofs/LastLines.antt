@@ -1,20 +1,19 @@
 -- The lines up to the end of an item that has an object; and such an item that ends where the text ends is the last.
-use Rattle.std.proofs.Common.{◌≡◌, ℕ, zero, suc, ◌+◌, ◌≤◌, ◌<◌, Bool, true, false, List, [], ◌∷◌, ◌++◌, length, Option}
+use Rattle.std.proofs.Common.{◌≡◌, ℕ, ◌+◌, ◌≤◌, Bool, true, false, List, [], ◌∷◌, ◌++◌, Option}
 use Rattle.std.proofs.Common.{Some, None, Result, Ok, Err, refl, sym, ap, subst, ◌∙◌, arith, append-nil}
-use Rattle.std.specs.Prelude.{if◌then◌else◌, nat_lt, is_some, ◌==◌, map}
+use Rattle.std.specs.Prelude.{if◌then◌else◌, nat_lt, is_some}
 use Rattle.item_terms.specs.declared.fault.DocFault.{DocFault}
-use Rattle.item_terms.specs.declared.fault.DocReason.TheVariants.{Keyword, ObjectBase64, ObjectEnd, ObjectTooLong}
+use Rattle.item_terms.specs.declared.fault.DocReason.TheVariants.{Keyword, ObjectTooLong}
 use Rattle.item_terms.specs.Base64Text.{is_body}
-use Rattle.item_terms.specs.Faults.{at, line_fault, max_object, object_line_fault, or_else, too_long, unterminated}
-use Rattle.item_terms.specs.Faults.{nul_fault}
-use Rattle.item_terms.specs.Words.{begin_words, is_blank_line, is_end_line, is_keyword_line, nul_in}
-use Rattle.item_terms.specs.Items.{Contents, also, at_end, contents_of, failed, proceed}
-use Rattle.item_terms.specs.Lines.{Line, lines, onto, size}
+use Rattle.item_terms.specs.Faults.{at, line_fault, max_object, object_line_fault}
+use Rattle.item_terms.specs.Words.{begin_words, is_blank_line, is_end_line, is_keyword_line}
+use Rattle.item_terms.specs.Items.{Contents, also, at_end, contents_of, proceed}
+use Rattle.item_terms.specs.Lines.{Line, size}
 use Rattle.item_terms.specs.Steps.{Item, Object, Open, Step, begun_object, first_object_line, item_unless, keyword_item}
-use Rattle.item_terms.specs.Steps.{keyword_line, line_item, nothing, object_lines, object_step, open_item, open_unless}
-use Rattle.item_terms.specs.Steps.{read_line, starts_dash, step, step_unless, with_line, with_object}
+use Rattle.item_terms.specs.Steps.{keyword_line, nothing, object_lines, object_step, open_item, open_unless}
+use Rattle.item_terms.specs.Steps.{read_line, starts_dash, step, step_unless}
 use Rattle.part_laws.specs.Moved.{Reads, sizes, with_whole}
-use Rattle.part_laws.proofs.LinesTogether.{AllEnded}
+use Rattle.part_laws.proofs.MovedLines.{after_line, object_made}
 
 -- an item that is open after its line has no object
 abbrev pub IsPlain : Open → Type 0
@@ -30,41 +29,37 @@ plain_read : (limit place : ℕ) (line : Line) → IsPlainNext (open_item (read_
 plain_read limit place line = by (line_fault limit place line) (is_blank_line line.text) (is_keyword_line line.text)
   where
     by : (f : Option DocFault) (blank key : Bool)
-        → IsPlainNext (open_item (item_unless f (if blank then Ok None else if key then Ok (Some (keyword_item place line)) else Err (at place Keyword))))
+        → IsPlainNext (open_item (item_unless f
+        (if blank then Ok None else if key then Ok (Some (keyword_item place line)) else Err (at place Keyword))))
     by (Some f) blank key = tt
     by None true key = tt
     by None false true = refl
     by None false false = tt
 
 plain_begun : (limit place : ℕ) (item : Item) (line : Line)
-    → IsPlainNext (open_unless (line_fault limit place line) (first_object_line place item line (begin_words line.text)))
-plain_begun limit place item line = by (line_fault limit place line) (begin_words line.text) (nat_lt max_object (size line))
+    → IsPlainNext (open_unless (line_fault limit place line)
+    (first_object_line place item line (begin_words line.text)))
+plain_begun limit place item line =
+    by (line_fault limit place line) (begin_words line.text) (nat_lt max_object (size line))
   where
     by_size : (t : Bool) (words : List ℕ)
-        → IsPlainNext (if t then Err (at place ObjectTooLong) else Ok (object_lines item place (begun_object place line words)))
+        → IsPlainNext (if t then Err (at place ObjectTooLong) else Ok
+        (object_lines item place (begun_object place line words)))
     by_size true words = tt
     by_size false words = tt
 
-    by : (f : Option DocFault) (words : Option (List ℕ)) (t : Bool) → IsPlainNext (open_unless f (first_object_line place item line words))
+    by : (f : Option DocFault) (words : Option (List ℕ)) (t : Bool)
+        → IsPlainNext (open_unless f (first_object_line place item line words))
     by (Some f) words t = tt
     by None None t = tt
     by None (Some words) t = by_size (nat_lt max_object (size line)) words
 
--- What a line makes: nothing open may have an object, and an item that it makes whole and that has an object ends with it, so that
--- nothing is open.
+-- What a line makes: nothing open may have an object, and an item that it makes whole and that has an object ends with
+-- it, so that nothing is open.
 record IsStep (place : ℕ) (line : Line) (made : Step) : Type 0 where
   plain : IsPlainNext made.next
   ends : (item : Item) → made.whole ≡ Some item → is_some item.object ≡ true
       → (made.next ≡ Ok nothing) × (item.after ≡ place + size line)
-
-abbrev object_made : Line → ℕ → Item → ℕ → Object → Bool → Bool → Bool → Step
-object_made line at_ item_ begin_ object_ dash end_ body =
-    if dash then
-    (if end_ then
-    (if body then record { whole = Some (with_object item_ object_ (at_ + size line)); next = Ok nothing }
-    else record { whole = None; next = Err (at begin_ ObjectBase64) })
-    else record { whole = None; next = Err (at at_ ObjectEnd) })
-    else record { whole = None; next = Ok (object_lines item_ begin_ (with_line object_ line.text)) }
 
 object_is : (place : ℕ) (line : Line) (item : Item) (begin : ℕ) (object : Object) (dash end_ body : Bool)
     → IsStep place line (object_made line place item begin object dash end_ body)
@@ -86,11 +81,8 @@ faulty_is place line item begin object None =
     object_is place line item begin object (starts_dash line) (is_end_line object.words line.text) (is_body object.text)
 faulty_is place line item begin object (Some f) = record { plain = tt; ends = λ other is some. absurd (cc is) }
 
-abbrev after_line : Bool → Result Open DocFault → Item → Result Open DocFault → Step
-after_line dash begun item next =
-    if dash then record { whole = None; next = begun } else record { whole = Some item; next = next }
-
-step_is : (limit place : ℕ) (open_ : Open) (line : Line) → IsPlain open_ → IsStep place line (step limit place open_ line)
+step_is : (limit place : ℕ) (open_ : Open) (line : Line) → IsPlain open_
+    → IsStep place line (step limit place open_ line)
 step_is limit place nothing line plain = record {
   plain = plain_read limit place line;
   ends = λ other is some. absurd (cc is);
@@ -108,7 +100,8 @@ step_is limit place (keyword_line item) line plain = by (starts_dash line)
         some_if (Some one) = is_some one.object
 
     by : (dash : Bool) → IsStep place line
-        (after_line dash (open_unless (line_fault limit place line) (first_object_line place item line (begin_words line.text))) item (open_item (read_line limit place line)))
+        (after_line dash (open_unless (line_fault limit place line)
+        (first_object_line place item line (begin_words line.text))) item (open_item (read_line limit place line)))
     by true = record { plain = plain_begun limit place item line; ends = λ other is some. absurd (cc is) }
     by false = record { plain = plain_read limit place line; ends = λ other is some. absurd (none_there other is some) }
 step_is limit place (object_lines item begin object) line plain =
@@ -160,8 +153,10 @@ at_end_is place (keyword_line one) plain (f ∷ front) item back is some =
     not_empty front item back (ap items_behind is)
 at_end_is place (object_lines one begin object) plain front item back is some = not_empty front item back is
 
--- The lines up to the end of an item that has an object: they have no fault, make the items up to it, and nothing is open behind them.
-pub record IsCut (limit place : ℕ) (open_ : Open) (ls : List Line) (front : List Item) (item : Item) (back : List Item) : Type 0 where
+-- The lines up to the end of an item that has an object: they have no fault, make the items up to it, and nothing is
+-- open behind them.
+pub record IsCut (limit place : ℕ) (open_ : Open) (ls : List Line) (front : List Item) (item : Item)
+    (back : List Item) : Type 0 where
   pub first : List Line
   pub more : List Line
   pub parts : ls ≡ first ++ more
@@ -175,7 +170,8 @@ pub cut_lines : (limit place : ℕ) (open_ : Open) (ls : List Line) → IsPlain 
     → (contents_of limit place open_ ls).items ≡ front ++ item ∷ back → is_some item.object ≡ true
     → IsCut limit place open_ ls front item back
 unfolding contents_of
-cut_lines limit place open_ [] plain front item back is some = absurd (at_end_is place open_ plain front item back is some)
+cut_lines limit place open_ [] plain front item back is some =
+    absurd (at_end_is place open_ plain front item back is some)
 cut_lines limit place open_ (line ∷ rest) plain front item back is some =
     by (λ next plain front is. cut_lines limit (place + size line) next rest plain front item back is some)
     made.whole made.next refl refl front is
@@ -192,7 +188,8 @@ cut_lines limit place open_ (line ∷ rest) plain front item back is some =
     -- one line more in front
     longer : (w : Option Item) (next : Open) (front others : List Item) → made.whole ≡ w → made.next ≡ Ok next
         → front ++ item ∷ [] ≡ with_whole w (others ++ item ∷ [])
-        → IsCut limit (place + size line) next rest others item back → IsCut limit place open_ (line ∷ rest) front item back
+        → IsCut limit (place + size line) next rest others item back
+        → IsCut limit place open_ (line ∷ rest) front item back
     longer w next front others ew ex come cut =
         let ends : place + size line + sizes cut.first ≡ place + sizes (line ∷ cut.first) = omega arith in
         record {
@@ -231,7 +228,8 @@ cut_lines limit place open_ (line ∷ rest) plain front item back is some =
           first = line ∷ [];
           more = rest;
           parts = refl;
-          reads = (Some item, nothing, [], (λ j. record { whole = (ew ∙ same) j; next = there.0 j }), refl, (refl, refl));
+          reads =
+              (Some item, nothing, [], (λ j. record { whole = (ew ∙ same) j; next = there.0 j }), refl, (refl, refl));
           ends = there.1 ∙ end;
           behind =
               ap (λ (k : ℕ). (contents_of limit k nothing rest).items) (sym end)
@@ -253,9 +251,12 @@ unfolding contents_of
 last_lines limit place ls sizes_ front item back is ends some =
     let cut = cut_lines limit place nothing ls tt front item back is some in
     let size : place + sizes cut.first ≡ place + (sizes cut.first + sizes cut.more) =
-    sym cut.ends ∙ ends ∙ ap (λ (l : List Line). place + sizes l) cut.parts ∙ ap (λ (n : ℕ). place + n) (sizes_both cut.first cut.more) in
-    let nothing_left = no_more cut.more (some_behind cut.first cut.more (subst AllSome cut.parts sizes_)) (omega (arith, size)) in
-    let whole : ls ≡ cut.first = cut.parts ∙ ap (λ (l : List Line). cut.first ++ l) nothing_left ∙ append-nil cut.first in
+    sym cut.ends ∙ ends ∙ ap (λ (l : List Line). place + sizes l) cut.parts
+    ∙ ap (λ (n : ℕ). place + n) (sizes_both cut.first cut.more) in
+    let nothing_left =
+    no_more cut.more (some_behind cut.first cut.more (subst AllSome cut.parts sizes_)) (omega (arith, size)) in
+    let whole : ls ≡ cut.first =
+    cut.parts ∙ ap (λ (l : List Line). cut.first ++ l) nothing_left ∙ append-nil cut.first in
     record {
       reads = subst (λ (l : List Line). Reads limit place nothing l (front ++ item ∷ []) nothing) (sym whole) cut.reads;
       none =

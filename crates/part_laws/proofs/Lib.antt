@@ -1,3 +1,4 @@
+pub mod MovedFaults
 pub mod MovedLines
 pub mod LinesTogether
 pub mod SoundLines
@@ -5,4 +6,5 @@ pub mod LastLines
 pub mod WithinLines
 pub mod OwnLines
 pub mod FirstPlace
+pub mod Endings
 pub mod OwnPart

@@ -1,14 +1,12 @@
 -- The items of a text put together from texts are the items one behind the other.
-use Rattle.std.proofs.Common.{◌≡◌, ℕ, zero, suc, ◌+◌, ◌-◌, ◌≤◌, ◌<◌, Bool, true, false, List, [], ◌∷◌, ◌++◌, length}
-use Rattle.std.proofs.Common.{Option, Some, None, Result, Ok, Err, refl, sym, ap, subst, ◌∙◌, arith, append_assoc}
-use Rattle.std.specs.Prelude.{map, option_map, ◌==◌, ◌&&◌, if◌then◌else◌, is_some, All}
-use Rattle.item_terms.specs.declared.fault.DocFault.{DocFault}
-use Rattle.item_terms.specs.Faults.{at}
-use Rattle.item_terms.specs.Items.{Contents, also, at_end, contents, contents_of, failed, proceed}
+use Rattle.std.proofs.Common.{◌≡◌, ℕ, suc, ◌+◌, ◌≤◌, Bool, true, false, List, [], ◌∷◌, ◌++◌, length}
+use Rattle.std.proofs.Common.{Option, Some, None, refl, sym, ap, subst, ◌∙◌, arith}
+use Rattle.std.specs.Prelude.{map, ◌==◌, if◌then◌else◌}
+use Rattle.item_terms.specs.Items.{Contents, also, contents, contents_of, proceed}
 use Rattle.item_terms.specs.Lines.{Line, lines, onto, size}
-use Rattle.item_terms.specs.Steps.{Item, Object, Open, Step, keyword_line, nothing, object_lines, step}
+use Rattle.item_terms.specs.Steps.{Item, Open, Step, nothing}
 use Rattle.dirdoc_grammar.specs.Writing.{in_front}
-use Rattle.part_laws.specs.Moved.{Reads, moved, moved_open, sizes, with_whole}
+use Rattle.part_laws.specs.Moved.{Reads, moved, sizes, with_whole}
 use Rattle.part_laws.proofs.MovedLines.{reads_moved}
 
 -- lines that have no fault, and then others
@@ -58,7 +56,8 @@ pub lines_both : (text more : List ℕ) → AllEnded (lines text) → lines (tex
 lines_both [] more all = refl
 lines_both (b ∷ text) more all = by (λ ended. lines_both text more ended) (b == 10) all
   where
-    by : (AllEnded (lines text) → lines (text ++ more) ≡ lines text ++ lines more) → (nl : Bool) → AllEnded (if nl then record { text = []; ended = true } ∷ lines text else onto b (lines text))
+    by : (AllEnded (lines text) → lines (text ++ more) ≡ lines text ++ lines more) → (nl : Bool)
+        → AllEnded (if nl then record { text = []; ended = true } ∷ lines text else onto b (lines text))
         → (if nl then record { text = []; ended = true } ∷ lines (text ++ more) else onto b (lines (text ++ more)))
         ≡ (if nl then record { text = []; ended = true } ∷ lines text else onto b (lines text)) ++ lines more
     by again true all =
@@ -77,15 +76,19 @@ sizes_all (b ∷ text) = by (sizes_all text) (b == 10)
     grown [] = refl
     grown (line ∷ ls) = omega arith
 
-    by : sizes (lines text) ≡ length text → (nl : Bool) → sizes (if nl then record { text = []; ended = true } ∷ lines text else onto b (lines text)) ≡ suc (length text)
+    by : sizes (lines text) ≡ length text → (nl : Bool)
+        → sizes (if nl then record { text = []; ended = true } ∷ lines text else onto b (lines text))
+        ≡ suc (length text)
     by more true = omega (arith, more)
     by more false = grown (lines text) ∙ ap suc more
 
--- The items of a text that is put together from a text without a fault, after which nothing is open, and another, are those of the
--- first and then those of the other; so many bytes further on, under any limit that the first does not pass there.
+-- The items of a text that is put together from a text without a fault, after which nothing is open, and another, are
+-- those of the first and then those of the other; so many bytes further on, under any limit that the first does not
+-- pass there.
 pub together : (limit limit' n : ℕ) (text more : List ℕ) (items : List Item) → AllEnded (lines text)
     → Reads limit 0 nothing (lines text) items nothing → n + length text ≤ limit'
-    → contents limit' n nothing (text ++ more) ≡ in_front (map (moved n) items) (contents limit' (n + length text) nothing more)
+    → contents limit' n nothing (text ++ more)
+    ≡ in_front (map (moved n) items) (contents limit' (n + length text) nothing more)
 together limit limit' n text more items ended is fits =
     let long = sizes_all text in
     let from_zero : 0 + n ≡ n = omega arith in

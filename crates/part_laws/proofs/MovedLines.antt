@@ -1,105 +1,19 @@
 -- Lines without a fault make the same items further on, under any limit that they do not pass.
-use Rattle.std.proofs.Common.{◌≡◌, ℕ, ◌+◌, ◌-◌, ◌≤◌, min, Bool, true, false, List, [], ◌∷◌, ◌++◌, Option, Some, None}
+use Rattle.std.proofs.Common.{◌≡◌, ℕ, ◌+◌, ◌≤◌, Bool, true, false, List, [], ◌∷◌, Option, Some, None}
 use Rattle.std.proofs.Common.{Result, Ok, Err, refl, sym, ap, subst, ◌∙◌, arith}
-use Rattle.std.specs.Prelude.{nat_le, nat_lt, map, option_map, ◌&&◌, length, if◌then◌else◌}
-use Rattle.std.proofs.lemmas.Bool.{leb-true, le-leb, le-ltb, ltb-false, lt-ltb, ltb-true}
+use Rattle.std.specs.Prelude.{nat_lt, map, option_map, if◌then◌else◌}
 use Rattle.item_terms.specs.declared.fault.DocFault.{DocFault}
 use Rattle.item_terms.specs.declared.fault.DocReason.TheVariants.{Keyword, ObjectBase64, ObjectEnd, ObjectTooLong}
-use Rattle.item_terms.specs.declared.fault.DocReason.TheVariants.{ObjectWords, DocumentTooLong, LineTooLong}
-use Rattle.item_terms.specs.declared.fault.DocReason.TheVariants.{Unterminated}
 use Rattle.item_terms.specs.Base64Text.{is_body}
-use Rattle.item_terms.specs.Faults.{at, line_fault, max_line, max_object, nul_fault, object_line_fault, or_else}
-use Rattle.item_terms.specs.Faults.{too_long, unterminated}
+use Rattle.item_terms.specs.Faults.{at, line_fault, max_object, object_line_fault}
 use Rattle.item_terms.specs.Lines.{Line, size}
 use Rattle.item_terms.specs.Words.{argument_start, arguments, begin_words, is_blank_line, is_end_line, is_keyword_line}
-use Rattle.item_terms.specs.Words.{keyword, nul_in, separator}
+use Rattle.item_terms.specs.Words.{keyword, separator}
 use Rattle.item_terms.specs.Steps.{Item, Object, Open, Step, begun_object, first_object_line, item_unless, keyword_item}
 use Rattle.item_terms.specs.Steps.{keyword_line, line_item, nothing, object_lines, object_step, open_item, open_unless}
 use Rattle.item_terms.specs.Steps.{read_line, starts_dash, step, step_unless, with_line, with_object}
 use Rattle.part_laws.specs.Moved.{Reads, moved, moved_object, moved_open, sizes, with_whole}
-
--- ---- faults
-
-pub none_of : (a b : Option DocFault) → or_else a b ≡ None → (a ≡ None) × (b ≡ None)
-none_of None b e = (refl, e)
-none_of (Some f) b e = absurd (cc e)
-
-pub short : (limit place size_ : ℕ) → too_long limit place size_ ≡ None → size_ ≤ min (limit - place) max_line
-short limit place size_ is = by (nat_le size_ (min (limit - place) max_line)) refl is
-  where
-    by : (t : Bool) → nat_le size_ (min (limit - place) max_line) ≡ t
-        → (if t then None else Some (if nat_le (limit - place) max_line then at limit DocumentTooLong else at (place + max_line) LineTooLong)) ≡ None
-        → size_ ≤ min (limit - place) max_line
-    by true e is = leb-true size_ (min (limit - place) max_line) e
-    by false e is = absurd (cc is)
-
-not_long : (limit place size_ : ℕ) → size_ ≤ min (limit - place) max_line → too_long limit place size_ ≡ None
-not_long limit place size_ fits =
-    ap (λ (t : Bool). if t then None else Some (if nat_le (limit - place) max_line then at limit DocumentTooLong else at (place + max_line) LineTooLong))
-    (le-leb size_ (min (limit - place) max_line) fits)
-
-ended_too : (place other : ℕ) (line : Line) → unterminated place line ≡ None → unterminated other line ≡ None
-ended_too place other line is = by line.ended is
-  where
-    by : (t : Bool) → (if t then None else Some (at (place + length line.text) Unterminated)) ≡ None
-        → (if t then None else Some (at (other + length line.text) Unterminated)) ≡ None
-    by true is = refl
-    by false is = absurd (cc is)
-
-no_nul_too : (place other : ℕ) (found : Option ℕ) → nul_fault place found ≡ None → nul_fault other found ≡ None
-no_nul_too place other None is = refl
-no_nul_too place other (Some i) is = absurd (cc is)
-
-sound_moved : (limit limit' place n : ℕ) (line : Line) → line_fault limit place line ≡ None
-    → place + n + size line ≤ limit' → line_fault limit' (place + n) line ≡ None
-sound_moved limit limit' place n line is fits =
-    let long = too_long limit place (size line) in
-    let others = or_else (unterminated place line) (nul_fault place (nul_in line.text)) in
-    let p = none_of long others is in
-    let q = none_of (unterminated place line) (nul_fault place (nul_in line.text)) p.1 in
-    let s = short limit place (size line) p.0 in
-    let m : size line ≤ min (limit' - (place + n)) 1048576 = omega (arith, s, fits) in
-    ap (λ (f : Option DocFault). or_else f (or_else (unterminated (place + n) line) (nul_fault (place + n) (nul_in line.text))))
-    (not_long limit' (place + n) (size line) m)
-    ∙ ap (λ (f : Option DocFault). or_else f (nul_fault (place + n) (nul_in line.text))) (ended_too place (place + n) line q.0)
-    ∙ no_nul_too place (place + n) (nul_in line.text) q.1
-
--- the same inside an object
-object_sound_moved : (limit limit' begin place n : ℕ) (line : Line) → object_line_fault limit begin place line ≡ None
-    → place + n + size line ≤ limit' → object_line_fault limit' (begin + n) (place + n) line ≡ None
-object_sound_moved limit limit' begin place n line is fits =
-    let room = max_object - (place - begin) in
-    by (nat_lt room (min (limit - place) max_line)) (nat_lt room (size line)) refl refl is
-  where
-    never : (t : Bool) → (if t && false then Some (at (begin + n) ObjectTooLong) else line_fault limit' (place + n) line)
-        ≡ line_fault limit' (place + n) line
-    never true = refl
-    never false = refl
-
-    small : nat_lt (max_object - (place - begin)) (size line) ≡ false → line_fault limit place line ≡ None
-        → object_line_fault limit' (begin + n) (place + n) line ≡ None
-    small eb is =
-        let same : max_object - (place + n - (begin + n)) ≡ max_object - (place - begin) = omega arith in
-        let big : nat_lt (max_object - (place + n - (begin + n))) (size line) ≡ false =
-        ap (λ (k : ℕ). nat_lt k (size line)) same ∙ eb in
-        ap (λ (t : Bool). if nat_lt (max_object - (place + n - (begin + n))) (min (limit' - (place + n)) max_line) && t
-        then Some (at (begin + n) ObjectTooLong) else line_fault limit' (place + n) line) big
-        ∙ never (nat_lt (max_object - (place + n - (begin + n))) (min (limit' - (place + n)) max_line))
-        ∙ sound_moved limit limit' place n line is fits
-
-    by : (a b : Bool) → nat_lt (max_object - (place - begin)) (min (limit - place) max_line) ≡ a
-        → nat_lt (max_object - (place - begin)) (size line) ≡ b
-        → (if a && b then Some (at begin ObjectTooLong) else line_fault limit place line) ≡ None
-        → object_line_fault limit' (begin + n) (place + n) line ≡ None
-    by true true ea eb is = absurd (cc is)
-    by true false ea eb is = small eb is
-    by false true ea eb is =
-        let p = none_of (too_long limit place (size line)) (or_else (unterminated place line) (nul_fault place (nul_in line.text))) is in
-        let s = short limit place (size line) p.0 in
-        let over = ltb-true (max_object - (place - begin)) (size line) eb in
-        let under = ltb-false (max_object - (place - begin)) (min (limit - place) max_line) ea in
-        absurd (omega (arith, s, over, under))
-    by false false ea eb is = small eb is
+use Rattle.part_laws.proofs.MovedFaults.{object_sound_moved, sound_moved}
 
 -- ---- a line between items
 
@@ -130,8 +44,10 @@ item_moved : (place n : ℕ) (line : Line) (next : Open) → open_item (line_ite
 item_moved place n line next is = by (is_blank_line line.text) (is_keyword_line line.text) is
   where
     by : (blank key : Bool)
-        → open_item (if blank then Ok None else if key then Ok (Some (keyword_item place line)) else Err (at place Keyword)) ≡ Ok next
-        → open_item (if blank then Ok None else if key then Ok (Some (keyword_item (place + n) line)) else Err (at (place + n) Keyword))
+        → open_item (if blank then Ok None else if key then Ok (Some (keyword_item place line)) else Err
+        (at place Keyword)) ≡ Ok next
+        → open_item (if blank then Ok None else if key then Ok (Some (keyword_item (place + n) line)) else Err
+        (at (place + n) Keyword))
         ≡ Ok (moved_open n next)
     by true key is = ap (moved_next n) is
     by false true is =
@@ -142,11 +58,13 @@ read_moved : (limit limit' place n : ℕ) (line : Line) (next : Open) → open_i
     → place + n + size line ≤ limit' → open_item (read_line limit' (place + n) line) ≡ Ok (moved_open n next)
 read_moved limit limit' place n line next is fits = by (line_fault limit place line) refl is
   where
-    by : (f : Option DocFault) → line_fault limit place line ≡ f → open_item (item_unless f (line_item place line)) ≡ Ok next
+    by : (f : Option DocFault) → line_fault limit place line ≡ f
+        → open_item (item_unless f (line_item place line)) ≡ Ok next
         → open_item (read_line limit' (place + n) line) ≡ Ok (moved_open n next)
     by (Some f) e is = absurd (cc is)
     by None e is =
-        ap (λ (f : Option DocFault). open_item (item_unless f (line_item (place + n) line))) (sound_moved limit limit' place n line e fits)
+        ap (λ (f : Option DocFault). open_item (item_unless f (line_item (place + n) line)))
+        (sound_moved limit limit' place n line e fits)
         ∙ item_moved place n line next is
 
 -- ---- objects
@@ -154,18 +72,22 @@ read_moved limit limit' place n line next is fits = by (line_fault limit place l
 begun_moved : (limit limit' place n : ℕ) (item : Item) (line : Line) (next : Open)
     → open_unless (line_fault limit place line) (first_object_line place item line (begin_words line.text)) ≡ Ok next
     → place + n + size line ≤ limit'
-    → open_unless (line_fault limit' (place + n) line) (first_object_line (place + n) (moved n item) line (begin_words line.text))
+    → open_unless (line_fault limit' (place + n) line)
+    (first_object_line (place + n) (moved n item) line (begin_words line.text))
     ≡ Ok (moved_open n next)
 begun_moved limit limit' place n item line next is fits = by (line_fault limit place line) refl is
   where
-    object_moved : (words : List ℕ) → begun_object (place + n) line words ≡ moved_object n (begun_object place line words)
+    object_moved : (words : List ℕ)
+        → begun_object (place + n) line words ≡ moved_object n (begun_object place line words)
     object_moved words =
         let end : place + n + size line ≡ place + size line + n = omega arith in
         λ i. record { words = words; start = end i; text = [] }
 
     by_size : (t : Bool) (words : List ℕ)
-        → (if t then Err (at place ObjectTooLong) else Ok (object_lines item place (begun_object place line words))) ≡ Ok next
-        → (if t then Err (at (place + n) ObjectTooLong) else Ok (object_lines (moved n item) (place + n) (begun_object (place + n) line words)))
+        → (if t then Err (at place ObjectTooLong) else Ok (object_lines item place (begun_object place line words)))
+        ≡ Ok next
+        → (if t then Err (at (place + n) ObjectTooLong) else Ok
+        (object_lines (moved n item) (place + n) (begun_object (place + n) line words)))
         ≡ Ok (moved_open n next)
     by_size true words is = absurd (cc is)
     by_size false words is =
@@ -178,11 +100,13 @@ begun_moved limit limit' place n item line next is fits = by (line_fault limit p
 
     by : (f : Option DocFault) → line_fault limit place line ≡ f
         → open_unless f (first_object_line place item line (begin_words line.text)) ≡ Ok next
-        → open_unless (line_fault limit' (place + n) line) (first_object_line (place + n) (moved n item) line (begin_words line.text))
+        → open_unless (line_fault limit' (place + n) line)
+        (first_object_line (place + n) (moved n item) line (begin_words line.text))
         ≡ Ok (moved_open n next)
     by (Some f) e is = absurd (cc is)
     by None e is =
-        ap (λ (f : Option DocFault). open_unless f (first_object_line (place + n) (moved n item) line (begin_words line.text)))
+        ap (λ (f : Option DocFault). open_unless f
+        (first_object_line (place + n) (moved n item) line (begin_words line.text)))
         (sound_moved limit limit' place n line e fits)
         ∙ by_words (begin_words line.text) is
 
@@ -201,14 +125,16 @@ object_made line at_ item_ begin_ object_ dash end_ body =
     else record { whole = None; next = Err (at at_ ObjectEnd) })
     else record { whole = None; next = Ok (object_lines item_ begin_ (with_line object_ line.text)) }
 
-object_step_moved : (place n : ℕ) (item : Item) (begin : ℕ) (object : Object) (line : Line) (whole : Option Item) (next : Open)
+object_step_moved : (place n : ℕ) (item : Item) (begin : ℕ) (object : Object) (line : Line) (whole : Option Item)
+    (next : Open)
     → object_step item begin object place line ≡ record { whole = whole; next = Ok next }
     → object_step (moved n item) (begin + n) (moved_object n object) (place + n) line
     ≡ record { whole = option_map (moved n) whole; next = Ok (moved_open n next) }
 object_step_moved place n item begin object line whole next is =
     by (starts_dash line) (is_end_line object.words line.text) (is_body object.text) is
   where
-    whole_moved : with_object (moved n item) (moved_object n object) (place + n + size line) ≡ moved n (with_object item object (place + size line))
+    whole_moved : with_object (moved n item) (moved_object n object) (place + n + size line)
+        ≡ moved n (with_object item object (place + size line))
     whole_moved =
         let end : place + n + size line ≡ place + size line + n = omega arith in
         λ i. record {
@@ -222,16 +148,22 @@ object_step_moved place n item begin object line whole next is =
           after = end i;
         }
 
-    by : (dash end_ body : Bool) → object_made line place item begin object dash end_ body ≡ record { whole = whole; next = Ok next }
+    by : (dash end_ body : Bool) → object_made line place item begin object dash end_ body
+        ≡ record { whole = whole; next = Ok next }
         → object_made line (place + n) (moved n item) (begin + n) (moved_object n object) dash end_ body
         ≡ record { whole = option_map (moved n) whole; next = Ok (moved_open n next) }
     by true true true is =
         ap (λ (i : Item). record { whole = Some i; next = Ok nothing }) whole_moved ∙ ap (moved_step n) is
-    by true true false is = absurd (not_faulty (at begin ObjectBase64) next (object_made line place item begin object true true false) whole refl is)
-    by true false body is = absurd (not_faulty (at place ObjectEnd) next (object_made line place item begin object true false body) whole refl is)
+    by true true false is =
+        absurd (not_faulty (at begin ObjectBase64) next
+            (object_made line place item begin object true true false) whole refl is)
+    by true false body is =
+        absurd (not_faulty (at place ObjectEnd) next
+            (object_made line place item begin object true false body) whole refl is)
     by false end_ body is = ap (moved_step n) is
 
-object_moved : (limit limit' place n : ℕ) (item : Item) (begin : ℕ) (object : Object) (line : Line) (whole : Option Item) (next : Open)
+object_moved : (limit limit' place n : ℕ) (item : Item) (begin : ℕ) (object : Object) (line : Line)
+    (whole : Option Item) (next : Open)
     → step_unless (object_line_fault limit begin place line) (object_step item begin object place line)
     ≡ record { whole = whole; next = Ok next }
     → place + n + size line ≤ limit'
@@ -246,9 +178,11 @@ object_moved limit limit' place n item begin object line whole next is fits =
         → step_unless (object_line_fault limit' (begin + n) (place + n) line)
         (object_step (moved n item) (begin + n) (moved_object n object) (place + n) line)
         ≡ record { whole = option_map (moved n) whole; next = Ok (moved_open n next) }
-    by (Some f) e is = absurd (not_faulty f next (step_unless (Some f) (object_step item begin object place line)) whole refl is)
+    by (Some f) e is =
+        absurd (not_faulty f next (step_unless (Some f) (object_step item begin object place line)) whole refl is)
     by None e is =
-        ap (λ (f : Option DocFault). step_unless f (object_step (moved n item) (begin + n) (moved_object n object) (place + n) line))
+        ap (λ (f : Option DocFault). step_unless f
+        (object_step (moved n item) (begin + n) (moved_object n object) (place + n) line))
         (object_sound_moved limit limit' begin place n line e fits)
         ∙ object_step_moved place n item begin object line whole next is
 
@@ -261,29 +195,36 @@ after_line dash begun item next =
 
 pub step_moved : (limit limit' place n : ℕ) (open_ : Open) (line : Line) (whole : Option Item) (next : Open)
     → step limit place open_ line ≡ record { whole = whole; next = Ok next } → place + n + size line ≤ limit'
-    → step limit' (place + n) (moved_open n open_) line ≡ record { whole = option_map (moved n) whole; next = Ok (moved_open n next) }
+    → step limit' (place + n) (moved_open n open_) line
+    ≡ record { whole = option_map (moved n) whole; next = Ok (moved_open n next) }
 step_moved limit limit' place n nothing line whole next is fits =
     let w : None ≡ whole = ap (λ (s : Step). s.whole) is in
     let r : open_item (read_line limit place line) ≡ Ok next = ap (λ (s : Step). s.next) is in
-    ap (λ (o : Result Open DocFault). record { whole = None; next = o }) (read_moved limit limit' place n line next r fits)
+    ap (λ (o : Result Open DocFault). record { whole = None; next = o })
+    (read_moved limit limit' place n line next r fits)
     ∙ ap (λ (i : Option Item). record { whole = option_map (moved n) i; next = Ok (moved_open n next) }) w
 step_moved limit limit' place n (keyword_line item) line whole next is fits = by (starts_dash line) is
   where
     by : (dash : Bool)
-        → after_line dash (open_unless (line_fault limit place line) (first_object_line place item line (begin_words line.text))) item (open_item (read_line limit place line))
+        → after_line dash (open_unless (line_fault limit place line)
+        (first_object_line place item line (begin_words line.text))) item (open_item (read_line limit place line))
         ≡ record { whole = whole; next = Ok next }
-        → after_line dash (open_unless (line_fault limit' (place + n) line) (first_object_line (place + n) (moved n item) line (begin_words line.text)))
+        → after_line dash (open_unless (line_fault limit' (place + n) line)
+        (first_object_line (place + n) (moved n item) line (begin_words line.text)))
         (moved n item) (open_item (read_line limit' (place + n) line))
         ≡ record { whole = option_map (moved n) whole; next = Ok (moved_open n next) }
     by true is =
         let w : None ≡ whole = ap (λ (s : Step). s.whole) is in
-        let r : open_unless (line_fault limit place line) (first_object_line place item line (begin_words line.text)) ≡ Ok next = ap (λ (s : Step). s.next) is in
-        ap (λ (o : Result Open DocFault). record { whole = None; next = o }) (begun_moved limit limit' place n item line next r fits)
+        let r : open_unless (line_fault limit place line) (first_object_line place item line (begin_words line.text))
+        ≡ Ok next = ap (λ (s : Step). s.next) is in
+        ap (λ (o : Result Open DocFault). record { whole = None; next = o })
+        (begun_moved limit limit' place n item line next r fits)
         ∙ ap (λ (i : Option Item). record { whole = option_map (moved n) i; next = Ok (moved_open n next) }) w
     by false is =
         let w : Some item ≡ whole = ap (λ (s : Step). s.whole) is in
         let r : open_item (read_line limit place line) ≡ Ok next = ap (λ (s : Step). s.next) is in
-        ap (λ (o : Result Open DocFault). record { whole = Some (moved n item); next = o }) (read_moved limit limit' place n line next r fits)
+        ap (λ (o : Result Open DocFault). record { whole = Some (moved n item); next = o })
+        (read_moved limit limit' place n line next r fits)
         ∙ ap (λ (i : Option Item). record { whole = option_map (moved n) i; next = Ok (moved_open n next) }) w
 step_moved limit limit' place n (object_lines item begin object) line whole next is fits =
     object_moved limit limit' place n item begin object line whole next is fits

@@ -1,13 +1,11 @@
 -- The lines of a text's own part: those that were cut, and what they hold alone.
-use Rattle.std.proofs.Common.{◌≡◌, ℕ, zero, suc, ◌+◌, Bool, true, false, List, [], ◌∷◌, ◌++◌, take, None, refl, sym, ap}
-use Rattle.std.proofs.Common.{subst, ◌∙◌, arith, append-nil}
+use Rattle.std.proofs.Common.{◌≡◌, ℕ, suc, ◌+◌, Bool, true, false, List, [], ◌∷◌, ◌++◌, take, None, refl, sym, ap}
+use Rattle.std.proofs.Common.{◌∙◌, arith, append-nil}
 use Rattle.std.specs.Prelude.{◌==◌, if◌then◌else◌}
-use Rattle.item_terms.specs.Items.{Contents, Item, Open, at_end, contents, contents_of, nothing}
+use Rattle.item_terms.specs.Items.{Item, contents_of, nothing}
 use Rattle.item_terms.specs.Lines.{Line, lines, onto, size}
-use Rattle.dirdoc_grammar.specs.Writing.{in_front}
 use Rattle.part_laws.specs.Moved.{Reads, sizes}
 use Rattle.part_laws.proofs.LinesTogether.{AllEnded, both_read}
-use Rattle.part_laws.proofs.SoundLines.{ends_all}
 
 abbrev line_or : Line → List Line → Line
 line_or other [] = other
@@ -41,7 +39,8 @@ lines_cut (b ∷ text) (line ∷ first) more all is =
         let count : sizes (line ∷ first) ≡ suc (sizes (l ∷ first)) =
         ap (λ (x : Line). size x + sizes first) (sym same) ∙ one in
         ap (λ (n : ℕ). lines (take n (b ∷ text))) count
-        ∙ ap (λ (t : Bool). if t then empty ∷ lines (take (sizes (l ∷ first)) text) else onto b (lines (take (sizes (l ∷ first)) text))) dark
+        ∙ ap (λ (t : Bool). if t then empty ∷ lines (take (sizes (l ∷ first)) text) else onto b
+        (lines (take (sizes (l ∷ first)) text))) dark
         ∙ ap (onto b) there
         ∙ ap (λ (x : Line). x ∷ first) same
 
@@ -55,7 +54,8 @@ lines_cut (b ∷ text) (line ∷ first) more all is =
         let count : sizes (line ∷ first) ≡ suc (sizes first) =
         ap (λ (x : Line). size x + sizes first) (sym same) ∙ one_more (sizes first) in
         ap (λ (n : ℕ). lines (take n (b ∷ text))) count
-        ∙ ap (λ (t : Bool). if t then empty ∷ lines (take (sizes first) text) else onto b (lines (take (sizes first) text))) e
+        ∙ ap (λ (t : Bool). if t then empty ∷ lines (take (sizes first) text) else onto b
+        (lines (take (sizes first) text))) e
         ∙ ap (λ (l : List Line). empty ∷ l) there
         ∙ ap (λ (x : Line). x ∷ first) same
       where

@@ -10,13 +10,14 @@ use Rattle.frame_terms.specs.Sections.{row_of}
 use Rattle.frame_terms.specs.Tables.{Tables}
 
 module _ {S K V X : Type 0} where
-  -- Documents of these tables end with their last item's object: what an item says that ends a section, it says with its object,
-  -- and no document ends where the next begins.
+  -- Documents of these tables end with their last item's object: what an item says that ends a section, it says with
+  -- its object, and no document ends where the next begins.
   pub record EndWithObjects (tables : Tables S K V X) : Type 0 where
     pub alone : (section : S) → (tables.shape section).again ≢ again.Document
     pub objects : (section : S) (keyword : Keyword) (row : Row K) → row_of (tables.rows section) keyword ≡ Some row
         → is_keyword ((tables.shape section).last) row.keyword ≡ true
-        → (across : X) (item : Item) (value : V) → tables.value_of across row.kind item ≡ Ok value → is_some item.object ≡ true
+        → (across : X) (item : Item) (value : V) → tables.value_of across row.kind item ≡ Ok value
+        → is_some item.object ≡ true
 
   -- A document's own part alone is read as that document.
   abbrev pub OwnPartIsReadTheSame : Tables S K V X → Type 0
