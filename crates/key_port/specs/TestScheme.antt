@@ -8,7 +8,10 @@ use Rattle.key_port.specs.declared.verifier.KeyKind.{KeyKind}
 use Rattle.key_port.specs.declared.verifier.KeyKind.TheVariants as kind
 use Rattle.key_port.specs.declared.verifier.VerifyAnswer.{VerifyAnswer}
 use Rattle.key_port.specs.declared.verifier.VerifyAnswer.TheVariants as answer
+use Rattle.key_port.specs.declared.signer.SignAnswer.{SignAnswer}
+use Rattle.key_port.specs.declared.signer.SignAnswer.TheVariants as sign
 use Rattle.key_port.specs.Answers.{Relation, faults_after}
+use Rattle.key_port.specs.Signing.{faults_after_signing}
 use Rattle.key_port.specs.declared.test_keys.TestKeys.{TestKeys}
 
 -- the digest of the eight bytes `test-sig`, the key and the message
@@ -46,4 +49,22 @@ FailsByNumber old answer.Fault = is_to_fail old.failing.items (next_count old.ca
 pub record IsNextKeys (old new : TestKeys) (answer : VerifyAnswer) : Type 0 where
   pub calls : new.calls ≡ next_count old.calls
   pub faults : new.faults ≡ faults_after old.faults answer
+  pub failing : new.failing.items ≡ old.failing.items
+
+-- the signature that is given is that of the message by the key
+abbrev pub IsSignedByScheme : KeyKind → List ℕ → List ℕ → SignAnswer → Type 0
+IsSignedByScheme kind key message (sign.Signed signature) = signature ≡ test_signature kind key message
+IsSignedByScheme kind key message sign.Fault = Unit {0}
+IsSignedByScheme kind key message sign.Memory = Unit {0}
+
+-- a call for a signature fails exactly where its number stands among those that are to fail
+abbrev pub FailsToSignByNumber : TestKeys → SignAnswer → Type 0
+FailsToSignByNumber old (sign.Signed signature) = is_to_fail old.failing.items (next_count old.calls) ≡ false
+FailsToSignByNumber old sign.Fault = is_to_fail old.failing.items (next_count old.calls) ≡ true
+FailsToSignByNumber old sign.Memory = is_to_fail old.failing.items (next_count old.calls) ≡ false
+
+-- one more call is counted, a fault where it failed, and what is to come stays
+pub record IsNextSigner (old new : TestKeys) (answer : SignAnswer) : Type 0 where
+  pub calls : new.calls ≡ next_count old.calls
+  pub faults : new.faults ≡ faults_after_signing old.faults answer
   pub failing : new.failing.items ≡ old.failing.items

@@ -11,7 +11,7 @@ use crate::verifier::{KeyKind, VerifyAnswer};
 use dir_bytes::{ReadAnswer, Sink, Source, WriteAll, write_all};
 
 // The next byte, if the source gives one.
-fn next_byte<S: Source>(source: &mut S) -> Option<u8>
+pub fn next_byte<S: Source>(source: &mut S) -> Option<u8>
     ensures some { IfSome result (λ byte. Consumes (S.left source.old) (S.left source.new) (byte ∷ [])) }
     ensures end { result ≡ None → ¬ Rose (S.faults source.old) (S.faults source.new) → IsAtEnd (S.left source.old) }
     ensures faults { S.faults source.old ≤ S.faults source.new }

@@ -7,10 +7,10 @@ use crate::verifier::KeyKind;
 use std::marker::Model;
 
 // How many bytes a line may have, with its NL.
-const LINE_LIMIT: usize = 65536;
+pub const LINE_LIMIT: usize = 65536;
 
 // The word of a key's kind.
-fn kind_word(kind: KeyKind) -> &'static [u8]
+pub fn kind_word(kind: KeyKind) -> &'static [u8]
     ensures word { result.now ≡ requests.kind_word kind }
     ensures within { length result.now ≤ 8 }
 {
@@ -23,7 +23,7 @@ fn kind_word(kind: KeyKind) -> &'static [u8]
 
 // How many bytes the hex of these bytes has.
 #[tactic(auto, using(crate::proofs::Sizes::sizes))]
-fn hex_size(bytes: &[u8]) -> usize
+pub fn hex_size(bytes: &[u8]) -> usize
     ensures size { result ≡ length (requests.hex_word bytes.now) }
 {
     if bytes.is_empty() { 1 } else { 2 * bytes.len() }
@@ -73,6 +73,14 @@ impl Line {
         ensures { result.now ≡ self.now }
     {
         &self.bytes[..self.len]
+    }
+
+    // Whether no byte more has room.
+    pub fn is_full(&self) -> bool
+        ensures full { IsTrue result ↔ (length self.now ≡ 65536) }
+        ensures within { length self.now ≤ 65536 }
+    {
+        self.len == 65536
     }
 
     // Adds bytes at the end.

@@ -1,16 +1,24 @@
-// A key service as a verifier. It takes no memory.
+// A key service as a verifier and a signer. It takes no memory but a signature's.
 ghost use Rattle.std.specs.Prelude.{◌≡◌, ◌≤◌, true, None, length};
+ghost use Rattle.dir_bytes.specs.Causes.{Counts, next_count};
 ghost use Rattle.key_port.specs.Answers.{AnswersBy, CountsAnswers, faults_after};
 ghost use Rattle.key_port.specs.Requests.{request_text, line_limit};
 ghost use Rattle.key_port.specs.Services as services;
+ghost use Rattle.key_port.specs.SignedLines.{sign_text};
+ghost use Rattle.key_port.specs.Signing.{CountsSigning, GivesBy, faults_after_signing};
+ghost use Rattle.key_port.specs.SigningServices as signing_services;
 
 use crate::asking::exchange;
 use crate::dial::Dial;
 use crate::request::request_fits;
+use crate::sign_lines::sign_request_fits;
+use crate::signer::{SignAnswer, Signer};
+use crate::signing::exchange_signing;
 use crate::verifier::{KeyKind, Verifier, VerifyAnswer};
+use std::alloc::Global;
 
 /// A key service, which answers a line to each line. It is dialed at the first call, and at each that comes after a
-/// fault.
+/// fault. One connection and one count of faults serve both kinds of calls, to verify and to sign.
 #[derive(Drop)]
 pub struct ServiceKeys<D: Dial> {
     dial: D,
@@ -57,9 +65,19 @@ impl<D: Dial> ServiceKeys<D> {
         ensures cause { CountsAnswers self.old.faults self.new.faults answer }
     {
         if answer == VerifyAnswer::Fault {
-            self.connection = None;
-            self.faults = self.faults.saturating_add(1);
+            self.fail();
         }
+    }
+
+    // Drops the connection after a fault, which is counted.
+    fn fail(&mut self)
+        ensures dial { self.new.dial ≡ self.old.dial }
+        ensures kept { self.new.connection ≡ None }
+        ensures faults { self.new.faults ≡ next_count self.old.faults }
+        ensures cause { Counts self.old.faults self.new.faults }
+    {
+        self.connection = None;
+        self.faults = self.faults.saturating_add(1);
     }
 
     // Asks over the connection that stands, or a new one.
@@ -73,6 +91,27 @@ impl<D: Dial> ServiceKeys<D> {
         match &mut self.connection {
             Some((source, sink)) => exchange(source, sink, kind, key, message, signature),
             None => VerifyAnswer::Fault,
+        }
+    }
+
+    // Asks for a signature over the connection that stands, or a new one.
+    fn ask_to_sign(
+        &mut self,
+        alloc: Global,
+        kind: KeyKind,
+        key: &[u8],
+        message: &[u8],
+    ) -> SignAnswer
+        requires { length (sign_text kind key.now message.now) ≤ line_limit }
+        ensures asked { signing_services.AskedToSign D.In.left D.In.faults D.Out.written D.Out.faults D.gives self.old.dial self.new.dial
+            self.old.connection self.new.connection (sign_text kind key.now message.now) result }
+        ensures faults { self.new.faults ≡ self.old.faults }
+        ensures within { GivesBy (λ signature. true) result }
+    {
+        self.connect();
+        match &mut self.connection {
+            Some((source, sink)) => exchange_signing(alloc, source, sink, kind, key, message),
+            None => SignAnswer::Fault,
         }
     }
 }
@@ -110,5 +149,38 @@ impl<D: Dial> Verifier for ServiceKeys<D> {
         let answer = self.ask(kind, key, message, signature);
         self.settle(answer);
         answer
+    }
+}
+
+impl<D: Dial> Signer for ServiceKeys<D> {
+    ghost may_give = { λ kind key message signature. true };
+
+    ghost faults = { λ s. s.faults };
+
+    ghost steps = { λ before kind key message answer after.
+        signing_services.ServesSigning D.In.left D.In.faults D.Out.written D.Out.faults D.gives before.dial after.dial
+        before.connection after.connection (sign_text kind key message) answer };
+
+    fn sign(&mut self, alloc: Global, kind: KeyKind, key: &[u8], message: &[u8]) -> SignAnswer
+        ensures answer { GivesBy (λ signature. true) result }
+        ensures cause { CountsSigning self.old.faults self.new.faults result }
+        // Exactly each fault is counted.
+        ensures faults { self.new.faults ≡ faults_after_signing self.old.faults result }
+        ensures step { signing_services.ServesSigning D.In.left D.In.faults D.Out.written D.Out.faults D.gives self.old.dial self.new.dial
+            self.old.connection self.new.connection (sign_text kind key.now message.now) result }
+        ensures long { signing_services.RefusesLongSigning self.old.dial self.new.dial self.new.connection (sign_text kind key.now message.now) result }
+    {
+        if !sign_request_fits(kind, key, message) {
+            self.fail();
+            return SignAnswer::Fault;
+        }
+        match self.ask_to_sign(alloc, kind, key, message) {
+            SignAnswer::Signed(signature) => SignAnswer::Signed(signature),
+            SignAnswer::Memory => SignAnswer::Memory,
+            SignAnswer::Fault => {
+                self.fail();
+                SignAnswer::Fault
+            }
+        }
     }
 }

@@ -1,13 +1,18 @@
-// The test scheme as a verifier. It takes no memory.
-ghost use Rattle.std.specs.Prelude.{◌≡◌, ◌++◌, not};
+// The test scheme as a verifier and a signer. It takes no memory but a signature's.
+ghost use Rattle.std.specs.Prelude.{◌≡◌, ◌≤◌, ◌++◌, IfOk, length, not};
 ghost use Rattle.key_port.specs.Answers.{AnswersBy, CountsAnswers};
+ghost use Rattle.key_port.specs.Signing.{CountsSigning, GivesBy};
 ghost use Rattle.key_port.specs.TestScheme as scheme;
 
+use crate::signer::{SignAnswer, Signer};
 use crate::verifier::{KeyKind, Verifier, VerifyAnswer};
+use dir_bytes::{Memory, Text};
 use sha2::{Digest, Sha256};
+use std::alloc::Global;
 
 /// The test scheme: a signature is the SHA-256 of `test-sig`, the key and the message, for Ed25519 twice. Anyone can
-/// make one. The calls whose numbers, from 1, stand in `failing` fail.
+/// make one. The calls whose numbers, from 1, stand in `failing` fail; one count serves both kinds of calls, to verify and
+/// to sign.
 #[derive(Drop)]
 pub struct TestKeys {
     failing: Vec<u64>,
@@ -98,6 +103,45 @@ impl Verifier for TestKeys {
             VerifyAnswer::Yes
         } else {
             VerifyAnswer::No
+        }
+    }
+}
+
+// The signature of a message by a key.
+fn signature_of(alloc: Global, kind: KeyKind, key: &[u8], message: &[u8]) -> Result<Text, Memory>
+    ensures value { IfOk result (λ text. text ≡ scheme.test_signature kind key.now message.now) }
+    ensures within { IfOk result (λ text. length text ≤ 64) }
+{
+    let digest = test_digest(key, message);
+    match kind {
+        KeyKind::Identity | KeyKind::Signing => Text::copy_of(alloc, &digest),
+        KeyKind::Ed25519 => Text::copy_of(alloc, &twice(&digest)),
+    }
+}
+
+impl Signer for TestKeys {
+    ghost may_give = { λ kind key message signature. scheme.is_test_signature kind key message signature };
+
+    ghost faults = { λ s. s.faults };
+
+    ghost steps = { λ before kind key message answer after. scheme.IsNextSigner before after answer };
+
+    fn sign(&mut self, alloc: Global, kind: KeyKind, key: &[u8], message: &[u8]) -> SignAnswer
+        ensures answer { GivesBy (λ signature. scheme.is_test_signature kind key.now message.now signature) result }
+        ensures cause { CountsSigning self.old.faults self.new.faults result }
+        // The signature is the scheme's.
+        ensures signature { scheme.IsSignedByScheme kind key.now message.now result }
+        ensures fails { scheme.FailsToSignByNumber self.old result }
+        ensures step { scheme.IsNextSigner self.old self.new result }
+    {
+        self.calls = self.calls.saturating_add(1);
+        if self.failing.contains(&self.calls) {
+            self.faults = self.faults.saturating_add(1);
+            return SignAnswer::Fault;
+        }
+        match signature_of(alloc, kind, key, message) {
+            Ok(text) => SignAnswer::Signed(text),
+            Err(_) => SignAnswer::Memory,
         }
     }
 }
