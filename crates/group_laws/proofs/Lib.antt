@@ -1,0 +1,5 @@
+pub mod Readings
+pub mod SignatureLines
+pub mod TimeRows
+pub mod ListRows
+pub mod SourceRows
