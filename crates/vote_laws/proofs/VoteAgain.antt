@@ -33,8 +33,9 @@ use Rattle.vote_frame.specs.declared.frame.VoteSection.TheVariants.{Certificate}
 use Rattle.vote_frame.specs.declared.frame.VoteValue.{VoteValue}
 use Rattle.vote_laws.specs.Again.{IsInRange, IsReadBack, VotesAreReadAgain, as_read}
 use Rattle.vote_laws.proofs.EntryKept.{entries_say}
-use Rattle.vote_laws.proofs.VoteItems.{VoteEntry, signature_entry}
-use Rattle.vote_laws.proofs.VoteLists.{params_back, protocols_back, versions_back}
+use Rattle.vote_laws.proofs.VoteItems.{VoteEntry, list_kinds, signature_entry}
+use Rattle.group_laws.proofs.ListRows.{protocols_back, versions_back}
+use Rattle.vote_laws.proofs.VoteLists.{params_back}
 use Rattle.vote_laws.proofs.VotePlaces.{authority_place, certificate_place, entries_place, footer_place, vote_end}
 use Rattle.vote_laws.proofs.VotePlaces.{in_preamble, vote_kept}
 use Rattle.vote_laws.proofs.VoteRead.{among, begins_at, closed, used_of, vote_read}
@@ -125,26 +126,26 @@ kept_says front facts rest are =
     let lists : vote_lists text (lists_in (in_preamble at facts)) ≡ l =
     λ i. record {
       client_versions =
-          versions_back the.ClientVersions l.client_versions are.lists.client_versions
+          versions_back list_kinds the.ClientVersions l.client_versions are.lists.client_versions
           (row_read the.ClientVersions preamble_read refl) i;
       server_versions =
-          versions_back the.ServerVersions l.server_versions are.lists.server_versions
+          versions_back list_kinds the.ServerVersions l.server_versions are.lists.server_versions
           (row_read the.ServerVersions preamble_read refl) i;
       recommended_client_protocols =
-          protocols_back the.RecommendedClientProtocols l.recommended_client_protocols
+          protocols_back list_kinds the.RecommendedClientProtocols l.recommended_client_protocols
           are.lists.recommended_client_protocols (row_read the.RecommendedClientProtocols preamble_read refl) i;
       recommended_relay_protocols =
-          protocols_back the.RecommendedRelayProtocols l.recommended_relay_protocols
+          protocols_back list_kinds the.RecommendedRelayProtocols l.recommended_relay_protocols
           are.lists.recommended_relay_protocols (row_read the.RecommendedRelayProtocols preamble_read refl) i;
       required_client_protocols =
-          protocols_back the.RequiredClientProtocols l.required_client_protocols
+          protocols_back list_kinds the.RequiredClientProtocols l.required_client_protocols
           are.lists.required_client_protocols (row_read the.RequiredClientProtocols preamble_read refl) i;
       required_relay_protocols =
-          protocols_back the.RequiredRelayProtocols l.required_relay_protocols
+          protocols_back list_kinds the.RequiredRelayProtocols l.required_relay_protocols
           are.lists.required_relay_protocols (row_read the.RequiredRelayProtocols preamble_read refl) i;
       params = params_back l.params are.lists.params (row_read the.Params preamble_read refl) i;
     } in
-    let delays = delays_said facts (row_read the.VotingDelay preamble_read refl) in
+    let delays = delays_said facts.vote_seconds facts.dist_seconds (row_read the.VotingDelay preamble_read refl) in
     let source = source_said facts (row_read the.DirSource authority_read refl) in
     let certificate =
     certificate_says vote_tables Certificate kind.Certificate has_certificate

@@ -15,6 +15,8 @@ use Rattle.frame_laws.proofs.RowValues.{row_if, text_entry, silent_entry}
 use Rattle.frame_laws.proofs.SaidRows.{AreSaid, IsSaid, row_once}
 use Rattle.frame_laws.proofs.Sections.{IsWritten}
 use Rattle.frame_laws.proofs.TableRows.{are_plain}
+use Rattle.group_laws.proofs.TimeRows.{Times, times_said}
+use Rattle.group_laws.proofs.TimeRows as group
 use Rattle.authority_certs.specs.declared.cert.Cert.{Cert}
 use Rattle.certificate_laws.proofs.CertRows.{HasCertificates, certificate_rows}
 use Rattle.vote_terms.specs.declared.facts.SignatureFacts.{SignatureFacts}
@@ -25,12 +27,13 @@ use Rattle.random_lines.specs.declared.line.RandomLine.TheVariants as line
 use Rattle.vote_frame.specs.Tables.{vote_tables}
 use Rattle.vote_frame.specs.declared.frame.VoteKind.{VoteKind}
 use Rattle.vote_frame.specs.declared.frame.VoteKind.TheVariants as kind
+use Rattle.vote_frame.specs.declared.frame.VoteValue.TheVariants as own
 use Rattle.vote_frame.specs.declared.frame.VoteSection.TheVariants.{Authority, Certificate, Footer, Preamble}
 use Rattle.vote_laws.specs.Again.{AreMethods, IsInRange, IsSignatureInRange}
 use Rattle.vote_laws.proofs.VoteLists.{both_said, param_rows, params_said, protocol_rows, protocols_said, version_rows}
 use Rattle.vote_laws.proofs.VoteLists.{versions_said}
-use Rattle.vote_laws.proofs.VoteItems.{VotePart, VoteRow, delays_entry, moment_row, rest_if, said_moment, said_rest_if}
-use Rattle.vote_laws.proofs.VoteItems.{signature_entry, source_entry, suits_delays, suits_flags, suits_methods}
+use Rattle.vote_laws.proofs.VoteItems.{VotePart, VoteRow, has_times, moment_row, rest_if, said_moment, said_rest_if}
+use Rattle.vote_laws.proofs.VoteItems.{signature_entry, source_entry, suits_flags, suits_methods}
 use Rattle.vote_laws.proofs.VoteItems.{suits_signature, suits_status}
 use Rattle.vote_laws.proofs.VoteRandoms.{random_row, said_random}
 
@@ -48,14 +51,20 @@ kind_rows facts =
     ∷ []
 
 -- its times
+abbrev times_of : VoteFacts → Times
+times_of facts = record {
+  valid_after = facts.valid_after;
+  fresh_until = facts.fresh_until;
+  valid_until = facts.valid_until;
+  vote_seconds = facts.vote_seconds;
+  dist_seconds = facts.dist_seconds;
+}
+
+abbrev times_rows : VoteFacts → List VoteRow
+times_rows facts = group.time_rows kind.Time kind.Delays (λ vote dist. own.Delays vote dist) (times_of facts)
+
 abbrev pub time_rows : VoteFacts → List VoteRow
-time_rows facts =
-    moment_row the.Published facts.published
-    ∷ moment_row the.ValidAfter facts.valid_after
-    ∷ moment_row the.FreshUntil facts.fresh_until
-    ∷ moment_row the.ValidUntil facts.valid_until
-    ∷ row_once (row the.VotingDelay One kind.Delays) (delays_entry facts)
-    ∷ []
+time_rows facts = moment_row the.Published facts.published ∷ times_rows facts
 
 -- its flags
 abbrev pub flag_rows : VoteFacts → List VoteRow
@@ -100,13 +109,11 @@ preamble_said facts are =
     both (said_once vote_tables _ _ suits_status)
     (both (said_methods facts.methods are.methods)
     (both (said_moment the.Published facts.published)
-    (both (said_moment the.ValidAfter facts.valid_after)
-    (both (said_moment the.FreshUntil facts.fresh_until)
-    (both (said_moment the.ValidUntil facts.valid_until)
-    (both (said_once vote_tables _ _ (suits_delays facts are))
+    (both_said (times_rows facts) (version_rows lists ++ (flag_rows facts ++ later_rows lists))
+    (times_said has_times (times_of facts) are.vote_seconds are.dist_seconds)
     (both_said (version_rows lists) (flag_rows facts ++ later_rows lists) (versions_said lists are.lists)
     (both (said_once vote_tables _ _ (suits_flags facts.known_flags are.known_flags))
-    (both (said_rest_if the.FlagThresholds facts.flag_thresholds) later)))))))))
+    (both (said_rest_if the.FlagThresholds facts.flag_thresholds) later))))))
 
 pub preamble_written : (facts : VoteFacts) → IsInRange facts → IsWritten vote_tables (preamble facts) []
 unfolding same

@@ -1,5 +1,5 @@
 -- What is said by an item of a vote that was written and is read.
-use Rattle.std.proofs.Common.{◌≡◌, ℕ, List, Option, Some, None, refl, ap, ◌∙◌}
+use Rattle.std.proofs.Common.{◌≡◌, ℕ, List, Option, Some, None, refl, sym, ap, subst, ◌∙◌}
 use Rattle.std.specs.Prelude.{IfSome, option_map}
 use Rattle.item_terms.specs.Words.{words_of}
 use Rattle.dir_values.specs.FlagSets.{as_set, set_text}
@@ -16,30 +16,23 @@ use Rattle.frame_laws.proofs.SaidRows.{row_once}
 use Rattle.frame_laws.proofs.StandingParts.{rest_part, spelled}
 use Rattle.dir_values.specs.Numbers.{numbers_in, numbers_text}
 use Rattle.line_laws.proofs.WrittenDelays.{as_set-text}
+use Rattle.group_laws.proofs.TimeRows.{delays_row}
 use Rattle.vote_terms.specs.declared.facts.SignatureFacts.{SignatureFacts}
 use Rattle.vote_terms.specs.declared.facts.VoteFacts.{VoteFacts}
 use Rattle.vote_doc.specs.Facts.{signature_facts}
 use Rattle.vote_doc.specs.Saying.{delays_in, signature_in, source_in}
 use Rattle.vote_frame.specs.declared.frame.VoteKind.TheVariants as kind
 use Rattle.vote_frame.specs.declared.frame.VoteValue.{VoteValue}
+use Rattle.vote_frame.specs.declared.frame.VoteValue.TheVariants as own
 use Rattle.vote_laws.specs.Again.{AreFlags, AreMethods}
-use Rattle.vote_laws.proofs.VoteItems.{delays_entry, signature_entry, source_entry}
+use Rattle.vote_laws.proofs.VoteItems.{signature_entry, source_entry}
 use Rattle.vote_laws.proofs.VoteRows.{methods_if, signature_row}
-use Rattle.vote_laws.proofs.WrittenSources.{address_part, nickname_part}
+use Rattle.vote_laws.proofs.WrittenSources.{SourceSays, source_stands}
 use Rattle.vote_laws.proofs.WrittenValues.{algorithm_of-name, numbers_in-text}
 
 -- what was taken of a section
 abbrev VoteTaken : Type 0
 VoteTaken = Taken (Value VoteValue)
-
--- what is said by the item of an authority
-pub record SourceSays (bytes : List ℕ) (taken : List (Taken (Value VoteValue))) (facts : VoteFacts) : Type 0 where
-  pub nickname : part bytes (source_in (item_at taken the.DirSource)).nickname ≡ facts.nickname
-  pub identity : (source_in (item_at taken the.DirSource)).identity ≡ facts.identity
-  pub address : part bytes (source_in (item_at taken the.DirSource)).address ≡ facts.address
-  pub ip : (source_in (item_at taken the.DirSource)).ip ≡ facts.ip
-  pub dir_port : (source_in (item_at taken the.DirSource)).dir_port ≡ facts.dir_port
-  pub or_port : (source_in (item_at taken the.DirSource)).or_port ≡ facts.or_port
 
 -- the methods
 methods_back : (methods : Option (List ℕ)) → IfSome methods AreMethods
@@ -67,28 +60,18 @@ module _ {limit : ℕ} {bytes : List ℕ} {taken : List (Taken (Value VoteValue)
       ∙ as_set-text flags are.ascend are.each
 
   -- the two delays
-  pub delays_said : (facts : VoteFacts)
-      → IsRead limit bytes taken place (row_once (row the.VotingDelay One kind.Delays) (delays_entry facts))
-      → delays_in (item_at taken the.VotingDelay) ≡ (facts.vote_seconds, facts.dist_seconds)
-  delays_said facts read = ap delays_in (item_of_row read)
+  pub delays_said : (vote dist : ℕ)
+      → IsRead limit bytes taken place (delays_row kind.Delays (λ v d. own.Delays v d) vote dist)
+      → delays_in (item_at taken the.VotingDelay) ≡ (vote, dist)
+  delays_said vote dist read = ap delays_in (item_of_row read)
 
   -- the authority
   pub source_said : (facts : VoteFacts)
       → IsRead limit bytes taken place (row_once (row the.DirSource One kind.Source) (source_entry facts))
-      → SourceSays bytes taken facts
+      → SourceSays bytes (source_in (item_at taken the.DirSource)) facts
   source_said facts read =
-      let item = item_of_row read in
-      let there = rest_part read.stand.in_place.0 in
-      record {
-        nickname =
-            ap (λ (o : Option VoteTaken). part bytes (source_in o).nickname) item ∙ nickname_part bytes _ facts there;
-        identity = ap (λ (o : Option VoteTaken). (source_in o).identity) item;
-        address =
-            ap (λ (o : Option VoteTaken). part bytes (source_in o).address) item ∙ address_part bytes _ facts there;
-        ip = ap (λ (o : Option VoteTaken). (source_in o).ip) item;
-        dir_port = ap (λ (o : Option VoteTaken). (source_in o).dir_port) item;
-        or_port = ap (λ (o : Option VoteTaken). (source_in o).or_port) item;
-      }
+      subst (λ (o : Option VoteTaken). SourceSays bytes (source_in o) facts) (sym (item_of_row read))
+      (source_stands bytes _ facts (rest_part read.stand.in_place.0))
 
   -- the signature
   pub signature_said : (facts : SignatureFacts)

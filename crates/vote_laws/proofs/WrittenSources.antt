@@ -13,6 +13,7 @@ use Rattle.frame_laws.proofs.WrittenItems.{start_of}
 use Rattle.line_laws.specs.Again as line
 use Rattle.line_laws.specs.Again.{IsSourceInRange}
 use Rattle.line_laws.proofs.WrittenSources as sources
+use Rattle.group_laws.proofs.SourceRows.{SourceIs, source_back}
 use Rattle.vote_terms.specs.declared.facts.VoteFacts.{VoteFacts}
 use Rattle.vote_text.specs.Texts.{source_text}
 use Rattle.vote_laws.specs.Again.{IsInRange}
@@ -58,27 +59,14 @@ source-written p k facts are =
     (sources.source_again p k facts.nickname facts.identity facts.address facts.ip facts.dir_port facts.or_port
     (source_range facts are))
 
--- ---- parts of a text that stands in bytes
+-- what is read of the line of an authority says what the vote says
+abbrev pub SourceSays : List ℕ → DirSource → VoteFacts → Type 0
+SourceSays bytes found facts =
+    SourceIs bytes found facts.nickname facts.identity facts.address facts.ip facts.dir_port facts.or_port
 
--- the text of its words stands there
-stands : (bytes : List ℕ) (start : ℕ) (facts : VoteFacts)
-    → part bytes (span start (source_text facts)) ≡ source_text facts
-    → part bytes (span start (words_text facts)) ≡ words_text facts
-stands bytes start facts there =
-    subst (λ (t : List ℕ). part bytes (span start t) ≡ t) (source_shape facts) there
-
--- the nickname of the authority
-pub nickname_part : (bytes : List ℕ) (start : ℕ) (facts : VoteFacts)
-    → part bytes (span start (source_text facts)) ≡ source_text facts
-    → part bytes (source_at start facts).nickname ≡ facts.nickname
-nickname_part bytes start facts there =
-    sources.nickname_part bytes start facts.nickname facts.identity facts.address facts.ip facts.dir_port facts.or_port
-    (stands bytes start facts there)
-
--- its host name
-pub address_part : (bytes : List ℕ) (start : ℕ) (facts : VoteFacts)
-    → part bytes (span start (source_text facts)) ≡ source_text facts
-    → part bytes (source_at start facts).address ≡ facts.address
-address_part bytes start facts there =
-    sources.address_part bytes start facts.nickname facts.identity facts.address facts.ip facts.dir_port facts.or_port
-    (stands bytes start facts there)
+-- where its text stands
+pub source_stands : (bytes : List ℕ) (start : ℕ) (facts : VoteFacts)
+    → part bytes (span start (source_text facts)) ≡ source_text facts → SourceSays bytes (source_at start facts) facts
+source_stands bytes start facts there =
+    source_back facts.nickname facts.identity facts.address facts.ip facts.dir_port facts.or_port bytes start
+    (subst (λ (t : List ℕ). part bytes (span start t) ≡ t) (source_shape facts) there)

@@ -1,13 +1,11 @@
 -- What an item of a vote says that was written and is read again: the value that it was written for.
-use Rattle.std.proofs.Common.{◌≡◌, ℕ, ◌+◌, ◌≤◌, true, List, [], ◌∷◌, ◌++◌, cond, length, Option, Some, None}
-use Rattle.std.proofs.Common.{Ok, refl, ap, ◌∙◌, arith, length-append}
+use Rattle.std.proofs.Common.{◌≡◌, ℕ, ◌+◌, ◌≤◌, List, [], ◌∷◌, ◌++◌, cond, length, Option, Some, None}
+use Rattle.std.proofs.Common.{Ok, refl, ap, ◌∙◌, arith}
 use Rattle.std.specs.Prelude.{All, map, codes, is_none, unwrap_or, option_map}
 use Rattle.std.specs.List.{find}
 use Rattle.std.specs.Fmt.{decimal}
 use Rattle.std.proofs.lemmas.List.{length-map}
-use Rattle.std.proofs.lemmas.List.Elements.{All-cons, All-head, All-tail}
-use Rattle.base64.specs.GeneralPurpose.{IsBytes}
-use Rattle.item_terms.specs.Items.{Item}
+use Rattle.std.proofs.lemmas.List.Elements.{All-head, All-tail}
 use Rattle.dir_bytes.specs.FieldTexts.{hex_text}
 use Rattle.dir_bytes.specs.Fields.{hex}
 use Rattle.dir_bytes.proofs.ReadAgain.{number-decimal}
@@ -19,47 +17,24 @@ use Rattle.dir_values.specs.declared.digest.Fingerprint.{Fingerprint as Identity
 use Rattle.dirdoc_grammar.specs.Writing.{written}
 use Rattle.frame_terms.specs.declared.keyword.Keyword.{Keyword}
 use Rattle.frame_values.specs.Arguments.{arguments_of}
-use Rattle.dir_values.specs.Names.{algorithm}
-use Rattle.dir_values.specs.Digests.{fingerprint, key_digest}
+use Rattle.dir_values.specs.Digests.{fingerprint}
 use Rattle.dir_values.specs.Numbers.{wrong_number, number_of, number_in, numbers_in, numbers_text}
 use Rattle.frame_values.specs.Lines.{numbers_of, rest_unless}
-use Rattle.frame_values.specs.Signatures.{has_words, is_space, object_of, signature_of}
-use Rattle.frame_values.specs.declared.found.Span.{Span}
+use Rattle.frame_values.specs.Ranges.{AreTwenty}
+use Rattle.frame_values.specs.Signatures.{signature_of}
 use Rattle.frame_values.specs.declared.found.VoteSignature.{VoteSignature}
 use Rattle.frame_values.specs.Items.{bare, with_object}
-use Rattle.frame_laws.proofs.Words.{IsWord, arguments_of_words, length-arguments_at, placed, two_words}
-use Rattle.frame_laws.proofs.Words.{word_of_identity, words_of-join, words_of_numbers}
-use Rattle.frame_laws.proofs.WrittenItems.{identity_again, key_again, lines_at, rest_at, space_first, start_of}
+use Rattle.frame_laws.proofs.Words.{arguments_of_words, length-arguments_at, placed, words_of-join, words_of_numbers}
+use Rattle.frame_laws.proofs.WrittenItems.{lines_at, rest_at, start_of}
+use Rattle.group_laws.proofs.SignatureLines.{signature_again}
 use Rattle.vote_terms.specs.declared.facts.SignatureFacts.{SignatureFacts}
 use Rattle.vote_text.specs.Texts.{algorithm_text, signer_text}
 use Rattle.vote_doc.specs.Facts.{algorithm_of}
-
--- ---- items whose arguments are known
 
 -- the name of SHA-256 is no fingerprint
 no_identity : fingerprint (codes "sha256") ≡ None
 unfolding hex
 no_identity = refl
-
--- a signature that names no algorithm
-plain_is : (item : Item) (a b : Argument) (identity : Identity) (key : Digest1) (lines : Span)
-    → is_space item.separator ≡ true
-    → arguments_of item ≡ a ∷ b ∷ [] → fingerprint a.text ≡ Some identity → key_digest b.text ≡ Some key
-    → object_of (has_words item.object (codes "SIGNATURE")) item ≡ Ok lines
-    → signature_of item ≡ Ok (record { algorithm = None; identity = identity; key_digest = key; signature = lines })
-plain_is item a b identity key lines space args first second third =
-    rw (space, args, first, first, second, third) refl
-
--- a signature that names one
-named_is : (item : Item) (n a b : Argument) (name : Algorithm) (identity : Identity) (key : Digest1) (lines : Span)
-    → is_space item.separator ≡ true → arguments_of item ≡ n ∷ a ∷ b ∷ [] → fingerprint n.text ≡ None
-    → algorithm n.text ≡ Some name
-    → fingerprint a.text ≡ Some identity → key_digest b.text ≡ Some key
-    → object_of (has_words item.object (codes "SIGNATURE")) item ≡ Ok lines
-    → signature_of item
-    ≡ Ok (record { algorithm = Some name; identity = identity; key_digest = key; signature = lines })
-named_is item n a b name identity key lines space args no_first is first second third =
-    rw (space, args, no_first, is, first, second, third) refl
 
 -- ---- numbers
 
@@ -145,41 +120,17 @@ SignatureIsRead p k name identity key bytes =
     })
 
 signed : (p : ℕ) (k : Keyword) (name : Algorithm) (identity : Identity) (key : Digest1) (bytes : List ℕ)
-    → length identity.0 ≡ 20
-    → IsBytes identity.0 → length key.0 ≡ 20 → IsBytes key.0 → SignatureIsRead p k name identity key bytes
-signed p k Sha1 identity key bytes twenty fits twenty_key fits_key =
-    let a = hex_text identity.0 in
-    let b = hex_text key.0 in
-    let rest = a ++ 32 ∷ b in
-    let start = start_of p k rest in
-    let words =
-    two_words a b (word_of_identity identity.0 twenty fits) (word_of_identity key.0 twenty_key fits_key) in
-    plain_is (written p (with_object k rest (codes "SIGNATURE") bytes)) (record { place = start; text = a })
-    (record { place = start + length a + 1; text = b }) identity key (lines_at p k rest (codes "SIGNATURE") bytes)
-    (space_first rest (omega (arith, length-append a (32 ∷ b)))) (arguments_of_words start (a ∷ b ∷ []) words)
-    (identity_again identity twenty fits) (key_again key twenty_key fits_key) refl
-signed p k Sha256 identity key bytes twenty fits twenty_key fits_key =
-    let n = codes "sha256" in
-    let a = hex_text identity.0 in
-    let b = hex_text key.0 in
-    let rest = n ++ 32 ∷ (a ++ 32 ∷ b) in
-    let start = start_of p k rest in
-    let second = start + length n + 1 in
-    let words =
-    All-cons IsWord n (a ∷ b ∷ []) refl
-    (two_words a b (word_of_identity identity.0 twenty fits) (word_of_identity key.0 twenty_key fits_key)) in
-    named_is (written p (with_object k rest (codes "SIGNATURE") bytes)) (record { place = start; text = n })
-    (record { place = second; text = a })
-    (record { place = second + length a + 1; text = b }) Sha256 identity key
-    (lines_at p k rest (codes "SIGNATURE") bytes) refl
-    (arguments_of_words start (n ∷ a ∷ b ∷ []) words) no_identity refl (identity_again identity twenty fits)
-    (key_again key twenty_key fits_key) refl
+    → AreTwenty identity.0 → AreTwenty key.0 → SignatureIsRead p k name identity key bytes
+signed p k Sha1 identity key bytes is_identity is_key =
+    signature_again p k identity key bytes None None
+    (record { name_is = tt; identity_is = is_identity; key_is = is_key }) refl
+signed p k Sha256 identity key bytes is_identity is_key =
+    signature_again p k identity key bytes (Some (codes "sha256")) (Some Sha256)
+    (record { name_is = (refl, no_identity); identity_is = is_identity; key_is = is_key }) refl
 
 -- by whom a vote is signed
-pub signature-written : (p : ℕ) (k : Keyword) (s : SignatureFacts) → length s.identity.0 ≡ 20 → IsBytes s.identity.0
-    → length s.key_digest.0 ≡ 20
-    → IsBytes s.key_digest.0
+pub signature-written : (p : ℕ) (k : Keyword) (s : SignatureFacts) → AreTwenty s.identity.0 → AreTwenty s.key_digest.0
     → signature_of (written p (with_object k (signer_text s) (codes "SIGNATURE") s.signature))
     ≡ Ok (signature_at p k s)
-signature-written p k s twenty bytes twenty_key bytes_key =
-    signed p k s.algorithm s.identity s.key_digest s.signature twenty bytes twenty_key bytes_key
+signature-written p k s is_identity is_key =
+    signed p k s.algorithm s.identity s.key_digest s.signature is_identity is_key
