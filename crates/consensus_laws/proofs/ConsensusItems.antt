@@ -28,23 +28,26 @@ use Rattle.frame_values.specs.declared.found.Span.{Span}
 use Rattle.frame_values.specs.declared.values.Value.{Value}
 use Rattle.frame_values.specs.declared.values.Value.TheVariants as value
 use Rattle.frame_laws.proofs.Entries.{AlwaysSuits, Entry, item_of}
-use Rattle.frame_laws.proofs.RowCounts.{said_once}
-use Rattle.frame_laws.proofs.RowValues.{moment_entry, own_entry, row_if, said_any_if, silent_entry, text_entry}
+use Rattle.frame_laws.proofs.RowValues.{own_entry, silent_entry, text_entry}
 use Rattle.frame_laws.proofs.SaidRows.{IsSaid, RowSays, row_once}
 use Rattle.frame_laws.proofs.Sections.{Section}
 use Rattle.frame_laws.proofs.Words.{AreWords, IsWord, arguments_of_word, arguments_of_words, placed, two_words}
 use Rattle.frame_laws.proofs.Words.{word_of_identity, word_of_number}
-use Rattle.frame_laws.proofs.WrittenItems.{key_again, literal-written, start_of, time-written}
-use Rattle.line_laws.specs.Again.{delays_text, source_at}
-use Rattle.line_laws.proofs.WrittenDelays.{delays_again, flags_again}
-use Rattle.line_laws.proofs.WrittenSources.{source_again}
+use Rattle.frame_laws.proofs.WrittenItems.{key_again, literal-written, start_of}
+use Rattle.line_laws.specs.Again.{source_at}
+use Rattle.line_laws.proofs.WrittenDelays.{flags_again}
+use Rattle.group_laws.proofs.ListRows.{HasLists, ListKinds}
+use Rattle.group_laws.proofs.Readings.{Reads}
+use Rattle.group_laws.proofs.SourceRows.{HasRests, HasSources}
+use Rattle.group_laws.proofs.SourceRows as group
+use Rattle.group_laws.proofs.TimeRows.{HasTimes}
 use Rattle.line_laws.specs.Again.{AreFlagsInRange}
 use Rattle.consensus_terms.specs.Texts.{source_words, version_words}
 use Rattle.consensus_terms.specs.declared.consensus.SourceLine.{SourceLine}
 use Rattle.consensus_terms.specs.declared.flavour.Flavour.{Flavour}
 use Rattle.consensus_terms.specs.declared.flavour.Flavour.TheVariants.{Ns, Microdesc}
 use Rattle.consensus_frame.specs.Lines.{method_of, version_of, vote_digest_of}
-use Rattle.consensus_frame.specs.Tables.{consensus_tables, ignores, value_at}
+use Rattle.consensus_frame.specs.Tables.{consensus_tables, ignores, signature_of, value_at}
 use Rattle.consensus_frame.specs.declared.across.Across.{Across}
 use Rattle.consensus_frame.specs.declared.rows.ConsensusKind.{ConsensusKind}
 use Rattle.consensus_frame.specs.declared.rows.ConsensusKind.TheVariants as kind
@@ -79,10 +82,6 @@ method_entry method = record {
   value = λ p. value.Number method;
 }
 
--- the two delays
-abbrev pub delays_entry : ℕ → ℕ → ConsensusEntry
-delays_entry vote dist = own_entry the.VotingDelay (delays_text vote dist) (λ p. own.Delays vote dist)
-
 -- the text of its first line
 abbrev pub source_rest : SourceLine → List ℕ
 source_rest source = join_with_byte 32 (source_words source)
@@ -98,6 +97,10 @@ source_entry source =
 -- the digest of its vote
 abbrev pub vote_digest_entry : Digest1 → ConsensusEntry
 vote_digest_entry digest = own_entry the.VoteDigest (hex_text digest.0) (λ p. own.VoteDigest digest)
+
+-- the kinds of its lists
+abbrev pub list_kinds : ListKinds ConsensusKind
+list_kinds = record { versions = kind.Versions; protocols = kind.Protocols; params = kind.Params }
 
 -- ---- that they suit their rows
 
@@ -118,7 +121,33 @@ module _ (flavour : Flavour) where
   suits keyword count of entry named known says_ =
       λ across p. record { keyword = named; known = known p; value = ap at_place (says_ across p) }
 
-  -- ---- words, moments and texts
+  -- ---- groups of lines
+
+  pub has_times : HasTimes (consensus_tables flavour) kind.Time kind.Delays (λ vote dist. own.Delays vote dist)
+  has_times = record {
+    moments = record { known = λ item. refl; values = λ across item. refl };
+    seconds = record { known = λ item. refl; values = λ across item. refl };
+  }
+
+  pub has_rests : HasRests (consensus_tables flavour) kind.Rest
+  has_rests = record { known = λ item. refl; values = λ across item. refl }
+
+  pub has_sources : HasSources (consensus_tables flavour) kind.Source (λ found. own.Source found)
+  has_sources = record { known = λ item. refl; values = λ across item. refl }
+
+  -- signatures, of which the first is read with a space behind its keyword
+  pub has_signatures : Reads (consensus_tables flavour) kind.Signature None
+      (λ (across : Across). signature_of across.is_signed) (λ found. value.Own (own.Signature found))
+  has_signatures = record { known = λ item. refl; values = λ across item. refl }
+
+  pub has_lists : HasLists (consensus_tables flavour) list_kinds None
+  has_lists = record {
+    versions = record { known = λ item. refl; values = λ across item. refl };
+    protocols = record { known = λ item. refl; values = λ across item. refl };
+    params = record { known = λ item. refl; values = λ across item. refl };
+  }
+
+  -- ---- words
 
   version_is : (item : Item) (place : ℕ) → arguments_of item ≡ placed place (version_words flavour)
       → version_of flavour item ≡ Ok tt
@@ -159,26 +188,6 @@ module _ (flavour : Flavour) where
   suits_nothing keyword =
       suits keyword One kind.Nothing (silent_entry keyword []) refl (λ p. refl) (λ across p. refl)
 
-  -- a moment
-  pub said_moment : (keyword : Keyword) (moment : ℕ)
-      → IsSaidHere (row_once (row keyword One kind.Time) (moment_entry keyword moment))
-  said_moment keyword moment =
-      said_once (consensus_tables flavour) (row keyword One kind.Time) (moment_entry keyword moment)
-      (suits keyword One kind.Time (moment_entry keyword moment) refl (λ p. refl)
-      (λ across p. ap (says (λ (number : ℕ). value.Number number)) (time-written p keyword moment)))
-
-  -- the rest of a line, whatever it is
-  suits_rest : (keyword : Keyword) (text : List ℕ)
-      → SuitsConsensus (row keyword Optional kind.Rest) (text_entry keyword text)
-  suits_rest keyword text =
-      suits keyword Optional kind.Rest (text_entry keyword text) refl (λ p. refl) (λ across p. refl)
-
-  -- the same or none
-  pub said_rest_if : (keyword : Keyword) (text : Option (List ℕ))
-      → IsSaidHere (row_if (row keyword Optional kind.Rest) text)
-  said_rest_if keyword text =
-      said_any_if (consensus_tables flavour) (row keyword Optional kind.Rest) text refl (λ t. suits_rest keyword t)
-
   -- ---- numbers
 
   method_is : (item : Item) (a : Argument) (method : ℕ) → arguments_of item ≡ a ∷ [] → number_of a.text ≡ Some method
@@ -196,13 +205,6 @@ module _ (flavour : Flavour) where
       (arguments_of_word (start_of p the.ConsensusMethod text) text (word_of_number method))
       (number-decimal 4294967295 method small (omega (arith, small)))))
 
-  pub suits_delays : (vote dist : ℕ) → vote ≤ 4294967295 → dist ≤ 4294967295
-      → SuitsConsensus (row the.VotingDelay One kind.Delays) (delays_entry vote dist)
-  suits_delays vote dist first second =
-      suits the.VotingDelay One kind.Delays (delays_entry vote dist) refl (λ p. refl)
-      (λ across p. ap (says (λ (delays : ℕ × ℕ). value.Own (own.Delays delays.0 delays.1)))
-      (delays_again p the.VotingDelay vote dist first second))
-
   -- ---- flags
 
   pub suits_flags : (flags : List (List ℕ)) → AreFlagsInRange flags
@@ -216,10 +218,8 @@ module _ (flavour : Flavour) where
   pub suits_source : (source : SourceLine) → IsAuthorityInRange source
       → SuitsConsensus (row the.DirSource One kind.Source) (source_entry source)
   suits_source source are =
-      suits the.DirSource One kind.Source (source_entry source) refl (λ p. refl)
-      (λ across p. ap (says (λ (found : DirSource). value.Own (own.Source found)))
-      (source_again p the.DirSource source.nickname source.identity source.address source.ip source.dir_port
-      source.or_port are.line))
+      group.suits_source source.nickname source.identity source.address source.ip source.dir_port source.or_port
+      has_sources the.DirSource One are.line
 
   vote_digest_is : (item : Item) (a : Argument) (digest : Digest1) → arguments_of item ≡ a ∷ []
       → key_digest a.text ≡ Some digest → vote_digest_of item ≡ Ok digest

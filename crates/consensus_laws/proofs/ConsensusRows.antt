@@ -7,16 +7,19 @@ use Rattle.frame_terms.specs.Rows.{row}
 use Rattle.frame_terms.specs.declared.keyword.Keyword.TheVariants as the
 use Rattle.frame_terms.specs.declared.row.Count.TheVariants.{Many, One, Optional}
 use Rattle.frame_terms.specs.declared.row.Row.{Row}
-use Rattle.frame_values.specs.declared.found.VoteSignature.{VoteSignature}
 use Rattle.frame_values.specs.declared.values.Value.TheVariants as value
 use Rattle.frame_laws.proofs.Both.{both}
 use Rattle.frame_laws.proofs.Following.{IsFirst, MayFollow, opener_follows, repeated_follows}
 use Rattle.frame_laws.proofs.ManyRows.{row_of_each, said_of_each}
 use Rattle.frame_laws.proofs.Passing.{EachPasses}
 use Rattle.frame_laws.proofs.RowCounts.{said_once}
-use Rattle.frame_laws.proofs.RowValues.{moment_entry, row_if, silent_entry, text_entry}
+use Rattle.frame_laws.proofs.RowValues.{row_if, silent_entry, text_entry}
 use Rattle.frame_laws.proofs.SaidRows.{AreSaid, row_once}
 use Rattle.frame_laws.proofs.Sections.{IsWritten, entries_in}
+use Rattle.group_laws.proofs.Readings.{suits_reading}
+use Rattle.group_laws.proofs.SourceRows.{said_rest_if}
+use Rattle.group_laws.proofs.TimeRows.{Times, times_said}
+use Rattle.group_laws.proofs.TimeRows as group
 use Rattle.consensus_terms.specs.Signed.{signer_text}
 use Rattle.consensus_terms.specs.declared.consensus.ConsensusFacts.{ConsensusFacts}
 use Rattle.consensus_terms.specs.declared.consensus.SourceLine.{SourceLine}
@@ -30,8 +33,8 @@ use Rattle.consensus_frame.specs.declared.rows.ConsensusSection.TheVariants as s
 use Rattle.consensus_frame.specs.declared.value.ConsensusValue.TheVariants as own
 use Rattle.consensus_laws.specs.Again.{AreFactsInRange, IsAuthorityInRange, IsSignatureInRange}
 use Rattle.consensus_laws.proofs.ConsensusItems.{ConsensusEntry, ConsensusPart, ConsensusRow, SuitsConsensus}
-use Rattle.consensus_laws.proofs.ConsensusItems.{delays_entry, method_entry, says, source_entry, vote_digest_entry}
-use Rattle.consensus_laws.proofs.ConsensusItems.{said_moment, said_rest_if, suits, suits_delays, suits_flags}
+use Rattle.consensus_laws.proofs.ConsensusItems.{has_rests, has_signatures, has_times, method_entry, source_entry}
+use Rattle.consensus_laws.proofs.ConsensusItems.{suits_flags, vote_digest_entry}
 use Rattle.consensus_laws.proofs.ConsensusItems.{suits_method, suits_status, suits_vote_digest, version_entry}
 use Rattle.consensus_laws.proofs.ConsensusLists.{param_rows, params_said, protocol_rows, protocols_said, version_rows}
 use Rattle.consensus_laws.proofs.ConsensusLists.{versions_said}
@@ -49,13 +52,17 @@ kind_rows c =
     ∷ []
 
 -- its times
+abbrev times_of : ConsensusFacts → Times
+times_of c = record {
+  valid_after = c.valid_after;
+  fresh_until = c.fresh_until;
+  valid_until = c.valid_until;
+  vote_seconds = c.vote_seconds;
+  dist_seconds = c.dist_seconds;
+}
+
 abbrev pub time_rows : ConsensusFacts → List ConsensusRow
-time_rows c =
-    row_once (row the.ValidAfter One kind.Time) (moment_entry the.ValidAfter c.valid_after)
-    ∷ row_once (row the.FreshUntil One kind.Time) (moment_entry the.FreshUntil c.fresh_until)
-    ∷ row_once (row the.ValidUntil One kind.Time) (moment_entry the.ValidUntil c.valid_until)
-    ∷ row_once (row the.VotingDelay One kind.Delays) (delays_entry c.vote_seconds c.dist_seconds)
-    ∷ []
+time_rows c = group.time_rows kind.Time kind.Delays (λ vote dist. own.Delays vote dist) (times_of c)
 
 -- its flags
 abbrev pub flag_rows : ConsensusFacts → List ConsensusRow
@@ -66,6 +73,10 @@ flag_rows c =
 abbrev pub random_rows : ConsensusFacts → List ConsensusRow
 random_rows c =
     random_row the.SharedRandPreviousValue c.random_previous ∷ random_row the.SharedRandCurrentValue c.random_current ∷ []
+
+-- the lists behind its flags, and its shared random values
+abbrev list_rows : ConsensusFacts → List ConsensusRow
+list_rows c = protocol_rows c.lists ++ (param_rows c.lists ++ random_rows c)
 
 -- its rows behind the first one
 abbrev pub preamble_rows : ConsensusFacts → List ConsensusRow
@@ -91,19 +102,16 @@ module _ (flavour : Flavour) where
       let tables = consensus_tables flavour in
       both (said_once tables _ _ (suits_status flavour))
       (both (said_once tables _ _ (suits_method flavour c.method are.method))
-      (both (said_moment flavour the.ValidAfter c.valid_after)
-      (both (said_moment flavour the.FreshUntil c.fresh_until)
-      (both (said_moment flavour the.ValidUntil c.valid_until)
-      (both (said_once tables _ _
-      (suits_delays flavour c.vote_seconds c.dist_seconds are.vote_seconds are.dist_seconds))
-      (both_said tables (version_rows c.lists) (flag_rows c ++ (protocol_rows c.lists ++ (param_rows c.lists ++ random_rows c)))
+      (both_said tables (time_rows c) (version_rows c.lists ++ (flag_rows c ++ list_rows c))
+      (times_said (has_times flavour) (times_of c) are.vote_seconds are.dist_seconds)
+      (both_said tables (version_rows c.lists) (flag_rows c ++ list_rows c)
       (versions_said flavour c.lists are.lists)
       (both (said_once tables _ _ (suits_flags flavour c.known_flags are.known_flags))
       (both_said tables (protocol_rows c.lists) (param_rows c.lists ++ random_rows c)
       (protocols_said flavour c.lists are.lists)
       (both_said tables (param_rows c.lists) (random_rows c) (params_said flavour c.lists are.lists)
       (both (said_random flavour the.SharedRandPreviousValue c.random_previous are.random_previous)
-      (both (said_random flavour the.SharedRandCurrentValue c.random_current are.random_current) tt)))))))))))
+      (both (said_random flavour the.SharedRandCurrentValue c.random_current are.random_current) tt))))))))
 
   pub preamble_written : (c : ConsensusFacts) → AreFactsInRange flavour c
       → IsWritten (consensus_tables flavour) (preamble flavour c) []
@@ -165,7 +173,7 @@ module _ (flavour : Flavour) where
     plain = refl;
     opens = refl;
     said =
-        both (said_rest_if flavour the.Contact source.contact)
+        both (said_rest_if (has_rests flavour) the.Contact source.contact)
         (both (said_once (consensus_tables flavour) _ _
         (suits_vote_digest flavour source.vote_digest are.vote_digest)) tt);
   }
@@ -207,9 +215,9 @@ module _ (flavour : Flavour) where
   suits_signature : (s : SignatureLine) → IsSignatureInRange s
       → SuitsConsensus flavour signature_row (signature_entry s)
   suits_signature s are =
-      suits flavour the.DirectorySignature Many kind.Signature (signature_entry s) refl (λ p. refl)
-      (λ across p. ap (says (λ (found : Option VoteSignature). value.Own (own.Signature found)))
-      (signature_again across.is_signed p the.DirectorySignature s are))
+      suits_reading (has_signatures flavour) the.DirectorySignature Many (signature_entry s)
+      (λ p. signature_said p the.DirectorySignature s) refl (λ p. refl) (λ p. refl)
+      (λ across p. signature_again across.is_signed p the.DirectorySignature s are)
 
   pub footer_written : (weights : Option (List ℕ)) (lines : List SignatureLine) → All IsSignatureInRange lines
       → IsWritten (consensus_tables flavour) (footer weights lines) []
@@ -220,7 +228,7 @@ module _ (flavour : Flavour) where
     plain = refl;
     opens = refl;
     said =
-        both (said_rest_if flavour the.BandwidthWeights weights)
+        both (said_rest_if (has_rests flavour) the.BandwidthWeights weights)
         (both (said_of_each (consensus_tables flavour) signature_row signature_entry IsSignatureInRange lines refl refl
         are suits_signature) tt);
   }

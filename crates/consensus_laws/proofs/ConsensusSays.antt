@@ -1,5 +1,5 @@
 -- What is read of a section of a consensus that was written says what was written.
-use Rattle.std.proofs.Common.{◌≡◌, ℕ, ◌≤◌, List, [], Option, refl, ap, ◌∙◌, arith}
+use Rattle.std.proofs.Common.{◌≡◌, ℕ, ◌≤◌, List, [], Option, refl, sym, ap, subst, ◌∙◌, arith}
 use Rattle.item_terms.specs.Words.{words_of}
 use Rattle.dir_values.specs.FlagSets.{as_set, set_text}
 use Rattle.frame_terms.specs.Keywords.{same}
@@ -18,7 +18,7 @@ use Rattle.frame_laws.proofs.Sections.{rows_in}
 use Rattle.frame_laws.proofs.StandingParts.{rest_part}
 use Rattle.line_laws.specs.Again.{AreFlagsInRange}
 use Rattle.line_laws.proofs.WrittenDelays.{flags_again}
-use Rattle.line_laws.proofs.WrittenSources.{address_part, nickname_part}
+use Rattle.group_laws.proofs.SourceRows.{SourceIs, source_back}
 use Rattle.consensus_terms.specs.declared.consensus.ConsensusFacts.{ConsensusFacts}
 use Rattle.consensus_terms.specs.declared.consensus.SourceLine.{SourceLine}
 use Rattle.consensus_terms.specs.declared.flavour.Flavour.{Flavour}
@@ -105,17 +105,19 @@ module _ {limit : ℕ} {bytes : List ℕ} {taken : List (Taken (Value ConsensusV
   unfolding same
   source_says s read =
       let source = row_read the.DirSource read refl in
-      let item = item_of_row source in
-      let there = rest_part source.stand.in_place.0 in
-      let name = nickname_part bytes _ s.nickname s.identity s.address s.ip s.dir_port s.or_port there in
-      let host = address_part bytes _ s.nickname s.identity s.address s.ip s.dir_port s.or_port there in
+      let found =
+      subst (λ (o : Option ConsensusTaken).
+      SourceIs bytes (source_in o) s.nickname s.identity s.address s.ip s.dir_port s.or_port)
+      (sym (item_of_row source))
+      (source_back s.nickname s.identity s.address s.ip s.dir_port s.or_port bytes _
+      (rest_part source.stand.in_place.0)) in
       λ i. record {
-        nickname = (ap (λ (o : Option ConsensusTaken). part bytes (source_in o).nickname) item ∙ name) i;
-        identity = ap (λ (o : Option ConsensusTaken). (source_in o).identity) item i;
-        address = (ap (λ (o : Option ConsensusTaken). part bytes (source_in o).address) item ∙ host) i;
-        ip = ap (λ (o : Option ConsensusTaken). (source_in o).ip) item i;
-        dir_port = ap (λ (o : Option ConsensusTaken). (source_in o).dir_port) item i;
-        or_port = ap (λ (o : Option ConsensusTaken). (source_in o).or_port) item i;
+        nickname = found.nickname i;
+        identity = found.identity i;
+        address = found.address i;
+        ip = found.ip i;
+        dir_port = found.dir_port i;
+        or_port = found.or_port i;
         contact = text_if_said _ s.contact (row_read the.Contact read refl) i;
         vote_digest = ap vote_digest_in (item_of_row (row_read the.VoteDigest read refl)) i;
       }

@@ -42,7 +42,8 @@ use Rattle.consensus_laws.specs.Again.{IsMicroInRange, IsRouterInRange}
 use Rattle.consensus_laws.specs.Items.{p_text, w_text}
 use Rattle.consensus_laws.proofs.ConsensusItems.{ConsensusEntry, ConsensusPart, ConsensusRow, IsSaidHere}
 use Rattle.consensus_laws.proofs.ConsensusItems.{SuitsConsensus}
-use Rattle.consensus_laws.proofs.ConsensusItems.{said_rest_if, says, suits}
+use Rattle.consensus_laws.proofs.ConsensusItems.{has_rests, says, suits}
+use Rattle.group_laws.proofs.SourceRows.{said_rest_if}
 use Rattle.consensus_laws.proofs.RelayLines.{bandwidth_again, micro_digest_again, relay_said, router_again, router_text}
 
 -- ---- its items
@@ -161,8 +162,8 @@ router_said flavour r are listed =
     both (said_if (consensus_tables flavour) a_row r.a IsAddressInRange refl are.a (suits_address flavour))
     (both (said_m flavour r.m are.m (has_m flavour r listed))
     (both (said_flags flavour r.flags are.flags)
-    (both (said_rest_if flavour the.V r.v)
-    (both (said_rest_if flavour the.Pr r.pr)
+    (both (said_rest_if (has_rests flavour) the.V r.v)
+    (both (said_rest_if (has_rests flavour) the.Pr r.pr)
     (both (said_w flavour r.w are.w)
-    (both (said_rest_if flavour the.P (p_text flavour r.p))
+    (both (said_rest_if (has_rests flavour) the.P (p_text flavour r.p))
     (both (said_none (consensus_tables flavour) (row the.Id Optional (kind.Entry entry.Ed)) refl) tt)))))))

@@ -1,15 +1,21 @@
 -- What is read of the footer of a consensus that was written: its signatures, and where the signed part ends.
 use Rattle.std.proofs.Common.{◌≡◌, ℕ, ◌+◌, ◌≤◌, ◌^◌, ◌-◌, Bool, true, false, List, [], ◌∷◌, ◌++◌, length, Option, Some}
-use Rattle.std.proofs.Common.{None, refl, sym, ap, ◌∙◌, arith, append-nil}
-use Rattle.std.specs.Prelude.{◌||◌, codes, map, min, if◌then◌else◌}
+use Rattle.std.proofs.Common.{None, refl, sym, ap, subst, ◌∙◌, arith, append-nil}
+use Rattle.std.specs.Prelude.{◌||◌, codes, map, min, option_map, if◌then◌else◌}
 use Rattle.std.specs.Str.{bytes_eq}
 use Rattle.std.proofs.lemmas.Grind.{flat_map-append}
 use Rattle.dir_values.proofs.Orders.{same_text}
+use Rattle.dir_values.specs.Names.{algorithm}
+use Rattle.dir_values.specs.declared.algorithm.Algorithm.{Algorithm}
+use Rattle.dir_values.specs.declared.algorithm.Algorithm.TheVariants.{Sha256}
+use Rattle.dirdoc_grammar.specs.Bodies.{body_text}
 use Rattle.dirdoc_grammar.specs.Writing.{item_text}
 use Rattle.frame_terms.specs.declared.document.Taken.{Taken}
 use Rattle.frame_terms.specs.declared.keyword.Keyword.TheVariants as the
+use Rattle.frame_values.specs.Fields.{span}
 use Rattle.frame_values.specs.Parts.{bytes_in}
 use Rattle.frame_values.specs.Values.{item_at}
+use Rattle.frame_values.specs.declared.found.VoteSignature.{VoteSignature}
 use Rattle.frame_values.specs.declared.values.Value.{Value}
 use Rattle.frame_values.specs.declared.values.Value.TheVariants as value
 use Rattle.frame_laws.proofs.Entries.{after_one, all_taken, item_of}
@@ -19,7 +25,7 @@ use Rattle.frame_laws.proofs.ReadRows.{IsRead, Stand, item_of_row}
 use Rattle.frame_laws.proofs.RowValues.{text_entry_if}
 use Rattle.frame_laws.proofs.StandingParts.{spelled}
 use Rattle.frame_laws.proofs.WrittenItems.{lines_at}
-use Rattle.consensus_terms.specs.Signed.{signer_text}
+use Rattle.group_laws.specs.Again as group
 use Rattle.consensus_terms.specs.declared.signature.SignatureLine.{SignatureLine}
 use Rattle.consensus_frame.specs.declared.value.ConsensusValue.{ConsensusValue}
 use Rattle.consensus_frame.specs.declared.value.ConsensusValue.TheVariants as own
@@ -28,15 +34,20 @@ use Rattle.consensus_laws.specs.Again.{known_signatures}
 use Rattle.consensus_laws.proofs.ConsensusItems.{ConsensusEntry}
 use Rattle.consensus_laws.proofs.ConsensusRows.{signature_entry, signature_row}
 use Rattle.consensus_laws.proofs.ConsensusSays.{ConsensusTaken}
-use Rattle.consensus_laws.proofs.SignatureLines.{said_if, signature_said}
+use Rattle.consensus_laws.proofs.SignatureLines.{name_if, signature_said, signer_same}
 
 -- ---- signatures
+
+-- what is said by this name
+abbrev said_by : ℕ → Option (List ℕ) → SignatureLine → Option VoteSignature
+said_by p name s = group.signature_said p the.DirectorySignature name s.identity s.key_digest s.signature
 
 -- a signature in front of others, where it is known
 by_tests : (a b : Bool) (bytes : List ℕ) (p : ℕ) (s : SignatureLine) (rest : List SignatureLine)
     → bytes_eq s.algorithm (codes "sha1") ≡ a → bytes_eq s.algorithm (codes "sha256") ≡ b
-    → bytes_in bytes (lines_at p the.DirectorySignature (signer_text s) (codes "SIGNATURE") s.signature) ≡ s.signature
-    → signatures_in bytes (value.Own (own.Signature (said_if a b p the.DirectorySignature s))) ++ rest
+    → bytes_in bytes (span (group.lines_start p the.DirectorySignature
+    (group.signer_text (name_if a s.algorithm) s.identity s.key_digest)) (body_text s.signature)) ≡ s.signature
+    → signatures_in bytes (value.Own (own.Signature (said_by p (name_if a s.algorithm) s))) ++ rest
     ≡ (if a || b then s ∷ rest else rest)
 by_tests true b bytes p s rest first second signature =
     let name = same_text s.algorithm (codes "sha1") first in
@@ -46,15 +57,30 @@ by_tests true b bytes p s rest first second signature =
       key_digest = s.key_digest;
       signature = signature i;
     } ∷ rest
-by_tests false true bytes p s rest first second signature =
-    let name = same_text s.algorithm (codes "sha256") second in
-    λ i. record {
-      algorithm = sym name i;
-      identity = s.identity;
-      key_digest = s.key_digest;
-      signature = signature i;
-    } ∷ rest
-by_tests false false bytes p s rest first second signature = refl
+by_tests false b bytes p s rest first second signature =
+    ap (λ (f : Option Algorithm). found_by f) (known s.algorithm first second) ∙ by b second
+  where
+    known : (name : List ℕ) → bytes_eq name (codes "sha1") ≡ false → bytes_eq name (codes "sha256") ≡ b
+        → algorithm name ≡ (if b then Some Sha256 else None)
+    known name other is = rw (other, is) refl
+
+    found_by : Option Algorithm → List SignatureLine
+    found_by f =
+        signatures_in bytes (value.Own (own.Signature (option_map (λ (a : Option Algorithm).
+        group.signature_at p the.DirectorySignature (Some s.algorithm) a s.identity s.key_digest s.signature)
+        (option_map (λ a. Some a) f)))) ++ rest
+
+    by : (t : Bool) → bytes_eq s.algorithm (codes "sha256") ≡ t
+        → found_by (if t then Some Sha256 else None) ≡ (if t then s ∷ rest else rest)
+    by true is =
+        let name = same_text s.algorithm (codes "sha256") is in
+        λ i. record {
+          algorithm = sym name i;
+          identity = s.identity;
+          key_digest = s.key_digest;
+          signature = signature i;
+        } ∷ rest
+    by false is = refl
 
 each_signature : (limit : ℕ) (bytes : List ℕ) (place : ℕ) (lines : List SignatureLine)
     → Stand limit bytes place (map signature_entry lines)
@@ -63,7 +89,9 @@ each_signature limit bytes place [] stand = refl
 each_signature limit bytes place (s ∷ lines) stand =
     let next = after_one place (signature_entry s) in
     let found = signatures_in bytes (value.Own (own.Signature (signature_said place the.DirectorySignature s))) in
-    let spells = spelled s.signature stand.writable.0.object.bytes stand.in_place.0 refl in
+    let spells = subst (λ (t : List ℕ).
+    bytes_in bytes (lines_at place the.DirectorySignature t (codes "SIGNATURE") s.signature) ≡ s.signature)
+    (signer_same s) (spelled s.signature stand.writable.0.object.bytes stand.in_place.0 refl) in
     ap (λ (l : List SignatureLine). found ++ l)
     (each_signature limit bytes next lines (record { writable = stand.writable.1; in_place = stand.in_place.1 }))
     ∙ by_tests (bytes_eq s.algorithm (codes "sha1")) (bytes_eq s.algorithm (codes "sha256")) bytes place s

@@ -9,6 +9,7 @@ use Rattle.dirdoc_grammar.specs.Writing.{NewItem}
 use Rattle.frame_terms.specs.declared.keyword.Keyword.{Keyword}
 use Rattle.frame_terms.specs.declared.keyword.Keyword.TheVariants as the
 use Rattle.frame_values.specs.Items.{bare, item_if, timed}
+use Rattle.group_laws.specs.Lists.{some_list}
 use Rattle.random_lines.specs.Values.{random_text}
 use Rattle.list_values.specs.Params.{params_text}
 use Rattle.list_values.specs.Protocols.{protocols_text}
@@ -32,8 +33,7 @@ words_item keyword words = bare keyword (join_with_byte space words)
 
 -- the text of a list, where it is not empty
 abbrev pub list_if : {X : Type 0} → (List X → List ℕ) → List X → Option (List ℕ)
-list_if text_of [] = None
-list_if text_of (first ∷ rest) = Some (text_of (first ∷ rest))
+list_if text_of list = option_map text_of (some_list list)
 
 -- ---- the preamble
 
