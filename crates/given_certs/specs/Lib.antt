@@ -1,0 +1,4 @@
+pub mod Lifted
+pub mod Given
+pub mod Inside
+pub mod Within
