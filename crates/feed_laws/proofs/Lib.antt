@@ -1,0 +1,4 @@
+pub mod Settling
+pub mod OneMore
+pub mod Refusing
+pub mod Opening
