@@ -29,7 +29,8 @@ use Rattle.range_laws.proofs.EntryReads.{IsMicro, bandwidths_read, ed_reads, mic
 use Rattle.range_laws.proofs.ReadNames.{IsName}
 use Rattle.range_laws.proofs.ReadSteps.{ReadAs, any_reads, was_read}
 use Rattle.range_laws.proofs.RelayReads.{AreNamesAt, IsAddressAt, IsLine, address_reads, flags_read, relay_reads}
-use Rattle.range_laws.proofs.VoteReads.{VoteSays, rest_read, said}
+use Rattle.range_laws.proofs.LineReads.{rest_read}
+use Rattle.range_laws.proofs.VoteReads.{VoteSays, said}
 
 -- ---- values of their own
 
@@ -94,7 +95,7 @@ pub entry_rest_says : {bytes : List ℕ} {v : Value VoteValue} → VoteSays byte
     → TextIs IsLineRest bytes v
 entry_rest_says {bytes} {v} says =
     was_read (TextIs IsLineRest bytes) (value_at (kind.Entry entry.Rest) says.item) v
-    (rest_read bytes says.item says.sound) (said says).1
+    (rest_read VoteValue bytes says.item says.sound) (said says).1
 
 pub widths_say : {bytes : List ℕ} {v : Value VoteValue} → VoteSays bytes (kind.Entry entry.Bandwidths) v → WidthsAre v
 widths_say {bytes} {v} says =

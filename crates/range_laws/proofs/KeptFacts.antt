@@ -23,7 +23,7 @@ use Rattle.range_laws.specs.Votes.{IsInRangeButForLimits}
 use Rattle.range_laws.proofs.CertRanges.{has_bytes}
 use Rattle.range_laws.proofs.EntryTexts as entry
 use Rattle.range_laws.proofs.KeptEntries.{AreKept, IsKept, count_map, numbers_small}
-use Rattle.range_laws.proofs.KeptHeads.{AuthorityIs, HeadIs}
+use Rattle.range_laws.proofs.KeptHeads.{AuthorityOf, HeadIs}
 use Rattle.range_laws.proofs.ReadBytes.{object_bytes}
 use Rattle.range_laws.proofs.ReadLists.{params_ranged, protocols_ranged, versions_ranged}
 use Rattle.range_laws.proofs.ReadNames.{IsName, count_of_set, each_of_set}
@@ -83,7 +83,7 @@ module _ (bytes : List ℕ) where
   }
 
   -- what is kept is in range, and its items may be written
-  pub facts_ranged : IsBytes bytes → (kept : Kept) → HeadIs bytes kept.head → AuthorityIs bytes kept.head
+  pub facts_ranged : IsBytes bytes → (kept : Kept) → HeadIs bytes kept.head → AuthorityOf bytes kept.head
       → AreKept bytes kept.entries → AreEntriesInRange (map (entry_in bytes) kept.entries)
       → IsInRangeButForLimits (facts_of bytes kept)
   facts_ranged are kept head authority entries ranged =

@@ -11,6 +11,7 @@ pub mod CertRanges
 pub mod CertRead
 pub mod RelayReads
 pub mod EntryReads
+pub mod LineReads
 pub mod VoteReads
 pub mod EntrySays
 pub mod VoteStands

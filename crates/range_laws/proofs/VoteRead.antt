@@ -37,7 +37,7 @@ use Rattle.range_laws.proofs.CertRead.{items_writable}
 use Rattle.range_laws.proofs.EntryKeys.{keys_apart}
 use Rattle.range_laws.proofs.EntryRoom.{VoteGroup, few_entries}
 use Rattle.range_laws.proofs.KeptEntries.{AreKept, IsKept, count_map}
-use Rattle.range_laws.proofs.KeptHeads.{AuthorityIs, HasAuthority, KeptIs, nothing_kept, one_more}
+use Rattle.range_laws.proofs.KeptHeads.{AuthorityOf, HasAuthority, KeptIs, nothing_kept, one_more}
 use Rattle.range_laws.proofs.KeptSome.{AreSome, none_some, some_kept}
 use Rattle.range_laws.proofs.Saying.{EachSound, all_sound, each_stands}
 use Rattle.range_laws.proofs.KeptFacts.{facts_ranged}
@@ -121,7 +121,7 @@ entries_ranged bytes entries are some = record {
 
 -- ---- the law
 
-none_left : (bytes : List ℕ) (head : Head) → AuthorityIs bytes head ⊎ HasAuthority [] → AuthorityIs bytes head
+none_left : (bytes : List ℕ) (head : Head) → AuthorityOf bytes head ⊎ HasAuthority [] → AuthorityOf bytes head
 none_left bytes head (inl is) = is
 none_left bytes head (inr has) = absurd has
 

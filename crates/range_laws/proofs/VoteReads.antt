@@ -1,50 +1,32 @@
 -- What the items of a vote say is in range, by the kinds of their rows.
-use Rattle.std.proofs.Common.{◌≡◌, ℕ, ◌+◌, ◌<◌, ◌≤◌, ◌^◌, Bool, true, false, List, [], length, Option, None, Result, Ok}
-use Rattle.std.proofs.Common.{Err, refl, sym, ap, subst, ◌∙◌, arith}
-use Rattle.std.specs.Prelude.{All, codes, nat_lt, if◌then◌else◌}
-use Rattle.std.proofs.lemmas.Bool.{ltb-false}
+use Rattle.std.proofs.Common.{◌≡◌, ℕ, ◌≤◌, true, List, [], length, Option, Some, None, Ok, arith}
+use Rattle.std.specs.Prelude.{All, IfSome, is_some}
 use Rattle.item_terms.specs.Items.{Item}
 use Rattle.item_terms.specs.Words.{words_of}
-use Rattle.dir_bytes.specs.Fields.{address}
-use Rattle.dir_values.specs.Digests.{fingerprint, key_digest}
 use Rattle.dir_values.specs.FlagSets.{wrong_flag}
-use Rattle.dir_values.specs.Names.{is_nickname}
-use Rattle.dir_values.specs.Numbers.{number_of, port_of, wrong_number}
-use Rattle.dir_values.specs.declared.algorithm.Algorithm.{Algorithm}
-use Rattle.dir_values.specs.declared.digest.Digest1.{Digest1}
-use Rattle.dir_values.specs.declared.digest.Fingerprint.{Fingerprint}
-use Rattle.dirdoc_grammar.specs.Writers.{is_argument}
+use Rattle.dir_values.specs.Numbers.{wrong_number}
 use Rattle.dirdoc_grammar.specs.Writing.{IsLineRest}
-use Rattle.frame_terms.specs.Rows.{limit_number}
-use Rattle.frame_terms.specs.declared.fault.FrameFault.{FrameFault}
-use Rattle.frame_terms.specs.declared.fault.FrameReason.TheVariants.{TooMany}
-use Rattle.frame_terms.specs.declared.row.Limit.{Limit}
+use Rattle.frame_terms.specs.declared.document.Taken.{Taken}
 use Rattle.frame_terms.specs.declared.row.Limit.TheVariants as limit
-use Rattle.frame_values.specs.Arguments.{Argument, arguments_of, field, front, next, others}
-use Rattle.frame_values.specs.Faults.{too_many}
-use Rattle.frame_values.specs.Fields.{is_there, span_if}
-use Rattle.frame_values.specs.Lines.{delays_of, rest_of, rest_unless, source_of}
-use Rattle.frame_values.specs.Parts.{part}
-use Rattle.frame_values.specs.Ranges.{AreTwenty}
-use Rattle.frame_values.specs.Signatures.{after_algorithm, algorithm_if, has_words, is_space, object_of, signature_of, signed_by}
-use Rattle.frame_values.specs.declared.found.DirSource.{DirSource}
-use Rattle.frame_values.specs.declared.found.Span.{Span}
-use Rattle.frame_values.specs.declared.found.VoteSignature.{VoteSignature}
+use Rattle.frame_values.specs.Arguments.{arguments_of}
+use Rattle.frame_values.specs.Values.{own_of_value}
 use Rattle.frame_values.specs.declared.values.Value.{Value}
 use Rattle.frame_values.specs.declared.values.Value.TheVariants as value
-use Rattle.frame_laws.proofs.StandingParts.{rest_part}
 use Rattle.list_values.specs.Params.{wrong_param}
+use Rattle.vote_doc.specs.Saying.{delays_in, delays_of_value, signature_in, signature_of_value, source_in}
+use Rattle.vote_doc.specs.Saying.{source_of_value}
 use Rattle.vote_frame.specs.Tables.{over_limit, value_at, vote_tables}
 use Rattle.vote_frame.specs.declared.frame.VoteKind.{VoteKind}
 use Rattle.vote_frame.specs.declared.frame.VoteKind.TheVariants as kind
 use Rattle.vote_frame.specs.declared.frame.VoteValue.{VoteValue}
 use Rattle.vote_frame.specs.declared.frame.VoteValue.TheVariants as own
-use Rattle.range_laws.proofs.CertRanges.{TextIs}
-use Rattle.range_laws.proofs.ItemArguments.{IsSound, are_found, found_word, front_found, others_found}
-use Rattle.range_laws.proofs.ReadNames.{IsName, count_words, names_of_words}
-use Rattle.range_laws.proofs.ReadSteps.{ReadAs, any_reads, field_reads, fingerprint_reads, if_reads, key_digest_reads}
-use Rattle.range_laws.proofs.ReadSteps.{next_reads, no_fault, number_within, rest_reads, span_reads, was_read}
-use Rattle.range_laws.proofs.RelayReads.{IsNickname, ip_reads, nickname_reads, port_reads}
+use Rattle.vote_laws.proofs.VoteItems.{has_flags, has_lists, has_methods, has_rests, has_signature, has_sources}
+use Rattle.vote_laws.proofs.VoteItems.{has_times}
+use Rattle.range_laws.proofs.CertRanges.{TextIs, twenty_zeros}
+use Rattle.range_laws.proofs.LineReads.{AreDelays, IsSigned, IsSourceIn, delays_read, few_words, reads_say, rests_say}
+use Rattle.range_laws.proofs.LineReads.{signature_reads, source_reads, texts_say}
+use Rattle.range_laws.proofs.ReadNames.{IsName, names_of_words}
+use Rattle.range_laws.proofs.ReadSteps.{no_fault}
 use Rattle.range_laws.proofs.Saying.{Says}
 
 -- ---- values of their own
@@ -55,141 +37,20 @@ DelaysAre (value.Own (own.Delays vote dist)) = (vote ≤ 4294967295) × (dist �
 DelaysAre _ = Unit {0}
 
 -- an authority
-pub record IsSourceIn (bytes : List ℕ) (source : DirSource) : Type 0 where
-  pub nickname : is_nickname (part bytes source.nickname) ≡ true
-  pub identity : AreTwenty source.identity.0
-  pub address : is_argument (part bytes source.address) ≡ true
-  pub ip : source.ip < 2 ^ 32
-  pub dir_port : source.dir_port ≤ 65535
-  pub or_port : source.or_port ≤ 65535
-
 abbrev pub SourceIs : List ℕ → Value VoteValue → Type 0
 SourceIs bytes (value.Own (own.Source source)) = IsSourceIn bytes source
 SourceIs bytes _ = ⊥
 
 -- a signature
-abbrev pub IsSigned : VoteSignature → Type 0
-IsSigned signature = AreTwenty signature.identity.0 × AreTwenty signature.key_digest.0
-
 abbrev pub SignatureIs : Value VoteValue → Type 0
 SignatureIs (value.Own (own.Signature signature)) = IsSigned signature
 SignatureIs _ = Unit {0}
-
--- ---- what is read of them
-
-abbrev AreDelays : ℕ × ℕ → Type 0
-AreDelays delays = (delays.0 ≤ 4294967295) × (delays.1 ≤ 4294967295)
-
-abbrev both_made : ℕ → ℕ → Result (ℕ × ℕ) ℕ
-both_made a b = Ok (a, b)
-
-seconds_read : (argument : Argument) → ReadAs (λ (n : ℕ). n ≤ 4294967295) (field argument (number_of argument.text))
-seconds_read argument =
-    field_reads (λ (n : ℕ). n ≤ 4294967295) argument (number_of argument.text)
-    (λ n is. number_within 4294967295 argument.text n is)
-
-delays_read : (item : Item) → ReadAs AreDelays (delays_of item)
-delays_read item =
-    let first = front item.place (arguments_of item) in
-    let second = front item.place (others (arguments_of item)) in
-    let f0 = field first (number_of first.text) in
-    let f1 = field second (number_of second.text) in
-    let m1 = λ (a b : ℕ). both_made a b in
-    let m0 = λ (a : ℕ). next f1 (m1 a) in
-    next_reads (λ (n : ℕ). n ≤ 4294967295) AreDelays f0 m0 (seconds_read first) (λ a is_a.
-    next_reads (λ (n : ℕ). n ≤ 4294967295) AreDelays f1 (m1 a) (seconds_read second) (λ b is_b. (is_a, is_b)))
-
-abbrev source_made : Span → Fingerprint → Span → ℕ → ℕ → ℕ → Result DirSource ℕ
-source_made nickname digest host ip dir_port or_port = Ok (record {
-  nickname = nickname;
-  identity = digest;
-  address = host;
-  ip = ip;
-  dir_port = dir_port;
-  or_port = or_port;
-})
-
-abbrev IsHost : List ℕ → Span → Type 0
-IsHost bytes span = is_argument (part bytes span) ≡ true
-
-source_reads : (bytes : List ℕ) (item : Item) → IsSound bytes item → ReadAs (IsSourceIn bytes) (source_of item)
-source_reads bytes item sound =
-    let a0 = arguments_of item in
-    let a1 = others a0 in
-    let a2 = others a1 in
-    let a3 = others a2 in
-    let a4 = others a3 in
-    let a5 = others a4 in
-    let found0 = are_found sound in
-    let found2 = others_found bytes a1 (others_found bytes a0 found0) in
-    let t0 = front item.place a0 in
-    let t1 = front item.place a1 in
-    let t2 = front item.place a2 in
-    let t3 = front item.place a3 in
-    let t4 = front item.place a4 in
-    let t5 = front item.place a5 in
-    let f0 = field t0 (span_if (is_nickname t0.text) t0) in
-    let f1 = field t1 (fingerprint t1.text) in
-    let f2 = field t2 (span_if (is_there t2.text) t2) in
-    let f3 = field t3 (address t3.text) in
-    let f4 = field t4 (port_of t4.text) in
-    let f5 = field t5 (port_of t5.text) in
-    let m5 = λ (n : Span) (k : Fingerprint) (h : Span) (i d o : ℕ). source_made n k h i d o in
-    let m4 = λ (n : Span) (k : Fingerprint) (h : Span) (i d : ℕ). next f5 (m5 n k h i d) in
-    let m3 = λ (n : Span) (k : Fingerprint) (h : Span) (i : ℕ). next f4 (m4 n k h i) in
-    let m2 = λ (n : Span) (k : Fingerprint) (h : Span). next f3 (m3 n k h) in
-    let m1 = λ (n : Span) (k : Fingerprint). next f2 (m2 n k) in
-    let m0 = λ (n : Span). next f1 (m1 n) in
-    let Source : DirSource → Type 0 = IsSourceIn bytes in
-    next_reads (IsNickname bytes) Source f0 m0 (nickname_reads bytes item.place a0 found0) (λ n is_n.
-    next_reads (λ (key : Fingerprint). AreTwenty key.0) Source f1 (m1 n) (fingerprint_reads t1 t1.text) (λ k is_k.
-    next_reads (IsHost bytes) Source f2 (m2 n k)
-    (span_reads (IsHost bytes) t2 (is_there t2.text) (λ some.
-    let found = front_found bytes item.place a2 found2 some in
-    ap is_argument found.part ∙ found_word t2.text some found.word)) (λ h is_h.
-    next_reads (λ (i : ℕ). i < 2 ^ 32) Source f3 (m3 n k h) (ip_reads t3) (λ i is_i.
-    next_reads (λ (d : ℕ). d ≤ 65535) Source f4 (m4 n k h i) (port_reads t4) (λ d is_d.
-    next_reads (λ (o : ℕ). o ≤ 65535) Source f5 (m5 n k h i d) (port_reads t5) (λ o is_o.
-    record { nickname = is_n; identity = is_k; address = is_h; ip = is_i; dir_port = is_d; or_port = is_o }))))))
-
-abbrev signature_made : Option Algorithm → Fingerprint → Digest1 → Span → Result VoteSignature ℕ
-signature_made name signer digest lines =
-    Ok (record { algorithm = name; identity = signer; key_digest = digest; signature = lines })
-
-signed_reads : (name : Option Algorithm) (arguments : List Argument) (item : Item)
-    → ReadAs IsSigned (signed_by name arguments item)
-signed_reads name arguments item =
-    let t0 = front item.place arguments in
-    let t1 = front item.place (others arguments) in
-    let f0 = field t0 (fingerprint t0.text) in
-    let f1 = field t1 (key_digest t1.text) in
-    let f2 = object_of (has_words item.object (codes "SIGNATURE")) item in
-    let m2 = λ (s : Fingerprint) (d : Digest1) (lines : Span). signature_made name s d lines in
-    let m1 = λ (s : Fingerprint) (d : Digest1). next f2 (m2 s d) in
-    let m0 = λ (s : Fingerprint). next f1 (m1 s) in
-    next_reads (λ (key : Fingerprint). AreTwenty key.0) IsSigned f0 m0 (fingerprint_reads t0 t0.text) (λ s is_s.
-    next_reads (λ (digest : Digest1). AreTwenty digest.0) IsSigned f1 (m1 s) (key_digest_reads t1 t1.text) (λ d is_d.
-    next_reads (λ (lines : Span). Unit {0}) IsSigned f2 (m2 s d) (any_reads f2) (λ lines is. (is_s, is_d))))
-
-signature_reads : (item : Item) → ReadAs IsSigned (signature_of item)
-signature_reads item =
-    let name = algorithm_if (front item.place (arguments_of item)) in
-    let more = λ (n : Option Algorithm). signed_by n (after_algorithm n (arguments_of item)) item in
-    if_reads IsSigned (is_space item.separator) (next name more) (item.place + length item.keyword)
-    (next_reads (λ (n : Option Algorithm). Unit {0}) IsSigned name more (any_reads name)
-    (λ n is. signed_reads n (after_algorithm n (arguments_of item)) item))
 
 -- ---- what items say
 
 -- an item of this kind of a vote says this
 abbrev pub VoteSays : List ℕ → VoteKind → Value VoteValue → Type 0
 VoteSays bytes of v = Says vote_tables bytes of v
-
--- what follows from what was read
-pub made_reads : {A : Type 0} (P : A → Type 0) (Q : Value VoteValue → Type 0) (read : Result A ℕ)
-    (of : A → Value VoteValue) → ReadAs P read → ((a : A) → P a → Q (of a)) → ReadAs Q (next read (λ a. Ok (of a)))
-made_reads P Q (Ok a) of reads is = is a reads
-made_reads P Q (Err place) of reads is = tt
 
 -- its value, and that it passes no limit
 pub said : {bytes : List ℕ} {of : VoteKind} {v : Value VoteValue} (says : VoteSays bytes of v)
@@ -198,67 +59,30 @@ said {bytes} {of} {v} says =
     no_fault (over_limit says.remembered.listed of says.item) (value_at of says.item) v says.says
 
 pub delays_say : {bytes : List ℕ} {v : Value VoteValue} → VoteSays bytes kind.Delays v → DelaysAre v
-delays_say {bytes} {v} says =
-    let of : ℕ × ℕ → Value VoteValue = λ delays. value.Own (own.Delays delays.0 delays.1) in
-    was_read DelaysAre (value_at kind.Delays says.item) v
-    (made_reads AreDelays DelaysAre (delays_of says.item) of (delays_read says.item) (λ d is. is)) (said says).1
+delays_say says =
+    reads_say has_times.seconds AreDelays DelaysAre (λ across item sound passes. delays_read item) (λ d is. is) says
 
 pub source_says : {bytes : List ℕ} {v : Value VoteValue} → VoteSays bytes kind.Source v → SourceIs bytes v
-source_says {bytes} {v} says =
-    let of : DirSource → Value VoteValue = λ source. value.Own (own.Source source) in
-    was_read (SourceIs bytes) (value_at kind.Source says.item) v
-    (made_reads (IsSourceIn bytes) (SourceIs bytes) (source_of says.item) of (source_reads bytes says.item says.sound)
-    (λ s is. is)) (said says).1
+source_says {bytes} says =
+    reads_say has_sources (IsSourceIn bytes) (SourceIs bytes)
+    (λ across item sound passes. source_reads bytes item sound) (λ s is. is) says
 
 pub signature_says : {bytes : List ℕ} {v : Value VoteValue} → VoteSays bytes kind.Signature v → SignatureIs v
-signature_says {bytes} {v} says =
-    let of : VoteSignature → Value VoteValue = λ signature. value.Own (own.Signature signature) in
-    was_read SignatureIs (value_at kind.Signature says.item) v
-    (made_reads IsSigned SignatureIs (signature_of says.item) of (signature_reads says.item) (λ s is. is)) (said says).1
-
--- ---- rests of lines
-
--- a rest in which nothing is wrong is what stands there
-pub rest_text : (P : List ℕ → Type 0) (bytes : List ℕ) (item : Item) (wrong : Option ℕ) → IsSound bytes item
-    → (wrong ≡ None → P item.arguments)
-    → ReadAs (TextIs {W = VoteValue} P bytes) (next (rest_unless wrong item) (λ text. Ok (value.Text text)))
-rest_text P bytes item wrong sound is =
-    made_reads (λ (span : Span). P (part bytes span)) (TextIs P bytes) (rest_unless wrong item)
-    (λ text. value.Text text)
-    (rest_reads (λ (span : Span). P (part bytes span)) item wrong (λ right. subst P (sym (rest_part sound.in_place)) (is right)))
-    (λ span it. it)
-
-abbrev passes : Result (Unit {0}) FrameFault
-passes = Ok tt
-
--- no more arguments than a limit are no more words
-few_words : (l : Limit) (item : Item) → too_many l item ≡ Ok tt → length (words_of item.arguments) ≤ limit_number l
-few_words l item is = by (nat_lt (limit_number l) (length (arguments_of item))) refl is
-  where
-    over : FrameFault
-    over = record { place = item.place; reason = TooMany l }
-
-    by : (t : Bool) → nat_lt (limit_number l) (length (arguments_of item)) ≡ t → (if t then Err over else passes) ≡ passes
-        → length (words_of item.arguments) ≤ limit_number l
-    by true test e = absurd (cc (e))
-    by false test e =
-        let few = ltb-false (limit_number l) (length (arguments_of item)) test in
-        omega (arith, few, count_words item.start item.arguments)
+signature_says says =
+    reads_say has_signature IsSigned SignatureIs (λ across item sound passes. signature_reads item) (λ s is. is) says
 
 abbrev pub AreFew : ℕ → List ℕ → Type 0
 AreFew most text = length (words_of text) ≤ most
 
 pub methods_say : {bytes : List ℕ} {v : Value VoteValue} → VoteSays bytes kind.Methods v → TextIs (AreFew 64) bytes v
-methods_say {bytes} {v} says =
-    was_read (TextIs (AreFew 64) bytes) (value_at kind.Methods says.item) v
-    (rest_text (AreFew 64) bytes says.item (wrong_number (arguments_of says.item)) says.sound
-    (λ right. few_words limit.Methods says.item (said says).0)) (said says).1
+methods_say says =
+    texts_say (λ (item : Item). wrong_number (arguments_of item)) has_methods (AreFew 64)
+    (λ item passes right. few_words limit.Methods item passes) says
 
 pub params_say : {bytes : List ℕ} {v : Value VoteValue} → VoteSays bytes kind.Params v → TextIs (AreFew 1024) bytes v
-params_say {bytes} {v} says =
-    was_read (TextIs (AreFew 1024) bytes) (value_at kind.Params says.item) v
-    (rest_text (AreFew 1024) bytes says.item (wrong_param (arguments_of says.item)) says.sound
-    (λ right. few_words limit.Params says.item (said says).0)) (said says).1
+params_say says =
+    texts_say (λ (item : Item). wrong_param (arguments_of item)) has_lists.params (AreFew 1024)
+    (λ item passes right. few_words limit.Params item passes) says
 
 -- flags that a vote may know
 pub record AreKnown (text : List ℕ) : Type 0 where
@@ -266,20 +90,46 @@ pub record AreKnown (text : List ℕ) : Type 0 where
   pub names : All IsName (words_of text)
 
 pub flags_say : {bytes : List ℕ} {v : Value VoteValue} → VoteSays bytes kind.KnownFlags v → TextIs AreKnown bytes v
-flags_say {bytes} {v} says =
-    was_read (TextIs AreKnown bytes) (value_at kind.KnownFlags says.item) v
-    (rest_text AreKnown bytes says.item (wrong_flag [] (arguments_of says.item)) says.sound
-    (λ right. record {
-      few = few_words limit.KnownFlags says.item (said says).0;
-      names = names_of_words says.item.start says.item.arguments right;
-    })) (said says).1
+flags_say says =
+    texts_say (λ (item : Item). wrong_flag [] (arguments_of item)) has_flags AreKnown
+    (λ item passes right. record {
+      few = few_words limit.KnownFlags item passes;
+      names = names_of_words item.start item.arguments right;
+    }) says
 
 -- the rest of a line
-pub rest_read : (bytes : List ℕ) (item : Item) → IsSound bytes item
-    → TextIs {W = VoteValue} IsLineRest bytes (value.Text (rest_of item))
-rest_read bytes item sound = subst IsLineRest (sym (rest_part sound.in_place)) sound.rest
-
 pub rest_says : {bytes : List ℕ} {v : Value VoteValue} → VoteSays bytes kind.Rest v → TextIs IsLineRest bytes v
-rest_says {bytes} {v} says =
-    was_read (TextIs IsLineRest bytes) (value_at kind.Rest says.item) v (rest_read bytes says.item says.sound)
-    (said says).1
+rest_says says = rests_say has_rests says
+
+-- ---- what is kept of an item
+
+-- what was taken of a section
+abbrev VoteTaken : Type 0
+VoteTaken = Taken (Value VoteValue)
+
+pub delays_ranged : (one : Option VoteTaken) → IfSome one (λ o. DelaysAre o.value)
+    → ((delays_in one).0 ≤ 4294967295) × ((delays_in one).1 ≤ 4294967295)
+delays_ranged None is = (omega arith, omega arith)
+delays_ranged (Some one) is = by one.value is
+  where
+    by : (v : Value VoteValue) → DelaysAre v
+        → ((delays_of_value (own_of_value v)).0 ≤ 4294967295) × ((delays_of_value (own_of_value v)).1 ≤ 4294967295)
+    by (value.Own (own.Delays vote dist)) it = it
+    by _ it = (omega arith, omega arith)
+
+pub source_ranged : (bytes : List ℕ) (one : Option VoteTaken) → is_some one ≡ true
+    → IfSome one (λ o. SourceIs bytes o.value) → IsSourceIn bytes (source_in one)
+source_ranged bytes None some is = absurd (cc (some))
+source_ranged bytes (Some one) some is = by one.value is
+  where
+    by : (v : Value VoteValue) → SourceIs bytes v → IsSourceIn bytes (source_of_value (own_of_value v))
+    by (value.Own (own.Source source)) it = it
+    by _ it = absurd it
+
+pub signature_ranged : (one : Option VoteTaken) → IfSome one (λ o. SignatureIs o.value) → IsSigned (signature_in one)
+signature_ranged None is = (twenty_zeros, twenty_zeros)
+signature_ranged (Some one) is = by one.value is
+  where
+    by : (v : Value VoteValue) → SignatureIs v → IsSigned (signature_of_value (own_of_value v))
+    by (value.Own (own.Signature signature)) it = it
+    by _ it = (twenty_zeros, twenty_zeros)

@@ -1,0 +1,229 @@
+-- What is read of lines that several kinds of document have is in range, and what items say of such kinds.
+use Rattle.std.proofs.Common.{◌≡◌, ℕ, ◌+◌, ◌<◌, ◌≤◌, ◌^◌, Bool, true, false, List, [], length, Option, None, Result, Ok}
+use Rattle.std.proofs.Common.{Err, refl, sym, ap, subst, ◌∙◌, arith}
+use Rattle.std.specs.Prelude.{All, codes, nat_lt, if◌then◌else◌}
+use Rattle.std.proofs.lemmas.Bool.{ltb-false}
+use Rattle.item_terms.specs.Items.{Item}
+use Rattle.item_terms.specs.Words.{words_of}
+use Rattle.dir_bytes.specs.Fields.{address}
+use Rattle.dir_values.specs.Digests.{fingerprint, key_digest}
+use Rattle.dir_values.specs.Names.{is_nickname}
+use Rattle.dir_values.specs.Numbers.{number_of, port_of}
+use Rattle.dir_values.specs.declared.algorithm.Algorithm.{Algorithm}
+use Rattle.dir_values.specs.declared.digest.Digest1.{Digest1}
+use Rattle.dir_values.specs.declared.digest.Fingerprint.{Fingerprint}
+use Rattle.dirdoc_grammar.specs.Writers.{is_argument}
+use Rattle.dirdoc_grammar.specs.Writing.{IsLineRest}
+use Rattle.frame_terms.specs.Rows.{limit_number}
+use Rattle.frame_terms.specs.Tables.{Tables}
+use Rattle.frame_terms.specs.declared.fault.FrameFault.{FrameFault}
+use Rattle.frame_terms.specs.declared.fault.FrameReason.TheVariants.{TooMany}
+use Rattle.frame_terms.specs.declared.row.Limit.{Limit}
+use Rattle.frame_values.specs.Arguments.{Argument, arguments_of, field, front, next, others}
+use Rattle.frame_values.specs.Faults.{too_many}
+use Rattle.frame_values.specs.Fields.{is_there, span_if}
+use Rattle.frame_values.specs.Lines.{delays_of, rest_of, rest_unless, source_of}
+use Rattle.frame_values.specs.Parts.{part}
+use Rattle.frame_values.specs.Ranges.{AreTwenty}
+use Rattle.frame_values.specs.Signatures.{after_algorithm, algorithm_if, has_words, is_space, object_of}
+use Rattle.frame_values.specs.Signatures.{signature_of, signed_by}
+use Rattle.frame_values.specs.declared.found.DirSource.{DirSource}
+use Rattle.frame_values.specs.declared.found.Span.{Span}
+use Rattle.frame_values.specs.declared.found.VoteSignature.{VoteSignature}
+use Rattle.frame_values.specs.declared.values.Value.{Value}
+use Rattle.frame_values.specs.declared.values.Value.TheVariants as value
+use Rattle.frame_laws.proofs.StandingParts.{rest_part}
+use Rattle.group_laws.proofs.Readings.{Reads, over, said_of, text_at}
+use Rattle.group_laws.proofs.SourceRows.{HasRests}
+use Rattle.range_laws.proofs.CertRanges.{TextIs}
+use Rattle.range_laws.proofs.ItemArguments.{IsSound, are_found, found_word, front_found, others_found}
+use Rattle.range_laws.proofs.ReadNames.{count_words}
+use Rattle.range_laws.proofs.ReadSteps.{ReadAs, any_reads, field_reads, fingerprint_reads, if_reads, key_digest_reads}
+use Rattle.range_laws.proofs.ReadSteps.{next_reads, no_fault, number_within, rest_reads, span_reads, was_read}
+use Rattle.range_laws.proofs.RelayReads.{IsNickname, ip_reads, nickname_reads, port_reads}
+use Rattle.range_laws.proofs.Saying.{Says}
+
+-- ---- values
+
+-- an authority
+pub record IsSourceIn (bytes : List ℕ) (source : DirSource) : Type 0 where
+  pub nickname : is_nickname (part bytes source.nickname) ≡ true
+  pub identity : AreTwenty source.identity.0
+  pub address : is_argument (part bytes source.address) ≡ true
+  pub ip : source.ip < 2 ^ 32
+  pub dir_port : source.dir_port ≤ 65535
+  pub or_port : source.or_port ≤ 65535
+
+-- a signature
+abbrev pub IsSigned : VoteSignature → Type 0
+IsSigned signature = AreTwenty signature.identity.0 × AreTwenty signature.key_digest.0
+
+-- ---- what is read of lines
+
+abbrev pub AreDelays : ℕ × ℕ → Type 0
+AreDelays delays = (delays.0 ≤ 4294967295) × (delays.1 ≤ 4294967295)
+
+abbrev both_made : ℕ → ℕ → Result (ℕ × ℕ) ℕ
+both_made a b = Ok (a, b)
+
+seconds_read : (argument : Argument) → ReadAs (λ (n : ℕ). n ≤ 4294967295) (field argument (number_of argument.text))
+seconds_read argument =
+    field_reads (λ (n : ℕ). n ≤ 4294967295) argument (number_of argument.text)
+    (λ n is. number_within 4294967295 argument.text n is)
+
+pub delays_read : (item : Item) → ReadAs AreDelays (delays_of item)
+delays_read item =
+    let first = front item.place (arguments_of item) in
+    let second = front item.place (others (arguments_of item)) in
+    let f0 = field first (number_of first.text) in
+    let f1 = field second (number_of second.text) in
+    let m1 = λ (a b : ℕ). both_made a b in
+    let m0 = λ (a : ℕ). next f1 (m1 a) in
+    next_reads (λ (n : ℕ). n ≤ 4294967295) AreDelays f0 m0 (seconds_read first) (λ a is_a.
+    next_reads (λ (n : ℕ). n ≤ 4294967295) AreDelays f1 (m1 a) (seconds_read second) (λ b is_b. (is_a, is_b)))
+
+abbrev source_made : Span → Fingerprint → Span → ℕ → ℕ → ℕ → Result DirSource ℕ
+source_made nickname digest host ip dir_port or_port = Ok (record {
+  nickname = nickname;
+  identity = digest;
+  address = host;
+  ip = ip;
+  dir_port = dir_port;
+  or_port = or_port;
+})
+
+abbrev IsHost : List ℕ → Span → Type 0
+IsHost bytes span = is_argument (part bytes span) ≡ true
+
+pub source_reads : (bytes : List ℕ) (item : Item) → IsSound bytes item → ReadAs (IsSourceIn bytes) (source_of item)
+source_reads bytes item sound =
+    let a0 = arguments_of item in
+    let a1 = others a0 in
+    let a2 = others a1 in
+    let a3 = others a2 in
+    let a4 = others a3 in
+    let a5 = others a4 in
+    let found0 = are_found sound in
+    let found2 = others_found bytes a1 (others_found bytes a0 found0) in
+    let t0 = front item.place a0 in
+    let t1 = front item.place a1 in
+    let t2 = front item.place a2 in
+    let t3 = front item.place a3 in
+    let t4 = front item.place a4 in
+    let t5 = front item.place a5 in
+    let f0 = field t0 (span_if (is_nickname t0.text) t0) in
+    let f1 = field t1 (fingerprint t1.text) in
+    let f2 = field t2 (span_if (is_there t2.text) t2) in
+    let f3 = field t3 (address t3.text) in
+    let f4 = field t4 (port_of t4.text) in
+    let f5 = field t5 (port_of t5.text) in
+    let m5 = λ (n : Span) (k : Fingerprint) (h : Span) (i d o : ℕ). source_made n k h i d o in
+    let m4 = λ (n : Span) (k : Fingerprint) (h : Span) (i d : ℕ). next f5 (m5 n k h i d) in
+    let m3 = λ (n : Span) (k : Fingerprint) (h : Span) (i : ℕ). next f4 (m4 n k h i) in
+    let m2 = λ (n : Span) (k : Fingerprint) (h : Span). next f3 (m3 n k h) in
+    let m1 = λ (n : Span) (k : Fingerprint). next f2 (m2 n k) in
+    let m0 = λ (n : Span). next f1 (m1 n) in
+    let Source : DirSource → Type 0 = IsSourceIn bytes in
+    next_reads (IsNickname bytes) Source f0 m0 (nickname_reads bytes item.place a0 found0) (λ n is_n.
+    next_reads (λ (key : Fingerprint). AreTwenty key.0) Source f1 (m1 n) (fingerprint_reads t1 t1.text) (λ k is_k.
+    next_reads (IsHost bytes) Source f2 (m2 n k)
+    (span_reads (IsHost bytes) t2 (is_there t2.text) (λ some.
+    let found = front_found bytes item.place a2 found2 some in
+    ap is_argument found.part ∙ found_word t2.text some found.word)) (λ h is_h.
+    next_reads (λ (i : ℕ). i < 2 ^ 32) Source f3 (m3 n k h) (ip_reads t3) (λ i is_i.
+    next_reads (λ (d : ℕ). d ≤ 65535) Source f4 (m4 n k h i) (port_reads t4) (λ d is_d.
+    next_reads (λ (o : ℕ). o ≤ 65535) Source f5 (m5 n k h i d) (port_reads t5) (λ o is_o.
+    record { nickname = is_n; identity = is_k; address = is_h; ip = is_i; dir_port = is_d; or_port = is_o }))))))
+
+abbrev signature_made : Option Algorithm → Fingerprint → Digest1 → Span → Result VoteSignature ℕ
+signature_made name signer digest lines =
+    Ok (record { algorithm = name; identity = signer; key_digest = digest; signature = lines })
+
+pub signed_reads : (name : Option Algorithm) (arguments : List Argument) (item : Item)
+    → ReadAs IsSigned (signed_by name arguments item)
+signed_reads name arguments item =
+    let t0 = front item.place arguments in
+    let t1 = front item.place (others arguments) in
+    let f0 = field t0 (fingerprint t0.text) in
+    let f1 = field t1 (key_digest t1.text) in
+    let f2 = object_of (has_words item.object (codes "SIGNATURE")) item in
+    let m2 = λ (s : Fingerprint) (d : Digest1) (lines : Span). signature_made name s d lines in
+    let m1 = λ (s : Fingerprint) (d : Digest1). next f2 (m2 s d) in
+    let m0 = λ (s : Fingerprint). next f1 (m1 s) in
+    next_reads (λ (key : Fingerprint). AreTwenty key.0) IsSigned f0 m0 (fingerprint_reads t0 t0.text) (λ s is_s.
+    next_reads (λ (digest : Digest1). AreTwenty digest.0) IsSigned f1 (m1 s) (key_digest_reads t1 t1.text) (λ d is_d.
+    next_reads (λ (lines : Span). Unit {0}) IsSigned f2 (m2 s d) (any_reads f2) (λ lines is. (is_s, is_d))))
+
+pub signature_reads : (item : Item) → ReadAs IsSigned (signature_of item)
+signature_reads item =
+    let name = algorithm_if (front item.place (arguments_of item)) in
+    let more = λ (n : Option Algorithm). signed_by n (after_algorithm n (arguments_of item)) item in
+    if_reads IsSigned (is_space item.separator) (next name more) (item.place + length item.keyword)
+    (next_reads (λ (n : Option Algorithm). Unit {0}) IsSigned name more (any_reads name)
+    (λ n is. signed_reads n (after_algorithm n (arguments_of item)) item))
+
+-- ---- what items of a kind say
+
+-- what follows from what was read
+pub made_reads : {A V : Type 0} (P : A → Type 0) (Q : V → Type 0) (read : Result A ℕ) (of : A → V) → ReadAs P read
+    → ((a : A) → P a → Q (of a)) → ReadAs Q (next read (λ a. Ok (of a)))
+made_reads P Q (Ok a) of reads is = is a reads
+made_reads P Q (Err place) of reads is = tt
+
+module _ {S K W X A : Type 0} {tables : Tables S K (Value W) X} {kind : K} {most : Option Limit}
+    {read : X → Item → Result A ℕ} {of : A → Value W} {bytes : List ℕ} {v : Value W} where
+  -- what is read of an item that passes its limit is such, and so what it says is
+  pub reads_say : Reads tables kind most read of → (P : A → Type 0) (Q : Value W → Type 0)
+      → ((across : X) (item : Item) → IsSound bytes item → over most item ≡ Ok tt → ReadAs P (read across item))
+      → ((a : A) → P a → Q (of a)) → Says tables bytes kind v → Q v
+  reads_say has P Q reads then_ says =
+      let item = says.item in
+      let found = read says.remembered item in
+      let is = no_fault (over most item) (said_of of found) v (sym (has.values says.remembered item) ∙ says.says) in
+      was_read Q (said_of of found) v
+      (made_reads P Q found of (reads says.remembered item says.sound is.0) then_) is.1
+
+-- ---- rests of lines
+
+-- the rest of a line
+pub rest_read : (W : Type 0) (bytes : List ℕ) (item : Item) → IsSound bytes item
+    → TextIs {W = W} IsLineRest bytes (value.Text (rest_of item))
+rest_read W bytes item sound = subst IsLineRest (sym (rest_part sound.in_place)) sound.rest
+
+module _ {S K W X : Type 0} {tables : Tables S K (Value W) X} {kind : K} {most : Option Limit} {bytes : List ℕ}
+    {v : Value W} where
+  -- a text in which nothing is wrong is what stands there
+  pub texts_say : (wrong : Item → Option ℕ) → Reads tables kind most (λ across item. rest_unless (wrong item) item) text_at
+      → (P : List ℕ → Type 0)
+      → ((item : Item) → over most item ≡ Ok tt → wrong item ≡ None → P item.arguments)
+      → Says tables bytes kind v → TextIs P bytes v
+  texts_say wrong has P is says =
+      reads_say has (λ (span : Span). P (part bytes span)) (TextIs P bytes)
+      (λ across item sound passes.
+      rest_reads (λ (span : Span). P (part bytes span)) item (wrong item)
+      (λ right. subst P (sym (rest_part sound.in_place)) (is item passes right)))
+      (λ span it. it) says
+
+module _ {S K W X : Type 0} {tables : Tables S K (Value W) X} {kind : K} {bytes : List ℕ} {v : Value W} where
+  -- the rest of a line, whatever it is
+  pub rests_say : HasRests tables kind → Says tables bytes kind v → TextIs IsLineRest bytes v
+  rests_say has says =
+      reads_say has (λ (span : Span). IsLineRest (part bytes span)) (TextIs IsLineRest bytes)
+      (λ across item sound passes. rest_read W bytes item sound) (λ span it. it) says
+
+abbrev passes : Result (Unit {0}) FrameFault
+passes = Ok tt
+
+-- no more arguments than a limit are no more words
+pub few_words : (l : Limit) (item : Item) → too_many l item ≡ Ok tt → length (words_of item.arguments) ≤ limit_number l
+few_words l item is = by (nat_lt (limit_number l) (length (arguments_of item))) refl is
+  where
+    past : FrameFault
+    past = record { place = item.place; reason = TooMany l }
+
+    by : (t : Bool) → nat_lt (limit_number l) (length (arguments_of item)) ≡ t → (if t then Err past else passes) ≡ passes
+        → length (words_of item.arguments) ≤ limit_number l
+    by true test e = absurd (cc (e))
+    by false test e =
+        let few = ltb-false (limit_number l) (length (arguments_of item)) test in
+        omega (arith, few, count_words item.start item.arguments)
