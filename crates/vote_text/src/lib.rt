@@ -3,6 +3,8 @@
 
 mod entry;
 mod lists;
+mod made;
 mod writing;
 
+pub use made::write_signed;
 pub use writing::write;

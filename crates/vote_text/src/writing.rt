@@ -78,7 +78,11 @@ fn push_flags(out: &mut Vec<u8>, alloc: Global, facts: &VoteFacts) -> Result<(),
 }
 
 /// The preamble.
-fn push_preamble(out: &mut Vec<u8>, alloc: Global, facts: &VoteFacts) -> Result<(), Memory>
+pub(crate) fn push_preamble(
+    out: &mut Vec<u8>,
+    alloc: Global,
+    facts: &VoteFacts,
+) -> Result<(), Memory>
     ensures ok { OnOk result (out.new.items ≡ out.old.items ++ items_text (texts.preamble_items facts.now)) }
     ensures err { OnErr result (take (vec_len out.old) out.new.items ≡ out.old.items) }
 {
@@ -164,7 +168,11 @@ fn push_randoms(out: &mut Vec<u8>, alloc: Global, facts: &VoteFacts) -> Result<(
 }
 
 /// The authority, and the shared random values.
-fn push_authority(out: &mut Vec<u8>, alloc: Global, facts: &VoteFacts) -> Result<(), Memory>
+pub(crate) fn push_authority(
+    out: &mut Vec<u8>,
+    alloc: Global,
+    facts: &VoteFacts,
+) -> Result<(), Memory>
     ensures ok { OnOk result (out.new.items ≡ out.old.items ++ items_text (texts.authority_items facts.now)) }
     ensures err { OnErr result (take (vec_len out.old) out.new.items ≡ out.old.items) }
 {
