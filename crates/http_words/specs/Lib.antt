@@ -1,0 +1,4 @@
+pub mod DigestLists
+pub mod Paths
+pub mod Replies
+pub mod Words
