@@ -1,4 +1,3 @@
 pub mod Settling
-pub mod OneMore
 pub mod Refusing
 pub mod Opening

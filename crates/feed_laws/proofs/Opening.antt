@@ -12,7 +12,7 @@ use Rattle.dirdoc_grammar.specs.Cursors.{IsOver, fed_by}
 use Rattle.dirdoc_grammar.specs.Feeding.{Settles, first_of}
 use Rattle.dirdoc_grammar.specs.Reading.{from_place}
 use Rattle.dirdoc_grammar.proofs.Endings.{cut_now}
-use Rattle.feed_laws.proofs.OneMore.{more_of}
+use Rattle.dirdoc_grammar.proofs.Endings.{more_of}
 use Rattle.dirdoc_grammar.proofs.FirstLine as first
 use Rattle.frame_terms.specs.declared.document.Open.{Open}
 use Rattle.frame_terms.specs.declared.document.Taken.{Taken}
