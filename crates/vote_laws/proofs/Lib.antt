@@ -1,3 +1,4 @@
+pub mod Values
 pub mod WrittenSources
 pub mod WrittenValues
 pub mod VoteItems

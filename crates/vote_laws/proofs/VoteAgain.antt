@@ -1,5 +1,6 @@
 -- A vote that was written is read again.
-use Rattle.std.proofs.Common.{◌≡◌, ℕ, ◌+◌, ◌≤◌, false, None, List, [], ◌∷◌, ◌++◌, length, take, drop, refl, sym, ap, subst}
+use Rattle.std.proofs.Common.{◌≡◌, ℕ, ◌+◌, ◌≤◌, false, None, List, [], ◌∷◌, ◌++◌, length, take, drop, refl, sym, ap}
+use Rattle.std.proofs.Common.{subst}
 use Rattle.std.proofs.Common.{◌∙◌, append_assoc}
 use Rattle.std.specs.Prelude.{◌&&◌, map}
 use Rattle.std.proofs.lemmas.List.{length-append, map-append}
@@ -33,6 +34,7 @@ use Rattle.vote_frame.specs.declared.frame.VoteSection.TheVariants.{Certificate}
 use Rattle.vote_frame.specs.declared.frame.VoteValue.{VoteValue}
 use Rattle.vote_laws.specs.Again.{IsInRange, IsReadBack, VotesAreReadAgain, as_read}
 use Rattle.vote_laws.proofs.EntryKept.{entries_say}
+use Rattle.vote_laws.proofs.Values.{values_in}
 use Rattle.vote_laws.proofs.VoteItems.{VoteEntry, list_kinds, signature_entry}
 use Rattle.group_laws.proofs.ListRows.{protocols_back, versions_back}
 use Rattle.vote_laws.proofs.VoteLists.{params_back}
@@ -115,10 +117,11 @@ kept_says front facts rest are =
     (sym (append_assoc a (one ∷ []) more)) from_p.back)).front in
     let ended = footer_ended facts.signature are.signature in
     let preamble_read =
-    section_is_read vote_tables limit text at (preamble facts) [] (preamble_written facts are) from_p.front in
+    section_is_read vote_tables limit text at (preamble facts) [] (preamble_written facts (values_in facts are))
+    from_p.front in
     let authority_read =
     section_to_is_read vote_tables at_a (authority facts) certificate_row one
-    (authority_written facts are) refl limit text to_one in
+    (authority_written facts (values_in facts are)) refl limit text to_one in
     let footer_read =
     section_to_is_read vote_tables (footer_place at facts) footer signature_row
     (signature_entry facts.signature) ended.written refl limit text from_e.back in

@@ -42,7 +42,7 @@ use Rattle.vote_frame.specs.declared.frame.VoteKind.TheVariants as kind
 use Rattle.vote_frame.specs.declared.frame.VoteSection.{VoteSection}
 use Rattle.vote_frame.specs.declared.frame.VoteValue.{VoteValue}
 use Rattle.vote_frame.specs.declared.frame.VoteValue.TheVariants as own
-use Rattle.vote_laws.specs.Again.{AreFlags, AreMethods, IsInRange}
+use Rattle.vote_laws.specs.Again.{AreFlags, AreMethods, HasValuesInRange}
 use Rattle.vote_laws.proofs.WrittenSources.{source-written, source_at}
 use Rattle.vote_laws.proofs.WrittenValues.{length-numbers, numbers-written, signature-written, signature_at}
 
@@ -175,7 +175,7 @@ source_entry facts =
     own_entry the.DirSource (source_text facts)
     (λ p. own.Source (source_at (start_of p the.DirSource (source_text facts)) facts))
 
-pub suits_source : (facts : VoteFacts) → IsInRange facts
+pub suits_source : (facts : VoteFacts) → HasValuesInRange facts
     → SuitsVote (row the.DirSource One kind.Source) (source_entry facts)
 suits_source facts are =
     suits_reading has_sources the.DirSource One (source_entry facts)

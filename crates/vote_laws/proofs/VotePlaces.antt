@@ -50,12 +50,19 @@ certificate_place at facts = end_of (authority_place at facts) (authority facts)
 abbrev pub entries_place : ℕ → VoteFacts → ℕ
 entries_place at facts = after_all (certificate_place at facts) (in_cert facts)
 
+-- its footer behind entries that begin at a place, and where it ends
+abbrev pub footer_from : ℕ → VoteFacts → ℕ
+footer_from at_entries facts = after_all at_entries (in_list facts)
+
+abbrev pub end_from : ℕ → VoteFacts → ℕ
+end_from at_entries facts = end_with (footer_from at_entries facts) footer (signature_entry facts.signature)
+
 abbrev pub footer_place : ℕ → VoteFacts → ℕ
-footer_place at facts = after_all (entries_place at facts) (in_list facts)
+footer_place at facts = footer_from (entries_place at facts) facts
 
 -- where it ends
 abbrev pub vote_end : ℕ → VoteFacts → ℕ
-vote_end at facts = end_with (footer_place at facts) footer (signature_entry facts.signature)
+vote_end at facts = end_from (entries_place at facts) facts
 
 abbrev pub in_preamble : ℕ → VoteFacts → List VoteTaken
 in_preamble at facts = taken_in at (preamble facts)
@@ -67,8 +74,11 @@ in_authority at facts = taken_to (authority_place at facts) (authority facts) ce
 abbrev pub in_certificate : ℕ → VoteFacts → List VoteTaken
 in_certificate at facts = cert_taken (certificate_place at facts) facts.certificate
 
+abbrev pub footer_taken : ℕ → VoteFacts → List VoteTaken
+footer_taken at_entries facts = taken_to (footer_from at_entries facts) footer (signature_entry facts.signature)
+
 abbrev pub in_footer : ℕ → VoteFacts → List VoteTaken
-in_footer at facts = taken_to (footer_place at facts) footer (signature_entry facts.signature)
+in_footer at facts = footer_taken (entries_place at facts) facts
 
 -- ---- what is read
 

@@ -48,9 +48,10 @@ use Rattle.vote_frame.specs.declared.frame.VoteKind.TheVariants as kind
 use Rattle.vote_frame.specs.declared.frame.VoteSection.{VoteSection}
 use Rattle.vote_frame.specs.declared.frame.VoteSection.TheVariants.{Authority, Certificate, Footer, Preamble}
 use Rattle.vote_frame.specs.declared.frame.VoteValue.{VoteValue}
-use Rattle.vote_laws.specs.Again.{IsInRange}
+use Rattle.vote_laws.specs.Again.{HasValuesInRange, IsInRange}
 use Rattle.vote_laws.proofs.EntryRows.{taken_parts}
 use Rattle.vote_laws.proofs.Heard.{forgotten, is_quiet, is_quiet_kind, kinds_pass}
+use Rattle.vote_laws.proofs.Values.{values_in}
 use Rattle.vote_laws.proofs.VoteItems.{VoteEntry, VotePart, signature_entry, source_entry, suits_source}
 use Rattle.vote_laws.proofs.VoteItems.{suits_version}
 use Rattle.vote_laws.proofs.VoteRandoms.{notes_randoms, random_if}
@@ -89,14 +90,15 @@ certificate_made at facts are =
     entering vote_tables (remembered facts) Authority Certificate (taken_at before (authority facts).opener)
     (others_in before (authority facts)) place certificate_version
     certificate_row (record { row_there = refl; not_last = refl; begins_nothing = refl }) refl
-    (section_before_last vote_tables (authority facts) certificate_row before (authority_written facts are)) near
+    (section_before_last vote_tables (authority facts) certificate_row before
+    (authority_written facts (values_in facts are))) near
     (suits_version the.DirKeyCertificateVersion (remembered facts) place)
   where
     less : (a b c : ℕ) → a ≤ b → b ≤ c → a ≤ c
     less a b c first second = omega (arith, first, second)
 
 -- what its authority's section has with that item lacks nothing
-authority_whole : (at : ℕ) (facts : VoteFacts) → IsInRange facts
+pub authority_whole : (at : ℕ) (facts : VoteFacts) → HasValuesInRange facts
     → lacking (vote_tables.rows Authority)
     (taken_in (authority_place at facts) (authority facts) ++ taken_at
     (certificate_place at facts) certificate_version ∷ [])
@@ -108,13 +110,13 @@ authority_whole at facts are =
     (authority_written facts are) refl)
 
 -- nothing is remembered of the preamble
-preamble_quiet : (facts : VoteFacts) → IsInRange facts → EachPasses is_quiet (entries_in (preamble facts))
+pub preamble_quiet : (facts : VoteFacts) → HasValuesInRange facts → EachPasses is_quiet (entries_in (preamble facts))
 preamble_quiet facts are =
     both (λ place. refl)
     (rows_pass vote_tables is_quiet is_quiet_kind kinds_pass (preamble_rows facts) refl (preamble_said facts are))
 
 -- the shared random values are remembered of the section of the authority
-authority_notes : (place : ℕ) (facts : VoteFacts)
+pub authority_notes : (place : ℕ) (facts : VoteFacts)
     → Notes vote_tables nothing_across (taken_in place (authority facts)) (remembered facts)
 authority_notes place facts =
     let front = source_entry facts ∷ text_entry_if the.Contact facts.contact in
@@ -153,12 +155,13 @@ document_read length_ at facts fault more are =
     let rest_a = all_written at_a (map item_of (a ++ (c ++ ef))) ++ more in
     let rest_c = all_written at_c (map item_of (c ++ ef)) ++ more in
     let rest_e = all_written at_e (map item_of ef) ++ more in
-    let whole = preamble_written facts are in
-    let source = authority_written facts are in
+    let values = values_in facts are in
+    let whole = preamble_written facts values in
+    let source = authority_written facts values in
     let cert =
     certificate_ended vote_tables Certificate kind.Certificate has_certificate facts.certificate
     are.certificate.says in
-    let quiet_p = preamble_quiet facts are in
+    let quiet_p = preamble_quiet facts values in
     let quiet_c =
     section_to_quiet (in_section facts) (certification facts.certificate)
     (section_quiet (in_section facts) (λ n. refl) refl cert.written.said) (λ n. refl) in
@@ -172,7 +175,7 @@ document_read length_ at facts fault more are =
     ∙ section_read vote_tables length_ none known Preamble (taken_at at (preamble facts).opener)
     (others_in at (preamble facts)) at_a (authority facts)
     (certificate_row ∷ []) fault rest_c (section_whole vote_tables (preamble facts) at whole) authority_follows
-    source (suits_source facts are none at_a) (authority_notes at_a facts)
+    source (suits_source facts values none at_a) (authority_notes at_a facts)
     ∙ ap (λ (r : Result VoteDocument ReadRefusal). onto (group Preamble in_p) r)
     (ap (λ (l : List Item). read_items vote_tables length_ known (opening Authority in_a None) fault l)
     (both_written at_c c ef more)
@@ -182,8 +185,8 @@ document_read length_ at facts fault more are =
     (certificate_fits at facts are)
     (certificate_made at facts are) (notes_passing vote_tables is_quiet forgotten known at_c c quiet_c)
     ∙ ap (λ (r : Result VoteDocument ReadRefusal). onto (group Certificate (in_certificate at facts)) r)
-    (tail_read length_ at facts fault more are (taken_at at_a (authority facts).opener)
-    (others_in at_a (authority facts) ++ one ∷ []) (authority_whole at facts are)
+    (tail_read length_ at_e facts fault more are.entries are.signature (taken_at at_a (authority facts).opener)
+    (others_in at_a (authority facts) ++ one ∷ []) (authority_whole at facts values)
     ∙ ap (λ (l : List VoteTaken). with_authority_group l entries (vote_end at facts))
     (sym (taken_to-parts at_a (authority facts) certificate_version))))
   where
@@ -208,7 +211,7 @@ used_of at facts =
     ∙ ap (λ (l : List NewItem). at + length (items_text l)) (sym (vote_same facts))
 
 -- its last item has an object, so that no other may follow
-has_object : (signature : SignatureFacts) → lacks_object (signature_entry signature).object ≡ false
+pub has_object : (signature : SignatureFacts) → lacks_object (signature_entry signature).object ≡ false
 has_object signature = refl
 
 pub closed : (facts : VoteFacts) (rest : List ℕ) → (is_open (vote_items facts) && begins_dash rest) ≡ false

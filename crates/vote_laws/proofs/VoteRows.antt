@@ -29,7 +29,7 @@ use Rattle.vote_frame.specs.declared.frame.VoteKind.{VoteKind}
 use Rattle.vote_frame.specs.declared.frame.VoteKind.TheVariants as kind
 use Rattle.vote_frame.specs.declared.frame.VoteValue.TheVariants as own
 use Rattle.vote_frame.specs.declared.frame.VoteSection.TheVariants.{Authority, Certificate, Footer, Preamble}
-use Rattle.vote_laws.specs.Again.{AreMethods, IsInRange, IsSignatureInRange}
+use Rattle.vote_laws.specs.Again.{AreMethods, HasValuesInRange, IsSignatureInRange}
 use Rattle.vote_laws.proofs.VoteLists.{both_said, param_rows, params_said, protocol_rows, protocols_said, version_rows}
 use Rattle.vote_laws.proofs.VoteLists.{versions_said}
 use Rattle.vote_laws.proofs.VoteItems.{VotePart, VoteRow, has_times, moment_row, rest_if, said_moment, said_rest_if}
@@ -101,7 +101,7 @@ said_methods (Some methods) are =
     (text_entry the.ConsensusMethods (numbers_text methods))
     (suits_methods methods are)
 
-pub preamble_said : (facts : VoteFacts) → IsInRange facts → AreSaid vote_tables (preamble_rows facts)
+pub preamble_said : (facts : VoteFacts) → HasValuesInRange facts → AreSaid vote_tables (preamble_rows facts)
 preamble_said facts are =
     let lists = facts.lists in
     let later = both_said (protocol_rows lists) (param_rows lists) (protocols_said lists are.lists)
@@ -115,7 +115,7 @@ preamble_said facts are =
     (both (said_once vote_tables _ _ (suits_flags facts.known_flags are.known_flags))
     (both (said_rest_if the.FlagThresholds facts.flag_thresholds) later))))))
 
-pub preamble_written : (facts : VoteFacts) → IsInRange facts → IsWritten vote_tables (preamble facts) []
+pub preamble_written : (facts : VoteFacts) → HasValuesInRange facts → IsWritten vote_tables (preamble facts) []
 unfolding same
 preamble_written facts are =
     record {
@@ -148,7 +148,7 @@ authority facts = record {
 abbrev pub certificate_row : Row VoteKind
 certificate_row = row the.DirKeyCertificateVersion One kind.Version
 
-pub authority_written : (facts : VoteFacts) → IsInRange facts
+pub authority_written : (facts : VoteFacts) → HasValuesInRange facts
     → IsWritten vote_tables (authority facts) (certificate_row ∷ [])
 unfolding same
 authority_written facts are = record {

@@ -52,7 +52,7 @@ kind_same facts = simp (items_if, append-nil) refl
 flag_same : (facts : VoteFacts) → flag_items facts ≡ items_of (flag_rows facts)
 flag_same facts = simp (items_if, append-nil) refl
 
-authority_same : (facts : VoteFacts) → authority_items facts ≡ map item_of (entries_in (authority facts))
+pub authority_same : (facts : VoteFacts) → authority_items facts ≡ map item_of (entries_in (authority facts))
 authority_same facts = simp (items_if, random_items_are, map-append, append-nil, append_assoc) refl
 
 versions_same : (lists : VoteLists) → version_items lists ≡ items_of (version_rows lists)
@@ -70,7 +70,7 @@ by_rows : (k t v f p m : List VoteRow)
     ≡ items_of k ++ (items_of t ++ (items_of v ++ (items_of f ++ (items_of p ++ items_of m))))
 by_rows k t v f p m = simp items_of-append refl
 
-preamble_same : (facts : VoteFacts) → preamble_items facts ≡ map item_of (entries_in (preamble facts))
+pub preamble_same : (facts : VoteFacts) → preamble_items facts ≡ map item_of (entries_in (preamble facts))
 preamble_same facts =
     let lists = facts.lists in
     let first = item_of (preamble facts).opener in

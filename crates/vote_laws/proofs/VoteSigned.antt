@@ -40,7 +40,7 @@ abbrev after_signed : SignatureFacts → List ℕ
 after_signed s = signer_text s ++ 10 ∷ object_text (codes "SIGNATURE") s.signature
 
 -- the signature's item begins with the end of the signed part
-signature_text : (s : SignatureFacts)
+pub signature_text : (s : SignatureFacts)
     → item_text (item_of (signature_entry s)) ≡ codes "directory-signature " ++ after_signed s
 signature_text s =
     signed_end_first (signer_text s) s.signature

@@ -29,13 +29,13 @@ use Rattle.vote_frame.specs.declared.frame.VoteKind.TheVariants as kind
 use Rattle.vote_frame.specs.declared.frame.VoteSection.{VoteSection}
 use Rattle.vote_frame.specs.declared.frame.VoteSection.TheVariants.{Authority, Entry, Footer}
 use Rattle.vote_frame.specs.declared.frame.VoteValue.{VoteValue}
-use Rattle.vote_laws.specs.Again.{IsInRange}
+use Rattle.vote_laws.specs.Again.{AreEntriesInRange, IsSignatureInRange}
 use Rattle.vote_laws.proofs.EntryNotes.{all_listed, all_may, entries_next, knowing}
 use Rattle.vote_laws.proofs.EntryRows.{entry_section, first_follows, footer_after}
 use Rattle.vote_laws.proofs.Heard.{forgotten, is_quiet}
 use Rattle.vote_laws.proofs.VoteItems.{signature_entry, suits_nothing}
-use Rattle.vote_laws.proofs.VotePlaces.{VoteDocument, VoteTaken, entries_place, footer_place, in_footer, section_quiet}
-use Rattle.vote_laws.proofs.VotePlaces.{section_to_quiet, sections_of, vote_end}
+use Rattle.vote_laws.proofs.VotePlaces.{VoteDocument, VoteTaken, end_from, footer_from, footer_taken, section_quiet}
+use Rattle.vote_laws.proofs.VotePlaces.{section_to_quiet, sections_of}
 use Rattle.vote_laws.proofs.VoteRandoms.{with_randoms}
 use Rattle.vote_laws.proofs.VoteRows.{footer, footer_ended, footer_follows, signature_row}
 use Rattle.vote_laws.proofs.VoteSame.{footer_entries, in_list}
@@ -61,39 +61,39 @@ abbrev after_groups : List (Group VoteSection (Value VoteValue)) → Result Vote
     → Result VoteDocument ReadRefusal
 after_groups groups more = onto_all groups more
 
-pub tail_read : (length_ at : ℕ) (facts : VoteFacts) (fault : Option DocFault) (more : List Item) → IsInRange facts
+pub tail_read : (length_ at_e : ℕ) (facts : VoteFacts) (fault : Option DocFault) (more : List Item)
+    → AreEntriesInRange facts.entries → IsSignatureInRange facts.signature
     → (first : VoteTaken) (taken : List VoteTaken) → lacking (vote_tables.rows Authority) (first ∷ taken) ≡ None
     → read_items vote_tables length_ (remembered facts) (opening Authority (first ∷ taken) None) fault
-    (all_written (entries_place at facts) (map item_of (in_list facts ++ footer_entries facts)) ++ more)
+    (all_written at_e (map item_of (in_list facts ++ footer_entries facts)) ++ more)
     ≡ Ok (record {
       groups =
           group Authority (first ∷ taken)
-          ∷ (groups_in (entries_place at facts) (sections_of facts) ++ group Footer (in_footer at facts) ∷ []);
-      used = vote_end at facts;
+          ∷ (groups_in at_e (sections_of facts) ++ group Footer (footer_taken at_e facts) ∷ []);
+      used = end_from at_e facts;
     })
-tail_read length_ at facts fault more are first taken whole =
-    let at_e = entries_place at facts in
-    let at_f = footer_place at facts in
+tail_read length_ at_e facts fault more entries signed first taken whole =
+    let at_f = footer_from at_e facts in
     let list = sections_of facts in
     let f = footer_entries facts in
     let before = remembered facts in
     let listed = knowing before (all_listed none_listed facts.entries) in
     let rest = all_written at_f (map item_of f) ++ more in
-    let may = all_may facts.entries are.entries in
+    let may = all_may facts.entries entries in
     let next = entries_next before none_listed Authority at_e facts.entries first_follows may in
     let signature = signature_entry facts.signature in
     let quiet = section_to_quiet footer signature (section_quiet footer (λ p. refl) refl tt) (λ p. refl) in
-    let ended = group Footer (in_footer at facts) ∷ [] in
-    let last : Result VoteDocument ReadRefusal = Ok (record { groups = ended; used = vote_end at facts }) in
+    let ended = group Footer (footer_taken at_e facts) ∷ [] in
+    let last : Result VoteDocument ReadRefusal = Ok (record { groups = ended; used = end_from at_e facts }) in
     ap (λ (l : List Item). read_items vote_tables length_ (remembered facts) (opening Authority (first ∷ taken) None) fault l)
     (both_written at_e (in_list facts) f more)
     ∙ sections_read vote_tables length_ before listed Authority first taken at_e list fault rest whole next
     ∙ ap (after_groups (groups_of Authority (first ∷ taken) at_e list))
     (end_read vote_tables length_ listed at_f footer signature_row signature fault more
-    (footer_ended facts.signature are.signature)
+    (footer_ended facts.signature signed)
     listed (last_name Authority list) (last_first first at_e list) (last_others taken at_e list)
     (last_whole vote_tables before listed Authority first taken at_e list whole next)
     (after_all_entries facts.entries) (suits_nothing the.DirectoryFooter listed at_f)
     (notes_passing vote_tables is_quiet forgotten listed at_f f quiet))
     ∙ onto_all-last Authority first taken at_e list last
-    ∙ onto_all-ok (group Authority (first ∷ taken) ∷ groups_in at_e list) ended (vote_end at facts)
+    ∙ onto_all-ok (group Authority (first ∷ taken) ∷ groups_in at_e list) ended (end_from at_e facts)

@@ -16,7 +16,7 @@ use Rattle.line_laws.proofs.WrittenSources as sources
 use Rattle.group_laws.proofs.SourceRows.{SourceIs, source_back}
 use Rattle.vote_terms.specs.declared.facts.VoteFacts.{VoteFacts}
 use Rattle.vote_text.specs.Texts.{source_text}
-use Rattle.vote_laws.specs.Again.{IsInRange}
+use Rattle.vote_laws.specs.Again.{HasValuesInRange}
 
 -- the words of an authority whose first one stands at a place
 abbrev pub source_at : ℕ → VoteFacts → DirSource
@@ -39,7 +39,7 @@ source_shape facts =
     six_in_a_row facts.nickname (32 ∷ hex_text facts.identity.0) (32 ∷ facts.address) (32 ∷ address_text facts.ip)
     (32 ∷ decimal facts.dir_port) (32 ∷ decimal facts.or_port)
 
-source_range : (facts : VoteFacts) → IsInRange facts
+source_range : (facts : VoteFacts) → HasValuesInRange facts
     → IsSourceInRange facts.nickname facts.identity facts.address facts.ip facts.dir_port facts.or_port
 source_range facts are = record {
   nickname_is = are.nickname;
@@ -51,7 +51,7 @@ source_range facts are = record {
 }
 
 -- who the authority is
-pub source-written : (p : ℕ) (k : Keyword) (facts : VoteFacts) → IsInRange facts
+pub source-written : (p : ℕ) (k : Keyword) (facts : VoteFacts) → HasValuesInRange facts
     → source_of (written p (bare k (source_text facts))) ≡ Ok (source_at (start_of p k (source_text facts)) facts)
 source-written p k facts are =
     subst (λ (t : List ℕ). source_of (written p (bare k t)) ≡ Ok (source_at (start_of p k t) facts))

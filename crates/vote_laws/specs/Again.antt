@@ -97,6 +97,29 @@ pub record AreEntriesInRange (entries : List EntryFacts) : Type 0 where
   pub ascending : Ascending entries
   pub keys : AllPairs DifferInKey entries
 
+-- The vote says what can be read, whatever is said of its certificate: each number, text and list is one that an item may
+-- have.
+pub record HasValuesInRange (facts : VoteFacts) : Type 0 where
+  pub methods : IfSome facts.methods AreMethods
+  pub published : facts.published ≤ last_moment
+  pub valid_after : facts.valid_after ≤ last_moment
+  pub fresh_until : facts.fresh_until ≤ last_moment
+  pub valid_until : facts.valid_until ≤ last_moment
+  pub vote_seconds : facts.vote_seconds ≤ 4294967295
+  pub dist_seconds : facts.dist_seconds ≤ 4294967295
+  pub known_flags : AreFlags facts.known_flags
+  pub lists : AreListsInRange facts.lists
+  pub nickname : is_nickname facts.nickname ≡ true
+  pub identity : AreTwenty facts.identity.0
+  pub address : is_argument facts.address ≡ true
+  pub ip : facts.ip < 2 ^ 32
+  pub dir_port : facts.dir_port ≤ 65535
+  pub or_port : facts.or_port ≤ 65535
+  pub random_previous : IfSome facts.random_previous IsRandomInRange
+  pub random_current : IfSome facts.random_current IsRandomInRange
+  pub entries : AreEntriesInRange facts.entries
+  pub signature : IsSignatureInRange facts.signature
+
 -- The vote says what can be read: each number, text and list is one that an item may have. Its items may be written:
 -- those of its texts that fill a line are such, its objects are bytes, and no line, no object and not the whole
 -- passes its limit.
