@@ -1,0 +1,270 @@
+-- The text of a vote that was made is read.
+use Rattle.std.proofs.Common.{◌≡◌, ℕ, ◌+◌, ◌≤◌, Bool, true, false, List, [], ◌∷◌, ◌++◌, length, Option, None, Result}
+use Rattle.std.proofs.Common.{Ok, refl}
+use Rattle.std.proofs.Common.{sym, ap, subst, ◌∙◌, arith, append_assoc}
+use Rattle.std.specs.Prelude.{map, ◌&&◌}
+use Rattle.std.proofs.lemmas.Bool.{and_right}
+use Rattle.std.proofs.lemmas.List.{drop_at, length-append}
+use Rattle.item_terms.specs.Items.{Contents, Item, contents, nothing}
+use Rattle.item_terms.specs.Words.{begins_dash, first_is, is_letter_or_digit}
+use Rattle.item_terms.specs.declared.fault.DocFault.{DocFault}
+use Rattle.dirdoc_grammar.specs.Writing.{AreWritable, NewItem, all_written, in_front, is_open, items_text}
+use Rattle.dirdoc_laws.proofs.ItemsAgain.{items_again}
+use Rattle.dirdoc_laws.proofs.WrittenBytes.{differs}
+use Rattle.frame_terms.specs.Documents.{document_of, finish, group, onto, read_items, start}
+use Rattle.frame_terms.specs.Keywords.{same}
+use Rattle.frame_terms.specs.Sections.{lacking, stands}
+use Rattle.frame_terms.specs.declared.document.Taken.{Taken}
+use Rattle.frame_terms.specs.declared.fault.ReadRefusal.{ReadRefusal}
+use Rattle.frame_terms.specs.declared.keyword.Keyword.TheVariants as the
+use Rattle.frame_values.specs.declared.values.Value.{Value}
+use Rattle.frame_laws.proofs.Entries.{item_of, taken_at}
+use Rattle.frame_laws.proofs.Following.{first_read, section_read}
+use Rattle.frame_laws.proofs.Passing.{notes_passing}
+use Rattle.frame_laws.proofs.Places.{after_all, after_all-append, both_written}
+use Rattle.frame_laws.proofs.Sections.{entries_in, others_in, section_before_last, section_whole, taken_in}
+use Rattle.frame_laws.proofs.Steps.{opening}
+use Rattle.frame_laws.proofs.WrittenRows.{ends_behind, is_closed}
+use Rattle.certificate_laws.proofs.CertRows.{certificate_version}
+use Rattle.vote_terms.specs.Votes.{ReadVote}
+use Rattle.vote_terms.specs.declared.facts.VoteFacts.{VoteFacts}
+use Rattle.vote_text.specs.Made.{made_text}
+use Rattle.vote_doc.specs.Facts.{vote_in}
+use Rattle.vote_doc.specs.Kept.{kept_with, none_kept}
+use Rattle.vote_doc.specs.Reading.{max_vote, vote_from, with_facts}
+use Rattle.vote_doc.specs.declared.kept.Kept.{Kept}
+use Rattle.vote_frame.specs.Across.{nothing_across}
+use Rattle.vote_frame.specs.Tables.{vote_tables}
+use Rattle.vote_frame.specs.declared.frame.VoteSection.TheVariants.{Authority, Certificate, Preamble}
+use Rattle.vote_frame.specs.declared.frame.VoteValue.{VoteValue}
+use Rattle.vote_laws.specs.Again.{HasValuesInRange}
+use Rattle.vote_laws.proofs.Heard.{forgotten, is_quiet}
+use Rattle.vote_laws.proofs.VoteItems.{VoteEntry, signature_entry, suits_source, suits_version}
+use Rattle.vote_laws.proofs.VotePlaces.{VoteDocument, VoteTaken, authority_place, certificate_place, end_from}
+use Rattle.vote_laws.proofs.VotePlaces.{in_preamble}
+use Rattle.vote_laws.proofs.VoteRead.{authority_notes, authority_whole, has_object, preamble_quiet}
+use Rattle.vote_laws.proofs.VoteRows.{authority, authority_follows, authority_written, certificate_row, footer}
+use Rattle.vote_laws.proofs.VoteRows.{preamble}
+use Rattle.vote_laws.proofs.VoteRows.{preamble_first, preamble_written}
+use Rattle.vote_laws.proofs.VoteSame.{footer_entries, in_list}
+use Rattle.vote_laws.proofs.VoteTail.{remembered, tail_read}
+use Rattle.part_laws.specs.Moved.{moved}
+use Rattle.given_certs.specs.Inside.{StandsInside}
+use Rattle.given_certs.specs.Lifted.{moved_taken}
+use Rattle.made_laws.specs.Made.{IsMadeInRange}
+use Rattle.made_laws.proofs.MadeKept.{in_authority_alone, lacking_same, made_all_kept, made_document, made_kept}
+use Rattle.made_laws.proofs.MadeKept.{made_place}
+use Rattle.made_laws.proofs.MadeTexts.{before_entries, before_same, before_text, behind_entries, behind_same}
+use Rattle.made_laws.proofs.MadeTexts.{behind_text}
+use Rattle.made_laws.proofs.MadeTexts.{text_parts, writable_at}
+
+-- the bytes of a certificate stand in a vote
+abbrev pub InVote : VoteFacts → List ℕ → Type 0
+InVote facts bytes = StandsInside vote_tables Authority Certificate bytes facts.certificate
+
+-- what is taken of them there
+abbrev pub given_first : (at : ℕ) (facts : VoteFacts) (bytes : List ℕ) → InVote facts bytes → VoteTaken
+given_first at facts bytes stand = moved_taken (certificate_place at facts) stand.first
+
+abbrev pub given_taken : (at : ℕ) (facts : VoteFacts) (bytes : List ℕ) → InVote facts bytes → List VoteTaken
+given_taken at facts bytes stand = map (moved_taken (certificate_place at facts)) stand.taken
+
+module _ (at : ℕ) (facts : VoteFacts) (bytes : List ℕ) (stand : InVote facts bytes) (are : HasValuesInRange facts) where
+  -- the certificate stands not yet in the section of its authority
+  new : stands the.DirKeyCertificateVersion (in_authority_alone at facts) ≡ false
+  new =
+      section_before_last vote_tables (authority facts) certificate_row (authority_place at facts)
+      (authority_written facts are)
+
+  -- with its first item that section lacks nothing
+  whole : lacking (vote_tables.rows Authority) (in_authority_alone at facts ++ given_first at facts bytes stand ∷ [])
+      ≡ None
+  whole =
+      lacking_same (vote_tables.rows Authority) (in_authority_alone at facts) (given_first at facts bytes stand)
+      (taken_at (certificate_place at facts) certificate_version) stand.opens
+      ∙ authority_whole at facts are
+
+  -- the items make the document
+  document_read : (length_ : ℕ) (fault : Option DocFault) (more : List Item)
+      → read_items vote_tables length_ nothing_across (start vote_tables) fault
+      (all_written at (map item_of (before_entries facts))
+      ++ (map (moved (certificate_place at facts)) stand.items
+      ++ (all_written (made_place at facts bytes) (map item_of (behind_entries facts)) ++ more)))
+      ≡ Ok (made_document at facts bytes (given_first at facts bytes stand) (given_taken at facts bytes stand))
+  document_read length_ fault more =
+      let none = nothing_across in
+      let known = remembered facts in
+      let p = entries_in (preamble facts) in
+      let a = entries_in (authority facts) in
+      let at_a = authority_place at facts in
+      let at_c = certificate_place at facts in
+      let at_e = made_place at facts bytes in
+      let in_p = in_preamble at facts in
+      let in_a = in_authority_alone at facts in
+      let one : VoteTaken = taken_at at_a (authority facts).opener in
+      let rest_e = all_written at_e (map item_of (behind_entries facts)) ++ more in
+      let rest_c = map (moved at_c) stand.items ++ rest_e in
+      let rest_a = all_written at_a (map item_of a) ++ rest_c in
+      let wrote = preamble_written facts are in
+      ap (λ (l : List Item). read_items vote_tables length_ none (start vote_tables) fault l)
+      (both_written at p a rest_c)
+      ∙ first_read vote_tables length_ none none at (preamble facts) [] fault rest_a refl preamble_first wrote
+      (suits_version the.NetworkStatusVersion none at)
+      (notes_passing vote_tables is_quiet forgotten none at p (preamble_quiet facts are))
+      ∙ section_read vote_tables length_ none known Preamble (taken_at at (preamble facts).opener)
+      (others_in at (preamble facts)) at_a (authority facts) (certificate_row ∷ []) fault rest_c
+      (section_whole vote_tables (preamble facts) at wrote) authority_follows (authority_written facts are)
+      (suits_source facts are none at_a) (authority_notes at_a facts)
+      ∙ ap (λ (r : Result VoteDocument ReadRefusal). onto (group Preamble in_p) r)
+      (stand.section_there at_c length_ known one (others_in at_a (authority facts)) fault rest_e new
+      ∙ ap (λ (r : Result VoteDocument ReadRefusal). onto
+      (group Certificate (given_first at facts bytes stand ∷ given_taken at facts bytes stand)) r)
+      (tail_read length_ at_e facts fault more are.entries are.signature one
+      (others_in at_a (authority facts) ++ given_first at facts bytes stand ∷ []) whole))
+
+-- ---- the items of the text
+
+no_dash : (bytes more : List ℕ) → first_is is_letter_or_digit bytes ≡ true → begins_dash (bytes ++ more) ≡ false
+no_dash [] more first = absurd (cc first)
+no_dash (b ∷ bytes) more first = differs is_letter_or_digit 45 b refl first
+
+-- how long the text is
+made_size : (facts : VoteFacts) (bytes : List ℕ)
+    → length (made_text facts bytes) ≡ length (before_text facts) + (length bytes + length (behind_text facts))
+made_size facts bytes =
+    ap (λ (l : List ℕ). length l) (text_parts facts bytes)
+    ∙ length-append (before_text facts) (bytes ++ behind_text facts)
+    ∙ ap (λ (n : ℕ). length (before_text facts) + n) (length-append bytes (behind_text facts))
+
+module _ (at : ℕ) (facts : VoteFacts) (bytes : List ℕ) (are : IsMadeInRange facts bytes) where
+  -- where the certificate and the entries begin
+  pub certificate_at : certificate_place at facts ≡ at + length (before_text facts)
+  certificate_at =
+      sym (after_all-append at (entries_in (preamble facts)) (entries_in (authority facts)))
+      ∙ ends_behind at (before_entries facts)
+
+  -- and where it ends
+  pub ends_at : end_from (made_place at facts bytes) facts ≡ at + length (made_text facts bytes)
+  ends_at =
+      let last : end_from (made_place at facts bytes) facts ≡ made_place at facts bytes + length (behind_text facts) =
+      sym (after_all-append (made_place at facts bytes) (in_list facts) (footer_entries facts))
+      ∙ ends_behind (made_place at facts bytes) (behind_entries facts) in
+      last ∙ sums (certificate_place at facts) (length (before_text facts)) (length bytes) (length (behind_text facts))
+      (length (made_text facts bytes)) certificate_at (made_size facts bytes)
+    where
+      sums : (place a b c all : ℕ) → place ≡ at + a → all ≡ a + (b + c) → place + b + c ≡ at + all
+      sums place a b c all here size = omega (arith, here, size)
+
+  -- the items may stand where they do
+  pub before_may : AreWritable (at + max_vote) at (map item_of (before_entries facts))
+  before_may =
+      writable_at max_vote (at + max_vote) 0 at (map item_of (before_entries facts))
+      (subst (λ (l : List NewItem). AreWritable max_vote 0 l) (before_same facts) are.before)
+      (fits (length (before_text facts)) (length bytes) (length (behind_text facts))
+      (length (made_text facts bytes)) max_vote
+      (made_size facts bytes) are.fits)
+    where
+      fits : (a b c all most : ℕ) → all ≡ a + (b + c) → all ≤ most → at + a ≤ at + most
+      fits a b c all most size le = omega (arith, size, le)
+
+  pub behind_may : AreWritable (at + max_vote) (made_place at facts bytes) (map item_of (behind_entries facts))
+  behind_may =
+      writable_at max_vote (at + max_vote) 0 (made_place at facts bytes) (map item_of (behind_entries facts))
+      (subst (λ (l : List NewItem). AreWritable max_vote 0 l) (behind_same facts) are.behind)
+      (fits (certificate_place at facts) (length (before_text facts)) (length bytes) (length (behind_text facts))
+      (length (made_text facts bytes)) max_vote certificate_at (made_size facts bytes) are.fits)
+    where
+      fits : (place a b c all most : ℕ) → place ≡ at + a → all ≡ a + (b + c) → all ≤ most → place + b + c ≤ at + most
+      fits place a b c all most here size le = omega (arith, here, size, le)
+
+  -- the certificate passes not the limit of a vote
+  pub bytes_fit : certificate_place at facts + length bytes ≤ at + max_vote
+  bytes_fit =
+      fits (certificate_place at facts) (length (before_text facts)) (length bytes) (length (behind_text facts))
+      (length (made_text facts bytes)) max_vote certificate_at (made_size facts bytes) are.fits
+    where
+      fits : (place a b c all most : ℕ) → place ≡ at + a → all ≡ a + (b + c) → all ≤ most → place + b ≤ at + most
+      fits place a b c all most here size le = omega (arith, here, size, le)
+
+pub before_closed : (facts : VoteFacts) (bytes more : List ℕ) → first_is is_letter_or_digit bytes ≡ true
+    → (is_open (map item_of (before_entries facts)) && begins_dash (bytes ++ more)) ≡ false
+before_closed facts bytes more first =
+    and_right (is_open (map item_of (before_entries facts))) (begins_dash (bytes ++ more)) (no_dash bytes more first)
+
+pub behind_closed : (facts : VoteFacts) (rest : List ℕ)
+    → (is_open (map item_of (behind_entries facts)) && begins_dash rest) ≡ false
+behind_closed facts rest =
+    let last = signature_entry facts.signature in
+    ap (λ (l : List VoteEntry). is_open (map item_of l) && begins_dash rest)
+    (sym (append_assoc (in_list facts) (entries_in footer) (last ∷ [])))
+    ∙ is_closed (in_list facts ++ entries_in footer) last rest (has_object facts.signature)
+
+-- the contents of the text
+pub made_contents : (at : ℕ) (facts : VoteFacts) (bytes rest : List ℕ) (stand : InVote facts bytes)
+    → first_is is_letter_or_digit bytes ≡ true → IsMadeInRange facts bytes
+    → contents (at + max_vote) at nothing (made_text facts bytes ++ rest)
+    ≡ in_front (all_written at (map item_of (before_entries facts)))
+    (in_front (map (moved (certificate_place at facts)) stand.items)
+    (in_front (all_written (made_place at facts bytes) (map item_of (behind_entries facts)))
+    (contents (at + max_vote) (made_place at facts bytes + length (behind_text facts)) nothing rest)))
+made_contents at facts bytes rest stand first are =
+    let limit = at + max_vote in
+    let before = map item_of (before_entries facts) in
+    let behind = map item_of (behind_entries facts) in
+    let more = bytes ++ (behind_text facts ++ rest) in
+    let here = certificate_at at facts bytes are in
+    ap (λ (l : List ℕ). contents limit at nothing l)
+    (ap (λ (l : List ℕ). l ++ rest) (text_parts facts bytes)
+    ∙ joined (before_text facts) bytes (behind_text facts) rest)
+    ∙ items_again limit at before more (before_may at facts bytes are)
+    (before_closed facts bytes (behind_text facts ++ rest) first)
+    ∙ ap (λ (n : ℕ). in_front (all_written at before) (contents limit n nothing more)) (sym here)
+    ∙ ap (λ (c : Contents). in_front (all_written at before) c)
+    (stand.items_there limit (certificate_place at facts) (behind_text facts ++ rest) (bytes_fit at facts bytes are)
+    ∙ ap (λ (c : Contents). in_front (map (moved (certificate_place at facts)) stand.items) c)
+    (items_again limit (made_place at facts bytes) behind rest (behind_may at facts bytes are)
+    (behind_closed facts rest)))
+  where
+    joined : (a b c r : List ℕ) → (a ++ (b ++ c)) ++ r ≡ a ++ (b ++ (c ++ r))
+    joined a b c r = simp append_assoc refl
+
+-- ---- the text
+
+abbrev read_as : List ℕ → Result VoteDocument ReadRefusal → Result (ReadVote × ℕ) ReadRefusal
+read_as bytes document = with_facts bytes (finish kept_with none_kept document)
+
+abbrev answer : Kept → List ℕ → ℕ → Result (ReadVote × ℕ) ReadRefusal
+answer kept bytes end = Ok (vote_in bytes kept, end)
+
+-- a made vote's text behind some bytes, and in front of others
+abbrev pub among : List ℕ → VoteFacts → List ℕ → List ℕ → List ℕ
+among front facts bytes rest = front ++ (made_text facts bytes ++ rest)
+
+-- what is kept of it
+abbrev pub given_kept : (at : ℕ) (facts : VoteFacts) (bytes : List ℕ) → InVote facts bytes → Kept
+given_kept at facts bytes stand =
+    made_kept at facts bytes (given_first at facts bytes stand ∷ given_taken at facts bytes stand)
+
+-- it is read, whatever stands before and behind it, and ends where its text ends
+pub made_read : (front : List ℕ) (facts : VoteFacts) (bytes rest : List ℕ) (stand : InVote facts bytes)
+    → first_is is_letter_or_digit bytes ≡ true → IsMadeInRange facts bytes
+    → vote_from (length front) (among front facts bytes rest)
+    ≡ Ok (
+      vote_in (among front facts bytes rest) (given_kept (length front) facts bytes stand),
+      length front + length (made_text facts bytes),
+    )
+made_read front facts bytes rest stand first are =
+    let at = length front in
+    let all = among front facts bytes rest in
+    let limit = at + max_vote in
+    let after = contents limit (made_place at facts bytes + length (behind_text facts)) nothing rest in
+    ap (λ (l : List ℕ). read_as all (document_of vote_tables (length all) (contents limit at nothing l)))
+    (drop_at front (made_text facts bytes ++ rest) (length front) refl)
+    ∙ ap (λ (c : Contents). read_as all (document_of vote_tables (length all) c))
+    (made_contents at facts bytes rest stand first are)
+    ∙ ap (λ (d : Result VoteDocument ReadRefusal). read_as all d)
+    (document_read at facts bytes stand are.values (length all) after.fault after.items)
+    ∙ ap (λ (k : Kept). answer k all (end_from (made_place at facts bytes) facts))
+    (made_all_kept at facts bytes (given_first at facts bytes stand)
+    (given_taken at facts bytes stand) stand.opens are.values.entries)
+    ∙ ap (λ (n : ℕ). answer (given_kept at facts bytes stand) all n) (ends_at at facts bytes are)
