@@ -180,10 +180,10 @@ all_taken_in end length_ first before fault (item ∷ items) document g are all 
     by again (Ok Passes) e is = again before all is
     by again (Ok (Pushes one)) e is =
         again (before ++ one ∷ []) (one_more end (first ∷ before) one all
-            (made_in end first before item (Pushes one) are.0 e)) is
+        (made_in end first before item (Pushes one) are.0 e)) is
     by again (Ok (Ends one)) e is =
         whole_in end (first ∷ (before ++ one ∷ [])) g item.after document
-            (one_more end (first ∷ before) one all (made_in end first before item (Ends one) are.0 e)) is groups
+        (one_more end (first ∷ before) one all (made_in end first before item (Ends one) are.0 e)) is groups
     by again (Ok (Leaves one)) e is = absurd (made_is first before item (Leaves one) e)
     by again (Ok (Opens section_ one)) e is = absurd (made_is first before item (Opens section_ one) e)
     by again (Ok (Enters section_ one)) e is = absurd (made_is first before item (Enters section_ one) e)

@@ -88,7 +88,7 @@ pub object_there : (of : CertKind) (item : Item) (said : Said) → of ≡ Certif
     → is_some item.object ≡ true
 object_there of item said is says =
     by (has_words item.object (codes "SIGNATURE")) item.object
-        (sym (ap (λ (k : CertKind). cert_value k item) is) ∙ says)
+    (sym (ap (λ (k : CertKind). cert_value k item) is) ∙ says)
   where
     by : (t : Bool) (object : Option Object)
         → next (object_if t item.place object) (λ (lines : Span). Ok (value.Object lines)) ≡ Ok said
@@ -122,7 +122,7 @@ in_section_is row taken item made last_kind is = by_last (same the.DirKeyCertifi
     by_more e (Ok one) a is =
         let here : Ok (Pushes one) ≡ Ok made = is in
         let found = accepted_is row taken item one a in
-        subst (λ (m : Made (Unit {0}) Said). IsMade item m) (ap made_or here) 
+        subst (λ (m : Made (Unit {0}) Said). IsMade item m) (ap made_or here)
         (ap (λ (t : CertTaken). same the.DirKeyCertification t.keyword) (sym found.is) ∙ e)
 
     by_lacking : same the.DirKeyCertification row.keyword ≡ true → (k : Option Keyword)
@@ -150,11 +150,25 @@ IsLastRow row = same the.DirKeyCertification row.keyword ≡ true → row.kind �
 
 pub last_rows : AllByRecursion IsLastRow alone_rows
 unfolding same
-last_rows =
-    ((λ e. absurd (cc e)), ((λ e. absurd (cc e)),
-    ((λ e. absurd (cc e)), ((λ e. absurd (cc e)),
-    ((λ e. absurd (cc e)), ((λ e. absurd (cc e)),
-    ((λ e. absurd (cc e)), ((λ e. absurd (cc e)), ((λ e. refl), tt)))))))))
+last_rows = (
+  (λ e. absurd (cc e)),
+  (
+    (λ e. absurd (cc e)),
+    (
+      (λ e. absurd (cc e)),
+      (
+        (λ e. absurd (cc e)),
+        (
+          (λ e. absurd (cc e)),
+          (
+            (λ e. absurd (cc e)),
+            ((λ e. absurd (cc e)), ((λ e. absurd (cc e)), ((λ e. refl), tt))),
+          ),
+        ),
+      ),
+    ),
+  ),
+)
 
 pub found_has : {A : Type 0} (P : A → Type 0) (p : A → Bool) (l : List A) (a : A) → AllByRecursion P l
     → find p l ≡ Some a → P a
@@ -239,6 +253,6 @@ pub lacks : (taken : List CertTaken) → stands the.DirKeyCertification taken �
 lacks taken is =
     let found =
     found_last (λ (row : Row CertKind). is_one row.count && not (stands row.keyword taken)) rows_before last_row
-        (ap not is) in
+    (ap not is) in
     sym (is_keyword_if (find (λ (row : Row CertKind). is_one row.count && not (stands row.keyword taken)) alone_rows))
     ∙ found

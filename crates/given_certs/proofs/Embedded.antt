@@ -104,7 +104,7 @@ module _ {S K W X : Type 0} (tables : Tables S K (Value W) X) (outer name : S) (
       → Result (Document S (Value W)) ReadRefusal
   behind length_ across around fault rest =
       read_items tables length_ across
-          (record { section = around.section; taken = around.taken; around = None }) fault rest
+      (record { section = around.section; taken = around.taken; around = None }) fault rest
 
   -- What the items behind the first are of a certificate that is read alone: they go on to one that has an object and
   -- ends it; and in the document they are the same section, so many bytes further on.
@@ -174,7 +174,7 @@ module _ {S K W X : Type 0} (tables : Tables S K (Value W) X) (outer name : S) (
     last_ends = more.last_ends;
     inside_it = λ n length_ across around fault rest near known.
         one_read n length_ across around fault first before item
-            (map (moved n) (more.front ++ more.item ∷ []) ++ rest) Passes
+        (map (moved n) (more.front ++ more.item ∷ []) ++ rest) Passes
         is near.0 known.0 refl
         ∙ more.inside_it n length_ across around fault rest near.1 known.1;
   }
@@ -224,7 +224,7 @@ module _ {S K W X : Type 0} (tables : Tables S K (Value W) X) (outer name : S) (
     last_ends = made.after ∙ ap used_or end_;
     inside_it = λ n length_ across around fault rest near known.
         one_read n length_ across around fault first before item rest (Ends one) is near.0 known.0
-            (holds.quiet across n one)
+        (holds.quiet across n one)
         ∙ ap (λ (l : List (Taken (Value W))).
         onto (group name (moved_taken n first ∷ l)) (behind length_ across around fault rest))
         (sym (map-append (moved_taken n) before (one ∷ [])));

@@ -118,7 +118,7 @@ read_alone length_ fault (item ∷ items) document is = by_made (made_by cert_ta
           read =
               sym (ap (λ (m : Made (Unit {0}) Said).
               after_made cert_tables (Ok m) tt (start cert_tables) item (first_more length_ fault items)) begins.is)
-                  ∙ is;
+              ∙ is;
         }
 
 -- ---- a certificate that is all of its bytes
@@ -148,7 +148,7 @@ module _ {S K W X : Type 0} (tables : Tables S K (Value W) X) (outer name : S) (
   unfolding same
   go_on lone =
       goes_on_so tables outer name kind opening holds (length bytes)
-          (first_taken lone.begins) [] fault_is lone.items document
+      (first_taken lone.begins) [] fault_is lone.items document
       refl lone.read
 
   -- nothing stands behind the last item
@@ -191,13 +191,15 @@ module _ {S K W X : Type 0} (tables : Tables S K (Value W) X) (outer name : S) (
       record {
         each =
             all_taken_in (length bytes) (length bytes) (first_taken lone.begins) [] fault_is lone.items document
-            (first_taken lone.begins ∷ goes.taken) are.1
-            (record {
-              value = value_in (length bytes) Version lone.item lone.begins.said first lone.begins.value;
-              place = first.place;
-              line = first.line;
-              after = first.after;
-            }, tt) lone.read goes.groups;
+            (first_taken lone.begins ∷ goes.taken) are.1 (
+              record {
+                value = value_in (length bytes) Version lone.item lone.begins.said first lone.begins.value;
+                place = first.place;
+                line = first.line;
+                after = first.after;
+              },
+              tt,
+            ) lone.read goes.groups;
         version = refl;
         certification = ap (λ (o : Option CertTaken). is_some o) goes.last_there;
       }
@@ -221,7 +223,7 @@ module _ {S K W X : Type 0} (tables : Tables S K (Value W) X) (outer name : S) (
         fits = fits;
         near =
             items_within 65536 0 nothing (lines bytes) all_items nothing 65536 last.reads tt
-                (omega (arith, size, fits));
+            (omega (arith, size, fits));
         within = taken_within lone goes (subst (AllByRecursion (IsIn (length bytes))) lone.parts are);
         end = ap after_in goes.last_there ∙ goes.last_ends ∙ whole;
       }

@@ -40,7 +40,7 @@ module _ {W : Type 0} where
       → item_at (map (moved_taken {W = W} n) taken) keyword ≡ option_map (moved_taken n) (item_at taken keyword)
   item_at_moved n taken keyword =
       found_in (moved_taken n) (λ (one : CertTaken). same one.keyword keyword)
-          (λ (one : Taken (Value W)). same one.keyword keyword) (λ one. refl) taken
+      (λ (one : Taken (Value W)). same one.keyword keyword) (λ one. refl) taken
 
 found_in_all : (P : CertTaken → Type 0) (taken : List CertTaken) (keyword : Keyword) → AllByRecursion P taken
     → (one : CertTaken) → item_at taken keyword ≡ Some one → P one

@@ -35,7 +35,7 @@ arguments_moved n place [] = refl
 arguments_moved n place (byte ∷ text) =
     let here : place + n + 1 ≡ place + 1 + n = omega arith in
     by (ap (λ (k : ℕ). arguments_at k text) here ∙ arguments_moved n (place + 1) text) (is_blank byte)
-        (ends_or_blank text)
+    (ends_or_blank text)
   where
     by : arguments_at (place + n + 1) text ≡ map (moved_argument n) (arguments_at (place + 1) text)
         → (blank ends : Bool)

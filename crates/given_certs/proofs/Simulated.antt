@@ -105,7 +105,8 @@ module _ {S K W X : Type 0} (tables : Tables S K (Value W) X) (outer name : S) (
       let there = moved n item in
       let twice : Result (Taken (Value W)) ReadRefusal = Err (refused (item.place + n) (Twice row.keyword)) in
       ap (λ (t : Bool). if not (is_many row.count) && t then twice
-      else taken_as row.keyword there (tables.value_of across (kind row.kind) there)) (stands_moved W n row.keyword taken)
+      else taken_as row.keyword there (tables.value_of across (kind row.kind) there))
+      (stands_moved W n row.keyword taken)
       ∙ ap (λ (v : Result (Value W) FrameFault). if not (is_many row.count) && stands row.keyword taken then twice
       else taken_as row.keyword there v) (holds.has.values across row.kind there)
       ∙ by_twice (not (is_many row.count) && stands row.keyword taken) is

@@ -124,7 +124,7 @@ module _ {S K W X : Type 0} (tables : Tables S K (Value W) X) (outer name : S) (
     fits = lone.fits;
     items_there = λ limit n more fits.
         together 65536 limit n bytes more all_items
-            (ends_all 65536 0 nothing (lines bytes) all_items nothing lone.reads)
+        (ends_all 65536 0 nothing (lines bytes) all_items nothing lone.reads)
         lone.reads fits;
     section_there = section_is;
   }

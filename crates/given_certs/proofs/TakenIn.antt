@@ -67,7 +67,7 @@ ends_by place [] = tt
 ends_by place (byte ∷ text) =
     let here : place + 1 + length text ≡ place + length (byte ∷ text) = omega arith in
     by (subst (λ (k : ℕ). EndBy k (arguments_at (place + 1) text)) here (ends_by (place + 1) text)) (is_blank byte)
-        (ends_or_blank text) refl
+    (ends_or_blank text) refl
   where
     by : EndBy (place + length (byte ∷ text)) (arguments_at (place + 1) text) → (blank ends : Bool)
         → ends_or_blank text ≡ ends
@@ -78,7 +78,7 @@ ends_by place (byte ∷ text) =
     by more false true e = (omega arith, more)
     by more false false e =
         onto_ends place byte (place + length (byte ∷ text)) (arguments_at (place + 1) text) (omega arith) more
-            (first_begins (place + 1) text e)
+        (first_begins (place + 1) text e)
 
 -- a first argument that is there ends within the rest of the line
 front_ends : (end place : ℕ) (list : List Argument) → EndBy end list → is_there (front place list).text ≡ true
@@ -124,7 +124,7 @@ value_in end kind.Key item said within is =
     object_in end item.place (has_words item.object (codes "RSA PUBLIC KEY")) item.object said within.object is
 value_in end kind.Crosscert item said within is =
     object_in end item.place (has_words item.object (codes "ID SIGNATURE") || has_words item.object
-        (codes "SIGNATURE")) item.object said within.object is
+    (codes "SIGNATURE")) item.object said within.object is
 value_in end kind.Certification item said within is =
     object_in end item.place (has_words item.object (codes "SIGNATURE")) item.object said within.object is
 value_in end kind.Fingerprint item said within is = by (fingerprint (first_of item).text) is
@@ -155,6 +155,6 @@ value_in end kind.Address item said within is = by (is_there (first_of item).tex
           order = omega arith;
           within =
               front_ends end item.place (arguments_of item)
-                  (widened (item.start + length item.arguments) end (arguments_of item) within.rest
-                  (ends_by item.start item.arguments)) e;
+              (widened (item.start + length item.arguments) end (arguments_of item) within.rest
+              (ends_by item.start item.arguments)) e;
         })

@@ -166,7 +166,7 @@ module _ {S K V X : Type 0} (tables : Tables S K V X) (end : EndWithObjects tabl
       → IsRight item (made_after tables across open_ item (word_of item.keyword) taken)
   right_after open_ [] =
       right_reason item item.place (beginning_reason tables (word_of item.keyword))
-          (first_item tables across item (word_of item.keyword))
+      (first_item tables across item (word_of item.keyword))
       (right_first (word_of item.keyword))
   right_after open_ (one ∷ taken) =
       right_unless item (beyond_inner tables open_.section open_.taken open_.around item (word_of item.keyword))

@@ -149,5 +149,5 @@ first_at limit place text item items first is = by (lines text) (not_blank text 
         let n : open_item (read_line limit place line) ≡ Ok next = ap (λ (s : Step). s.next) made in
         let all : FirstAt place others =
         open_at place limit (place + size line) next rest others
-            (first_line limit place line next (dark line rest refl) n) more in
+        (first_line limit place line next (dark line rest refl) n) more in
         subst (FirstAt place) (sym (come ∙ ap (λ (o : Option Item). with_whole o others) (sym w))) all

@@ -94,7 +94,7 @@ object_sound_moved limit limit' begin place n line is fits =
     by false true ea eb is =
         let p =
         none_of (too_long limit place (size line))
-            (or_else (unterminated place line) (nul_fault place (nul_in line.text))) is in
+        (or_else (unterminated place line) (nul_fault place (nul_in line.text))) is in
         let s = short limit place (size line) p.0 in
         let over = ltb-true (max_object - (place - begin)) (size line) eb in
         let under = ltb-false (max_object - (place - begin)) (min (limit - place) max_line) ea in

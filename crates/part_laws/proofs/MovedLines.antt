@@ -156,10 +156,10 @@ object_step_moved place n item begin object line whole next is =
         ap (λ (i : Item). record { whole = Some i; next = Ok nothing }) whole_moved ∙ ap (moved_step n) is
     by true true false is =
         absurd (not_faulty (at begin ObjectBase64) next
-            (object_made line place item begin object true true false) whole refl is)
+        (object_made line place item begin object true true false) whole refl is)
     by true false body is =
         absurd (not_faulty (at place ObjectEnd) next
-            (object_made line place item begin object true false body) whole refl is)
+        (object_made line place item begin object true false body) whole refl is)
     by false end_ body is = ap (moved_step n) is
 
 object_moved : (limit limit' place n : ℕ) (item : Item) (begin : ℕ) (object : Object) (line : Line)
@@ -243,13 +243,12 @@ pub reads_moved : (limit limit' place n : ℕ) (open_ : Open) (lines : List Line
 reads_moved limit limit' place n open_ [] items last is fits =
     (ap (map (moved n)) is.0, ap (moved_open n) is.1)
 reads_moved limit limit' place n open_ (line ∷ rest) items last (whole, next, others, made, come, more) fits =
-    let here : place + size line + n ≡ place + n + size line = omega arith in
-    (
+    let here : place + size line + n ≡ place + n + size line = omega arith in (
       option_map (moved n) whole,
       moved_open n next,
       map (moved n) others,
       step_moved limit limit' place n open_ line whole next made (omega (arith, fits)),
       ap (map (moved n)) come ∙ whole_map n whole others,
       subst (λ (k : ℕ). Reads limit' k (moved_open n next) rest (map (moved n) others) (moved_open n last)) here
-      (reads_moved limit limit' (place + size line) n next rest others last more (omega (arith, fits))),
+          (reads_moved limit limit' (place + size line) n next rest others last more (omega (arith, fits))),
     )

@@ -133,7 +133,7 @@ module _ {S K V X : Type 0} (tables : Tables S K V X) (end : EndWithObjects tabl
       by_group again made remembered next group e known goes (Err refusal) read is = absurd (cc is)
       by_group again made remembered next group e known goes (Ok other) read is =
           longer tables length_ across open_ item items document other remembered next
-              (sym (ap (used_or tables length_) is))
+          (sym (ap (used_or tables length_) is))
           (λ l fault more same. made_read made remembered e known l fault more
           ∙ goes (λ next. read_items tables l remembered next fault more) ∙ ap (onto group) same ∙ is)
           (again remembered next other read)
@@ -219,7 +219,7 @@ pub within_text : {S K V X : Type 0} (tables : Tables S K V X) → EndWithObject
     → document.used ≤ length text
 within_text {S} {K} {V} {X} tables end limit text document is =
     by (read_to tables end (length text) tables.start (start tables) (items_of limit text).fault
-        (items_of limit text).items document is)
+    (items_of limit text).items document is)
   where
     by : Ended tables (length text) tables.start (start tables) (items_of limit text).items document
         → document.used ≤ length text

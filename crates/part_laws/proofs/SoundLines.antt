@@ -36,7 +36,7 @@ inside_sound : (limit begin place : ℕ) (line : Line) → object_line_fault lim
     → line_fault limit place line ≡ None
 inside_sound limit begin place line is =
     by (nat_lt (max_object - (place - begin)) (min (limit - place) max_line) && nat_lt (max_object - (place - begin))
-        (size line)) is
+    (size line)) is
   where
     by : (t : Bool) → (if t then Some (at begin ObjectTooLong) else line_fault limit place line) ≡ None
         → line_fault limit place line ≡ None
@@ -68,15 +68,15 @@ step_sound limit place (keyword_line item) line whole next is = by (starts_dash 
         read_sound limit place line next r
 step_sound limit place (object_lines item begin object) line whole next is =
     inside_sound limit begin place line
-        (object_sound (object_line_fault limit begin place line)
-        (object_step item begin object place line) whole next is)
+    (object_sound (object_line_fault limit begin place line)
+    (object_step item begin object place line) whole next is)
 
 -- a line without a fault ends with its NL, and within the limit
 pub has_end : (limit place : ℕ) (line : Line) → line_fault limit place line ≡ None → line.ended ≡ true
 has_end limit place line is =
     let others = or_else (unterminated place line) (nul_fault place (nul_in line.text)) in
     by line.ended (none_of (unterminated place line) (nul_fault place (nul_in line.text))
-        (none_of (too_long limit place (size line)) others is).1).0
+    (none_of (too_long limit place (size line)) others is).1).0
   where
     by : (t : Bool) → (if t then None else Some (at (place + length line.text) Unterminated)) ≡ None → t ≡ true
     by true is = refl
@@ -89,9 +89,11 @@ some_size text false e = absurd (cc e)
 pub ends_all : (limit place : ℕ) (open_ : Open) (ls : List Line) (items : List Item) (last : Open)
     → Reads limit place open_ ls items last → AllEnded ls
 ends_all limit place open_ [] items last is = tt
-ends_all limit place open_ (line ∷ rest) items last (whole, next, others, made, come, more) =
-    (has_end limit place line (step_sound limit place open_ line whole next made), ends_all limit
-    (place + size line) next rest others last more)
+ends_all limit place open_ (line ∷ rest) items last (whole, next, others, made, come, more) = (
+  has_end limit place line (step_sound limit place open_ line whole next made),
+  ends_all limit
+      (place + size line) next rest others last more,
+)
 
 -- where there are lines, all of them are within the limit
 pub within_all : (limit place : ℕ) (open_ : Open) (ls : List Line) (items : List Item) (last : Open)
@@ -102,7 +104,7 @@ within_all limit place open_ (line ∷ rest) items last (whole, next, others, ma
     let sound = step_sound limit place open_ line whole next made in
     let s =
     short limit place (size line) (none_of (too_long limit place (size line))
-        (or_else (unterminated place line) (nul_fault place (nul_in line.text))) sound).0 in
+    (or_else (unterminated place line) (nul_fault place (nul_in line.text))) sound).0 in
     let here : place + size line ≤ limit = omega (arith, s, fits) in
     let all = within_all limit (place + size line) next rest others last more here in
     omega (arith, all)
@@ -177,15 +179,21 @@ object_before None place item begin object line =
 
 step_before : (limit place : ℕ) (open_ : Open) (line : Line) → IsBefore place open_
     → IsNot (place + size line) (step limit place open_ line)
-step_before limit place nothing line before = record { open_ = read_before
-    (line_fault limit place line) place line; whole = tt }
+step_before limit place nothing line before = record {
+  open_ = read_before
+      (line_fault limit place line) place line;
+  whole = tt;
+}
 step_before limit place (keyword_line item) line before = by (starts_dash line)
   where
     by : (dash : Bool) → IsNot (place + size line)
         (after_line dash (open_unless (line_fault limit place line)
         (first_object_line place item line (begin_words line.text))) item (open_item (read_line limit place line)))
-    by true = record { open_ = begun_before (line_fault limit place line) (place + size line) place item line
-        (begin_words line.text); whole = tt }
+    by true = record {
+      open_ = begun_before (line_fault limit place line) (place + size line) place item line
+          (begin_words line.text);
+      whole = tt;
+    }
     by false = record { open_ = read_before (line_fault limit place line) place line; whole = omega (arith, before) }
 step_before limit place (object_lines item begin object) line before =
     object_before (object_line_fault limit begin place line) place item begin object line

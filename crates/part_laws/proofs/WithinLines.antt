@@ -136,8 +136,11 @@ object_in None place item begin object line ended is fits =
 
 step_in : (limit place : ℕ) (open_ : Open) (line : Line) → line.ended ≡ true → IsOpenIn place open_
     → IsMadeIn (place + size line) (step limit place open_ line)
-step_in limit place nothing line ended is = record { next = read_in
-    (line_fault limit place line) place line; whole = tt }
+step_in limit place nothing line ended is = record {
+  next = read_in
+      (line_fault limit place line) place line;
+  whole = tt;
+}
 step_in limit place (keyword_line item) line ended is = by (starts_dash line)
   where
     further : IsIn (place + size line) item
@@ -146,8 +149,11 @@ step_in limit place (keyword_line item) line ended is = by (starts_dash line)
     by : (dash : Bool) → IsMadeIn (place + size line)
         (after_line dash (open_unless (line_fault limit place line)
         (first_object_line place item line (begin_words line.text))) item (open_item (read_line limit place line)))
-    by true = record { next = begun_in (line_fault limit place line) place item line
-        (begin_words line.text) further; whole = tt }
+    by true = record {
+      next = begun_in (line_fault limit place line) place item line
+          (begin_words line.text) further;
+      whole = tt;
+    }
     by false = record { next = read_in (line_fault limit place line) place line; whole = further }
 step_in limit place (object_lines item begin object) line ended is =
     object_in (object_line_fault limit begin place line) place item begin object line ended is.0 is.1
