@@ -25,8 +25,9 @@ use Rattle.vote_doc.specs.Lists.{lists_in, vote_lists}
 use Rattle.vote_doc.specs.Reading.{max_vote}
 use Rattle.vote_frame.specs.Tables.{vote_tables}
 use Rattle.vote_laws.proofs.EntryKept.{entries_say}
-use Rattle.vote_laws.proofs.VoteItems.{VoteEntry, signature_entry}
-use Rattle.vote_laws.proofs.VoteLists.{params_back, protocols_back, versions_back}
+use Rattle.vote_laws.proofs.VoteItems.{VoteEntry, list_kinds, signature_entry}
+use Rattle.group_laws.proofs.ListRows.{protocols_back, versions_back}
+use Rattle.vote_laws.proofs.VoteLists.{params_back}
 use Rattle.vote_laws.proofs.VotePlaces.{authority_place, certificate_place, footer_from, in_preamble}
 use Rattle.vote_laws.proofs.VoteRandoms.{kept_random, random_said}
 use Rattle.vote_laws.proofs.VoteRows.{authority, authority_written, certificate_row, footer, footer_ended, preamble}
@@ -122,26 +123,26 @@ module _ (front : List ℕ) (facts : VoteFacts) (bytes rest : List ℕ) (first :
       let lists : vote_lists all (lists_in (in_preamble at facts)) ≡ l =
       λ i. record {
         client_versions =
-            versions_back the.ClientVersions l.client_versions ranges.client_versions
+            versions_back list_kinds the.ClientVersions l.client_versions ranges.client_versions
             (row_read the.ClientVersions preamble_read refl) i;
         server_versions =
-            versions_back the.ServerVersions l.server_versions ranges.server_versions
+            versions_back list_kinds the.ServerVersions l.server_versions ranges.server_versions
             (row_read the.ServerVersions preamble_read refl) i;
         recommended_client_protocols =
-            protocols_back the.RecommendedClientProtocols l.recommended_client_protocols
+            protocols_back list_kinds the.RecommendedClientProtocols l.recommended_client_protocols
             ranges.recommended_client_protocols (row_read the.RecommendedClientProtocols preamble_read refl) i;
         recommended_relay_protocols =
-            protocols_back the.RecommendedRelayProtocols l.recommended_relay_protocols
+            protocols_back list_kinds the.RecommendedRelayProtocols l.recommended_relay_protocols
             ranges.recommended_relay_protocols (row_read the.RecommendedRelayProtocols preamble_read refl) i;
         required_client_protocols =
-            protocols_back the.RequiredClientProtocols l.required_client_protocols
+            protocols_back list_kinds the.RequiredClientProtocols l.required_client_protocols
             ranges.required_client_protocols (row_read the.RequiredClientProtocols preamble_read refl) i;
         required_relay_protocols =
-            protocols_back the.RequiredRelayProtocols l.required_relay_protocols
+            protocols_back list_kinds the.RequiredRelayProtocols l.required_relay_protocols
             ranges.required_relay_protocols (row_read the.RequiredRelayProtocols preamble_read refl) i;
         params = params_back l.params ranges.params (row_read the.Params preamble_read refl) i;
       } in
-      let delays = delays_said facts (row_read the.VotingDelay preamble_read refl) in
+      let delays = delays_said facts.vote_seconds facts.dist_seconds (row_read the.VotingDelay preamble_read refl) in
       let source = source_said facts (row_read the.DirSource authority_read refl) in
       λ i. record {
         methods = methods_said facts.methods values.methods (row_read the.ConsensusMethods preamble_read refl) i;
