@@ -1,0 +1,65 @@
+-- What the lines of a station input say that are lists of values, as those of a vote do (dir-spec, "Vote and consensus
+-- status document formats").
+use Rattle.std.specs.Prelude.{ℕ, ℤ, List, option_map, Option, None}
+use Rattle.frame_terms.specs.declared.document.Taken.{Taken}
+use Rattle.frame_terms.specs.declared.keyword.Keyword.TheVariants.{ClientVersions, ServerVersions, Params}
+use Rattle.frame_terms.specs.declared.keyword.Keyword.TheVariants.{RecommendedClientProtocols}
+use Rattle.frame_terms.specs.declared.keyword.Keyword.TheVariants.{RecommendedRelayProtocols}
+use Rattle.frame_terms.specs.declared.keyword.Keyword.TheVariants.{RequiredClientProtocols, RequiredRelayProtocols}
+use Rattle.frame_values.specs.declared.found.Span.{Span}
+use Rattle.frame_values.specs.declared.values.Value.{Value}
+use Rattle.frame_values.specs.Parts.{part}
+use Rattle.frame_values.specs.Values.{item_at, text_if}
+use Rattle.list_lines.specs.Listed.{params_in, protocols_in, versions_in}
+use Rattle.list_values.specs.declared.named.Named.{Named}
+use Rattle.station_frame.specs.declared.said.StationValue.{StationValue}
+use Rattle.vote_terms.specs.declared.lists.VoteLists.{VoteLists}
+use Rattle.station_input.specs.declared.lists.ListSpans.{ListSpans}
+
+-- the lists of an input that has none
+abbrev pub no_lists : ListSpans
+no_lists = record {
+  client_versions = None;
+  server_versions = None;
+  recommended_client_protocols = None;
+  recommended_relay_protocols = None;
+  required_client_protocols = None;
+  required_relay_protocols = None;
+  params = None;
+}
+
+-- where the lists of an input stand
+abbrev pub lists_in : List (Taken (Value StationValue)) → ListSpans
+lists_in taken = record {
+  client_versions = text_if (item_at taken ClientVersions);
+  server_versions = text_if (item_at taken ServerVersions);
+  recommended_client_protocols = text_if (item_at taken RecommendedClientProtocols);
+  recommended_relay_protocols = text_if (item_at taken RecommendedRelayProtocols);
+  required_client_protocols = text_if (item_at taken RequiredClientProtocols);
+  required_relay_protocols = text_if (item_at taken RequiredRelayProtocols);
+  params = text_if (item_at taken Params);
+}
+
+-- the versions of Tor that stand in a span, where there is one
+abbrev pub versions_if : List ℕ → Option Span → Option (List (List ℕ))
+versions_if bytes span = option_map versions_in (option_map (part bytes) span)
+
+-- the versions of protocols that stand in a span, where there is one
+abbrev pub protocols_if : List ℕ → Option Span → Option (List (Named (List ℕ)))
+protocols_if bytes span = option_map protocols_in (option_map (part bytes) span)
+
+-- the params that stand in a span, where there is one
+abbrev pub params_if : List ℕ → Option Span → Option (List (Named ℤ))
+params_if bytes span = option_map params_in (option_map (part bytes) span)
+
+-- the lists that stand there in these bytes
+abbrev pub vote_lists : List ℕ → ListSpans → VoteLists
+vote_lists bytes spans = record {
+  client_versions = versions_if bytes spans.client_versions;
+  server_versions = versions_if bytes spans.server_versions;
+  recommended_client_protocols = protocols_if bytes spans.recommended_client_protocols;
+  recommended_relay_protocols = protocols_if bytes spans.recommended_relay_protocols;
+  required_client_protocols = protocols_if bytes spans.required_client_protocols;
+  required_relay_protocols = protocols_if bytes spans.required_relay_protocols;
+  params = params_if bytes spans.params;
+}
