@@ -1,0 +1,4 @@
+pub mod Ranks
+pub mod Summaries
+pub mod Pools
+pub mod Lending

@@ -1,0 +1,20 @@
+-- What is made of a descriptor (dir-spec, "Computing microdescriptors").
+use Rattle.std.specs.Prelude.{◌≡◌, ℕ, List}
+use Rattle.dir_values.specs.Ports.{Ports}
+use Rattle.exit_summary.specs.Summaries.{summary_of}
+use Rattle.descriptor_doc.specs.declared.descriptor.Descriptor.{Descriptor}
+use Rattle.micro_desc.specs.Makings.{micro_of_descriptor}
+use Rattle.micro_desc.specs.Texts.{micro_text}
+
+-- the text of the microdescriptor of a descriptor and a summary
+abbrev pub micro_text_with : Descriptor → Ports → List ℕ
+micro_text_with descriptor summary = micro_text (micro_of_descriptor descriptor summary)
+
+-- the text of the microdescriptor of a descriptor and the summary of its exit policy
+abbrev pub micro_text_of : Descriptor → List ℕ
+micro_text_of descriptor = micro_text_with descriptor (summary_of descriptor.policy)
+
+-- These are the summary of a descriptor's exit policy, and the text of its microdescriptor.
+pub record IsPrepared (descriptor : Descriptor) (summary : Ports) (micro : List ℕ) : Type 0 where
+  pub summary_is : summary ≡ summary_of descriptor.policy
+  pub micro_is : micro ≡ micro_text_of descriptor

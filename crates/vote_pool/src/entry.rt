@@ -1,0 +1,91 @@
+// A relay's descriptor with what is made of it.
+ghost use Rattle.std.specs.Prelude.{◌≡◌};
+ghost use Rattle.exit_summary.specs.Summaries.{summary_of};
+ghost use Rattle.key_port.specs.Answers.{rules};
+ghost use Rattle.descriptor_doc.specs.Checks.{IsVerified};
+ghost use Rattle.vote_pool.specs.Ranks.{rank_of_descriptor};
+ghost use Rattle.vote_pool.specs.Summaries.{micro_text_of};
+
+use crate::rank::DescriptorRank;
+use descriptor_doc::{CheckedDescriptor, Descriptor};
+use dir_bytes::Text;
+use dir_values::{Fingerprint, PortSummary};
+use key_port::Verifier;
+use std::marker::Model;
+
+/// What a pool keeps of a relay.
+#[derive(Drop)]
+pub(crate) struct Prepared<V: Verifier> {
+    pub(crate) descriptor: CheckedDescriptor<V>,
+    pub(crate) summary: PortSummary,
+    pub(crate) micro: Text,
+}
+
+/// A relay's descriptor, which holds under a verifier, with the summary of its exit policy and the text of its
+/// microdescriptor. Contracts see it as the descriptor. To move it is to move a pointer.
+#[derive(Drop)]
+pub struct PoolEntry<V: Verifier> {
+    prepared: Box<Prepared<V>>,
+}
+
+impl<V: Verifier> Model for PoolEntry<V> {
+    ghost use Rattle.descriptor_doc.specs.declared.descriptor.Descriptor.{Descriptor};
+    ghost use Rattle.vote_pool.specs.Summaries.{IsPrepared};
+
+    ghost Value = { Descriptor };
+
+    ghost view = { λ e. e.prepared.value.descriptor };
+
+    ghost invariant = { λ e. IsPrepared e.prepared.value.descriptor e.prepared.value.summary e.prepared.value.micro };
+}
+
+impl<V: Verifier> PoolEntry<V> {
+    /// What was prepared, as one that a pool may keep.
+    pub(crate) fn new(prepared: Box<Prepared<V>>) -> PoolEntry<V>
+        requires summary { prepared.value.summary ≡ summary_of prepared.value.descriptor.policy }
+        requires micro { prepared.value.micro ≡ micro_text_of prepared.value.descriptor }
+        ensures { result ≡ prepared.value.descriptor }
+    {
+        PoolEntry { prepared }
+    }
+
+    /// The descriptor, which holds.
+    pub fn descriptor(&self) -> &Descriptor
+        ensures descriptor { result.now ≡ self.now }
+        ensures verified { IsVerified (rules V.may_accept V.may_refuse) self.now }
+    {
+        self.prepared.descriptor.descriptor()
+    }
+
+    /// Which ports its exit policy opens to most addresses (dir-spec, the `p` line).
+    pub fn summary(&self) -> &PortSummary
+        ensures { result.now ≡ summary_of self.now.policy }
+    {
+        &self.prepared.summary
+    }
+
+    /// The text of its microdescriptor (dir-spec, "Computing microdescriptors").
+    pub fn micro(&self) -> &[u8]
+        ensures { result.now ≡ micro_text_of self.now }
+    {
+        self.prepared.micro.as_bytes()
+    }
+
+    /// The relay's identity.
+    pub(crate) fn identity(&self) -> Fingerprint
+        ensures { result ≡ self.now.identity }
+    {
+        self.descriptor().identity
+    }
+
+    /// The descriptor's rank.
+    pub(crate) fn rank(&self) -> DescriptorRank
+        ensures { result ≡ rank_of_descriptor self.now }
+    {
+        let descriptor = self.descriptor();
+        DescriptorRank {
+            published: descriptor.published,
+            digest: descriptor.digest,
+        }
+    }
+}
