@@ -1,6 +1,7 @@
 -- Where a descriptor is put among those that ascend, and which is held of its relay.
-use Rattle.std.proofs.Common.{◌≡◌, ℕ, suc, ◌+◌, ◌<◌, ◌≤◌, Bool, true, false, List, [], ◌∷◌, ◌++◌, length, get_or, filter, find}
-use Rattle.std.proofs.Common.{Option, Some, None, refl, sym, ap, ◌∙◌, subst, ⊎_elim, arith}
+use Rattle.std.proofs.Common.{◌≡◌, ℕ, suc, ◌+◌, ◌<◌, ◌≤◌, Bool, true, false, List, [], ◌∷◌, ◌++◌}
+use Rattle.std.proofs.Common.{length, get_or, filter, find}
+use Rattle.std.proofs.Common.{Option, None, refl, sym, ap, ◌∙◌, subst, ⊎_elim, arith}
 use Rattle.std.specs.Prelude.{All, AllPairs, is_some}
 use Rattle.std.specs.List.{prefix_len}
 use Rattle.std.specs.List.Sorted.{IsPartitionedBy}
@@ -24,7 +25,7 @@ use Rattle.vote_pool.specs.declared.rank.DescriptorRank.{DescriptorRank}
 -- ---- the order of identities
 
 -- a descriptor comes before another
-abbrev Before : Descriptor → Descriptor → Type 0
+abbrev pub Before : Descriptor → Descriptor → Type 0
 Before a b = identity_below a.identity b.identity ≡ true
 
 -- no text comes before itself
@@ -33,12 +34,12 @@ not_itself a =
     false_from_ne_true (bytes_below a a) (λ below. true≢false (sym ((bytes_decides a a).1 refl) ∙ apart a a below))
 
 -- nor before one that comes before it
-not_back : (a b : List ℕ) → bytes_below a b ≡ true → bytes_below b a ≡ false
+pub not_back : (a b : List ℕ) → bytes_below a b ≡ true → bytes_below b a ≡ false
 not_back a b below =
     false_from_ne_true (bytes_below b a) (λ back. true≢false (sym (below-trans a b a below back) ∙ not_itself a))
 
 -- nor before one that is the same
-not_before_same : (a b : List ℕ) → a ≡ b → bytes_below b a ≡ false
+pub not_before_same : (a b : List ℕ) → a ≡ b → bytes_below b a ≡ false
 not_before_same a b same = ap (λ (c : List ℕ). bytes_below b c) same ∙ not_itself b
 
 -- ---- lists
@@ -110,12 +111,12 @@ ascends xs new up =
 -- ---- the place of a descriptor
 
 -- descriptors that all come behind one
-record AllBehind (xs : List Descriptor) (new : Descriptor) : Type 0 where
-  none : filter (λ (held : Descriptor). identity_below held.identity new.identity) xs ≡ []
-  each : filter (λ (held : Descriptor). identity_below new.identity held.identity) xs ≡ xs
-  absent : descriptor_for xs new.identity ≡ None
+pub record AllBehind (xs : List Descriptor) (new : Descriptor) : Type 0 where
+  pub none : filter (λ (held : Descriptor). identity_below held.identity new.identity) xs ≡ []
+  pub each : filter (λ (held : Descriptor). identity_below new.identity held.identity) xs ≡ xs
+  pub absent : descriptor_for xs new.identity ≡ None
 
-all_behind : (xs : List Descriptor) (new : Descriptor) → All (Before new) xs → AllBehind xs new
+pub all_behind : (xs : List Descriptor) (new : Descriptor) → All (Before new) xs → AllBehind xs new
 all_behind xs new all = record {
   none = filter_none (λ (held : Descriptor). identity_below held.identity new.identity) xs
       (All-weaker (Before new) (λ (held : Descriptor). identity_below held.identity new.identity ≡ false)

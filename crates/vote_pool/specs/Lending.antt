@@ -14,7 +14,8 @@ place_of descriptors identity = prefix_len (λ (held : Descriptor). identity_bel
 -- the rank of a descriptor, if it is of the identity
 abbrev pub rank_if_of : Option Descriptor → Fingerprint → Option DescriptorRank
 rank_if_of None identity = None
-rank_if_of (Some held) identity = if same_identity held.identity identity then Some (rank_of_descriptor held) else None
+rank_if_of (Some held) identity =
+    if same_identity held.identity identity then Some (rank_of_descriptor held) else None
 
 -- the rank of the descriptor at a place, if it is of the identity
 abbrev pub rank_at : List Descriptor → ℕ → Fingerprint → Option DescriptorRank
@@ -22,7 +23,8 @@ rank_at descriptors place identity = rank_if_of (slice_get descriptors place) id
 
 -- the descriptors with one at a place, in place of the one that is there or before it
 abbrev pub put_at : List Descriptor → ℕ → Bool → Descriptor → List Descriptor
-put_at descriptors place replaces new = if replaces then slice_set descriptors place new else insert descriptors place new
+put_at descriptors place replaces new =
+    if replaces then slice_set descriptors place new else insert descriptors place new
 
 -- how many there are then
 abbrev pub len_after : ℕ → Bool → ℕ

@@ -2,3 +2,4 @@ pub mod Ranks
 pub mod Summaries
 pub mod Pools
 pub mod Lending
+pub mod Laws

@@ -1,5 +1,6 @@
 -- The descriptors that an authority holds of relays, one of each, and what keeping one more answers.
-use Rattle.std.specs.Prelude.{◌≡◌, ℕ, ◌+◌, ◌≤◌, ◌<◌, nat_eq, nat_le, Bool, true, false, List, ◌∷◌, ◌++◌, length, filter, AllPairs}
+use Rattle.std.specs.Prelude.{◌≡◌, ℕ, ◌+◌, ◌≤◌, ◌<◌, nat_eq, nat_le, Bool, true, false}
+use Rattle.std.specs.Prelude.{List, ◌∷◌, ◌++◌, length, filter, AllPairs}
 use Rattle.std.specs.Prelude.{Option, Some, None, if◌then◌else◌}
 use Rattle.std.specs.List.{find}
 use Rattle.std.specs.Option.{option_map}
@@ -31,7 +32,8 @@ abbrev pub DescriptorsAscend : List Descriptor → Type 0
 DescriptorsAscend descriptors =
     AllPairs (λ (earlier later : Descriptor). identity_below earlier.identity later.identity ≡ true) descriptors
 
--- What is kept of the descriptors that are held: they ascend, are few enough, and there is memory for as many as may be.
+-- What is kept of the descriptors that are held: they ascend, are few enough, and there is memory for as many as may
+-- be.
 pub record IsPooled (descriptors : List Descriptor) (capacity : ℕ) : Type 0 where
   pub ascend : DescriptorsAscend descriptors
   pub few : length descriptors ≤ most_relays
@@ -47,8 +49,8 @@ rank_for descriptors identity = option_map rank_of_descriptor (descriptor_for de
 
 -- ---- keeping one more
 
--- descriptors with one more: those of smaller identities, this one, and those of greater identities, so that it stands in
--- place of any other of its relay
+-- descriptors with one more: those of smaller identities, this one, and those of greater identities, so that it
+-- stands in place of any other of its relay
 abbrev pub descriptors_with : List Descriptor → Descriptor → List Descriptor
 descriptors_with descriptors new =
     filter (λ (held : Descriptor). identity_below held.identity new.identity) descriptors

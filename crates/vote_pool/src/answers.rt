@@ -8,7 +8,7 @@ use crate::rank::{DescriptorRank, is_newer, is_same_rank};
 pub(crate) const MOST_RELAYS: usize = 16_384;
 
 /// What keeping a descriptor answers; of several the first of `Have`, `Older`, `Worn` and `PoolFull`.
-#[derive(Clone, Copy, Debug)]
+#[derive(Clone, Copy)]
 pub enum Keep {
     /// None of the relay was held. This one is now.
     Kept,

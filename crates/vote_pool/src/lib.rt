@@ -4,12 +4,14 @@
 mod answers;
 mod entry;
 mod keeping;
+mod laws;
 mod pool;
 mod preparing;
 mod rank;
 
 pub use answers::Keep;
 pub use entry::PoolEntry;
+pub use laws::{changes_are_held, others_stay, replaced_are_older};
 pub use pool::Pool;
 pub use preparing::prepare;
 pub use rank::DescriptorRank;

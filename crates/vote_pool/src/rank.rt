@@ -6,7 +6,7 @@ use dir_values::Digest1;
 
 /// When a descriptor was made, and its digest. Of two descriptors of a relay the one of greater rank is held: the later, or of
 /// two of one moment that of the greater digest.
-#[derive(Clone, Copy, Debug)]
+#[derive(Clone, Copy)]
 pub struct DescriptorRank {
     /// In seconds since 1970-01-01 00:00:00 UTC.
     pub published: u64,

@@ -1,4 +1,4 @@
-use Rattle.std.proofs.Common.{rules, ℕ, sym, arith}
+use Rattle.std.proofs.Common.{rules, sym, arith}
 use Rattle.std.proofs.lemmas.List.Sorted.{IsPartitionPoint-from_clause}
 use Rattle.dir_values.specs.Digests.{identity_below}
 use Rattle.descriptor_doc.specs.declared.descriptor.Descriptor.{Descriptor}
