@@ -1,2 +1,3 @@
 pub mod SoundKinds
 pub mod ClearKinds
+pub mod NoDocKinds

@@ -9,6 +9,7 @@ use Rattle.table_laws.specs.OneSection.{HasOneSection}
 use Rattle.table_laws.specs.Sound.{AreSound}
 use Rattle.document_laws.specs.Clear.{AreClear}
 use Rattle.document_laws.specs.Documents.{AreExact}
+use Rattle.feed_laws.specs.Known.{HasNoDoc}
 
 -- The tables of each kind are sound, and those of certificates that stand alone and of descriptors have one section.
 pub record KindsAreSound : Type 0 where
@@ -35,3 +36,11 @@ pub record KindsAreExact : Type 0 where
   pub consensuses : (flavour : Flavour) → AreExact (consensus_tables flavour)
   pub descriptors : AreExact descriptor_tables
   pub microdescriptors : AreExact micro_tables
+
+-- The tables of each kind refuse no item as a line or an object is refused.
+pub record KindsHaveNoDoc : Type 0 where
+  pub certificates : HasNoDoc cert_tables
+  pub votes : HasNoDoc vote_tables
+  pub consensuses : (flavour : Flavour) → HasNoDoc (consensus_tables flavour)
+  pub descriptors : HasNoDoc descriptor_tables
+  pub microdescriptors : HasNoDoc micro_tables

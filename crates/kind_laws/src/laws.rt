@@ -1,5 +1,5 @@
 // What holds of the tables of each kind of document.
-ghost use Rattle.kind_laws.specs.Kinds.{KindsAreClear, KindsAreExact, KindsAreSound};
+ghost use Rattle.kind_laws.specs.Kinds.{KindsAreClear, KindsAreExact, KindsAreSound, KindsHaveNoDoc};
 
 /// A law: the tables of certificates, votes, consensuses of either flavour, server descriptors and microdescriptors are
 /// sound, and certificates and descriptors have one section.
@@ -15,4 +15,10 @@ pub fn kinds_are_clear()
 /// A law: items are read as a document of one of these kinds exactly where they are its sections.
 pub fn kinds_are_exact()
     ensures { KindsAreExact }
+{}
+
+/// A law: the tables of each of these kinds refuse no item as a line or an object is refused that has a fault. So of
+/// each that is read while its bytes arrive nothing is held back (`feed_laws`).
+pub fn kinds_have_no_doc()
+    ensures { KindsHaveNoDoc }
 {}
