@@ -22,7 +22,7 @@ pub parted : {X : Type 0} → (xs : List X) (i : ℕ) (x : X) → i < length xs 
     → xs ≡ take i xs ++ x ∷ drop (i + 1) xs
 parted xs i x lt is =
     sym (take-append-drop i xs) ∙ ap (λ r. take i xs ++ r) (drop_more xs i x lt ∙ ap (λ y. y ∷ drop (i + 1) xs)
-        (sym is))
+    (sym is))
 
 -- ---- lines
 
@@ -47,7 +47,7 @@ refused_next steps digest key lines i line old between new lt is h a =
 -- the lines before one are refused, and of that it answers
 pub answers_at : {V : Type 0} (steps : Steps V) (digest : List ℕ) (key : SignerKey) (lines : List SignatureLine)
     (i : ℕ) (line : SignatureLine) (old between new : V) (result : VerifyAnswer) → i < length lines
-        → line ≡ get_or lines i line
+    → line ≡ get_or lines i line
     → RefusesLines steps digest key (take i lines) old between → AsksOfLine steps digest key line between result new
     → AnswersAt steps digest lines key old result new
 answers_at steps digest key lines i line old between new result lt is h a =
@@ -63,8 +63,12 @@ AnswersKey steps digest lines key old new =
 asked_more : {V : Type 0} (steps : Steps V) (digest : List ℕ) (lines : List SignatureLine) (before : List SignerKey)
     (key : SignerKey) (old between new : V) → AsksOfKeys steps digest lines before old between
     → AnswersKey steps digest lines key between new → AsksOfKeys steps digest lines (before ++ key ∷ []) old new
-asked_more steps digest lines [] key old between new h a = (new, subst (λ v. AnswersKey steps digest lines key v new)
-    h a, refl)
+asked_more steps digest lines [] key old between new h a = (
+  new,
+  subst (λ v. AnswersKey steps digest lines key v new)
+      h a,
+  refl,
+)
 asked_more steps digest lines (first ∷ rest) key old between new h a =
     (h.0, h.1, asked_more steps digest lines rest key h.0 between new h.2 a)
 

@@ -25,16 +25,16 @@ signer_more rules digest before key lines signers apart are good =
     record {
       members = All-push (Contains (before ++ key ∷ [])) signers key
           (All-weaker (Contains before) (Contains (before ++ key ∷ [])) (λ x. Contains-append_left before (key ∷ [])
-              x) signers are.members) (Contains-push before key);
+          x) signers are.members) (Contains-push before key);
       once = all_pairs_push AreApart signers key are.once (λ k d lt. All-contains (λ other. AreApart other key) before
           (get_or signers k d) apart (are.members k d lt));
       signed = All-push (λ key. has_good_line rules digest lines key ≡ true) signers key are.signed good;
       others = All-push (λ other. Contains (signers ++ key ∷ []) other ⊎ (has_bad_lines rules digest lines other ≡
           true)) before key
           (All-weaker (λ other. Contains signers other ⊎ (has_bad_lines rules digest lines other ≡ true))
-              (λ other. Contains (signers ++ key ∷ []) other ⊎ (has_bad_lines rules digest lines other ≡ true))
-              (λ other h. elim h [ inl c ↦ inl (Contains-append_left signers (key ∷ []) other c) | inr b ↦ inr b ])
-                  before are.others)
+          (λ other. Contains (signers ++ key ∷ []) other ⊎ (has_bad_lines rules digest lines other ≡ true))
+          (λ other h. elim h [ inl c ↦ inl (Contains-append_left signers (key ∷ []) other c) | inr b ↦ inr b ])
+          before are.others)
           (inl (Contains-push signers key));
     }
 
@@ -59,8 +59,8 @@ pub apart_from : (keys : List SignerKey) (i : ℕ) (d : SignerKey) → i < lengt
 apart_from keys i d lt apart k e below =
     let at : k < i = omega (arith, below, length-take-le i keys (omega (arith, lt))) in
     let pairs : k < i → AreApart (get_or keys k e) (get_or keys i d) =
-        λ l. subst (λ other. AreApart other (get_or keys i d))
-        (sym (get_or_default keys k e d (omega (arith, l, lt)))) (apart k i d l lt) in
+    λ l. subst (λ other. AreApart other (get_or keys i d))
+    (sym (get_or_default keys k e d (omega (arith, l, lt)))) (apart k i d l lt) in
     subst (λ other. AreApart other (get_or keys i d)) (sym (get_or-take i keys k e at)) (pairs at)
 
 -- the keys so far and the next one, which signs
@@ -71,13 +71,13 @@ pub counts_signer : (rules : Rules) (digest : List ℕ) (keys : List SignerKey) 
     → CountsSigners rules digest (take (i + 1) keys) lines (count + 1)
 counts_signer rules digest keys i key lines count lt is apart counts good =
     let more : take (i + 1) keys ≡ take i keys ++ key ∷ [] = take_more keys i key lt ∙ ap (λ k. take i keys ++ k ∷ [])
-        (sym is) in
+    (sym is) in
     record {
       signers = counts.signers ++ key ∷ [];
       are = subst (λ ks. AreSigners rules digest ks lines (counts.signers ++ key ∷ [])) (sym more)
           (signer_more rules digest (take i keys) key lines counts.signers
-              (subst (λ k. All (λ other. AreApart other k) (take i keys)) (sym is) (apart_from keys i key lt apart))
-              counts.are good);
+          (subst (λ k. All (λ other. AreApart other k) (take i keys)) (sym is) (apart_from keys i key lt apart))
+          counts.are good);
       number = ap (λ n. n + 1) counts.number ∙ sym (length_push counts.signers key);
     }
 
@@ -89,7 +89,7 @@ pub counts_other : (rules : Rules) (digest : List ℕ) (keys : List SignerKey) (
     → CountsSigners rules digest (take (i + 1) keys) lines count
 counts_other rules digest keys i key lines count lt is counts bad =
     let more : take (i + 1) keys ≡ take i keys ++ key ∷ [] = take_more keys i key lt ∙ ap (λ k. take i keys ++ k ∷ [])
-        (sym is) in
+    (sym is) in
     record {
       signers = counts.signers;
       are = subst (λ ks. AreSigners rules digest ks lines counts.signers) (sym more)
@@ -118,5 +118,5 @@ pub bad_next : (rules : Rules) (digest : List ℕ) (lines : List SignatureLine) 
 bad_next rules digest lines i line key lt is bad one =
     subst (λ l. has_bad_lines rules digest l key ≡ true) (sym (taken lines i line lt is))
     (all_push (λ other. not (is_line_of key other) || is_signed rules.may_refuse digest key other) (take i lines) line
-        bad
-        one)
+    bad
+    one)

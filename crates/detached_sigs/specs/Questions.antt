@@ -20,7 +20,7 @@ abbrev pub RefusesLines : {V : Type 0} → Steps V → List ℕ → SignerKey �
 RefusesLines steps digest key [] old new = new ≡ old
 RefusesLines {V} steps digest key (line ∷ rest) old new =
     (between : V) × AsksOfLine steps digest key line old answer.No between × RefusesLines steps digest key rest
-        between new
+    between new
 
 -- it refuses the lines before one, of which it answers so
 abbrev pub AnswersAt : {V : Type 0} → Steps V → List ℕ → List SignatureLine → SignerKey → V → VerifyAnswer → V → Type 0

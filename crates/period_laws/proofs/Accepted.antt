@@ -82,7 +82,7 @@ wanted_more : (roster : List Fingerprint) (acc : List ReadVote) (va : ℕ) (v : 
 wanted_more roster acc va v p m k x i =
     ⊎_elim (λ (j : In x acc). k x j)
     (λ j. ⊎_elim (λ (e : x ≡ v). subst (λ (y : ReadVote). (y.says.valid_after ≡ va)
-        × (has_member roster y.says.identity ≡ true)) (sym e) (p, m)) (λ n. absurd n) j)
+    × (has_member roster y.says.identity ≡ true)) (sym e) (p, m)) (λ n. absurd n) j)
     (in_either acc (v ∷ []) x i)
 
 in_roster : (s : State) (roster : List Fingerprint) (a : Fingerprint) → s.roster ≡ roster → has_member s.roster a ≡
@@ -95,9 +95,9 @@ had_stands : (roster : List Fingerprint) (acc : List ReadVote) (s : State) (v h 
     → StandsAt roster (acc ++ v ∷ []) s
 had_stands roster acc s v h p m f o k =
     let at_held : vote_of (held acc) v.says.identity ≡ Some h =
-        subst (λ (l : List ReadVote). vote_of l v.says.identity ≡ Some h) k.votes_is f in
+    subst (λ (l : List ReadVote). vote_of l v.says.identity ≡ Some h) k.votes_is f in
     let same : held acc ≡ held (acc ++ v ∷ []) = sym (held_push acc v ∙ placed_stays (held acc) v h (held_ascends acc)
-        at_held o) in
+    at_held o) in
     record {
       roster_is = k.roster_is;
       votes_is = k.votes_is ∙ same;
@@ -130,13 +130,13 @@ vote_stands roster acc s v o row k =
     elim row [
       | refused answer e q a ↦ subst P (sym e)
           (subst (λ (b : Bool). StandsAt roster (with_answer acc v b) s) (sym a)
-              (subst (λ (l : List ReadVote). StandsAt roster l s) (sym (nil_end acc)) k))
+          (subst (λ (l : List ReadVote). StandsAt roster l s) (sym (nil_end acc)) k))
       | had answer h p m f n e q a ↦ subst P (sym e)
           (subst (λ (b : Bool). StandsAt roster (with_answer acc v b) s) (sym a) (had_stands roster acc s v h p m f n
-              k))
+          k))
       | kept answer p m voting few beats e q a ↦ subst P (sym e)
           (subst (λ (b : Bool). StandsAt roster (with_answer acc v b) (with_vote v s)) (sym a)
-              (kept_stands roster acc s v p m voting k))
+          (kept_stands roster acc s v p m voting k))
     ]
 
 -- ---- moments
@@ -184,7 +184,7 @@ computes_it roster acc s k = record {
   unset = λ e. absurd (false≢true (sym e));
   texts = λ c e. sym (same_some (consensus_of s) c e) ∙ consensus_is s
       ∙ ap (λ (l : List Fingerprint). consensus (length l) s.votes) k.roster_is
-          ∙ ap (λ (l : List ReadVote). consensus (length roster) l) k.votes_is;
+      ∙ ap (λ (l : List ReadVote). consensus (length roster) l) k.votes_is;
 }
 
 begins_it : (roster : List Fingerprint) (acc : List ReadVote) (s : State) (next : ℕ) → StandsAt roster acc s
@@ -252,7 +252,7 @@ run_stands : (events : List Event) (roster : List Fingerprint) (acc : List ReadV
 run_stands [] roster acc s k = k
 run_stands (event ∷ events) roster acc s k =
     run_stands events roster (accepted_after event (step s event).answer acc) (step s event).after
-        (step_stands roster acc s event k)
+    (step_stands roster acc s event k)
 
 start_stands : (start : State) → IsStart start → StandsAt start.roster [] start
 start_stands start begin = record {
@@ -297,7 +297,7 @@ one_text one other events others alike apart =
       votes = are_held one events alike.first ∙ same ∙ sym (are_held other others alike.second);
       texts = λ c d e f flavour. ap (λ (x : Consensus). unsigned flavour x)
           (of_accepted one events alike.first c e ∙ ap (λ (x : List Fingerprint). consensus (length x) (held l))
-              alike.roster
+          alike.roster
           ∙ ap (λ (x : List ReadVote). consensus (length other.roster) x) same
-              ∙ sym (of_accepted other others alike.second d f));
+          ∙ sym (of_accepted other others alike.second d f));
     }

@@ -42,12 +42,12 @@ same_fields a b e f g h =
 pub same_is : (a b : SignedDigest) → same_signed a b ≡ true → a ≡ b
 same_is a b h =
     let one = and_true (same_identity a.authority b.authority && same_flavour a.flavour b.flavour &&
-        (a.period == b.period)) (bytes_eq a.digest b.digest) h in
+    (a.period == b.period)) (bytes_eq a.digest b.digest) h in
     let two = and_true (same_identity a.authority b.authority && same_flavour a.flavour b.flavour)
-        (a.period == b.period) one.0 in
+    (a.period == b.period) one.0 in
     let three = and_true (same_identity a.authority b.authority) (same_flavour a.flavour b.flavour) two.0 in
     same_fields a b (same_one a.authority b.authority three.0) (flavours a.flavour b.flavour three.1)
-        (eqb-true _ _ two.1) (same_text a.digest b.digest one.1)
+    (eqb-true _ _ two.1) (same_text a.digest b.digest one.1)
 
 same_itself : (a : SignedDigest) → same_signed a a ≡ true
 same_itself a =

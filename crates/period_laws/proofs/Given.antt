@@ -23,7 +23,7 @@ found_by : (b : Bool) (line x : SignatureLine) (xs : List SignatureLine) → sam
     (filter (λ (o : SignatureLine). not (same_identity o.identity line.identity)) xs ++ line ∷ []) ≡ Some line
     → find (λ (o : SignatureLine). same_identity o.identity line.identity)
     (cond (not b) (x ∷ filter (λ (o : SignatureLine). not (same_identity o.identity line.identity)) xs)
-        (filter (λ (o : SignatureLine). not (same_identity o.identity line.identity)) xs) ++ line ∷ []) ≡ Some line
+    (filter (λ (o : SignatureLine). not (same_identity o.identity line.identity)) xs) ++ line ∷ []) ≡ Some line
 found_by true line x xs e r = r
 found_by false line x xs e r = rw e r
 
@@ -47,11 +47,11 @@ signing_told s c None given = refl
 signing_told s c (Some vote) (Given ns microdesc) =
     let key = vote.says.certificate.signing_key in
     ap (λ (x : List ℕ). sign_with s c vote.says.certificate.signing_key x
-        (signature_in (with_signature s.micro_lines (own_line Microdesc s.own vote.says.certificate.signing_key
-        microdesc)) s.own))
+    (signature_in (with_signature s.micro_lines (own_line Microdesc s.own vote.says.certificate.signing_key
+    microdesc)) s.own))
     (own_is s.ns_lines (own_line Ns s.own key ns))
     ∙ ap (λ (x : List ℕ). sign_with s c vote.says.certificate.signing_key ns x)
-        (own_is s.micro_lines (own_line Microdesc s.own key microdesc))
+    (own_is s.micro_lines (own_line Microdesc s.own key microdesc))
 signing_told s c (Some vote) SignerFails = refl
 signing_told s c (Some vote) VerifierFails = refl
 signing_told s c (Some vote) (Refused digest) = refl

@@ -26,24 +26,36 @@ in_time state vote via now t =
 pub first_kept : FirstVotesAreKept
 unfolding offer
 first_kept state vote via now t none =
-    rw (eq-eqb vote.says.valid_after state.valid_after t.period, t.member, in_time state vote via now t, none,
-        not_le state.vote_changes most_vote_changes t.room) refl
+    rw (
+      eq-eqb vote.says.valid_after state.valid_after t.period,
+      t.member,
+      in_time state vote via now t,
+      none,
+      not_le state.vote_changes most_vote_changes t.room,
+    ) refl
 
 pub greater_replaces : GreaterVotesReplace
 unfolding offer
 greater_replaces state vote held via now t some up down =
-    rw (eq-eqb vote.says.valid_after state.valid_after t.period, t.member, in_time state vote via now t, some, down,
-        up, not_le state.vote_changes most_vote_changes t.room) refl
+    rw (
+      eq-eqb vote.says.valid_after state.valid_after t.period,
+      t.member,
+      in_time state vote via now t,
+      some,
+      down,
+      up,
+      not_le state.vote_changes most_vote_changes t.room,
+    ) refl
 
 pub signature_kept : SignaturesAreKept
 unfolding sign_in
 signature_kept state signature c p is d key none open_it =
     let same : bytes_eq signature.digest (digest_of signature.flavour c) ≡ true =
-        (bytes_decides signature.digest (digest_of signature.flavour c)).1 d in
+    (bytes_decides signature.digest (digest_of signature.flavour c)).1 d in
     let ours : (sign_in_over state signature (Some c)).answer ≡ signs.Kept (state.front + 1) =
-        rw (same, key, none, open_it) refl in
+    rw (same, key, none, open_it) refl in
     rw (eq-eqb signature.valid_after state.valid_after p)
-        (ap (λ (o : Option Consensus). (sign_in_over state signature o).answer) is ∙ ours)
+    (ap (λ (o : Option Consensus). (sign_in_over state signature o).answer) is ∙ ours)
 
 pub majority_computes : MajoritiesCompute
 unfolding advance

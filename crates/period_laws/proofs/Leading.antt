@@ -90,7 +90,7 @@ leads_from : (events : List Event) (s : State) → after s (history s events) �
 leads_from [] s = refl
 leads_from (event ∷ events) s =
     leads_by s (step s event).after event (step s event).answer (history (step s event).after events) refl
-        (effect s event)
+    (effect s event)
     ∙ leads_from events (step s event).after
 
 pub leads : HistoryLeads
@@ -108,7 +108,7 @@ counts_from : (events : List Event) (s : State) → (run s events).front ≡ s.f
 counts_from [] s = omega arith
 counts_from (event ∷ events) s =
     count_by_one event (step s event).answer (history (step s event).after events) s (step s event).after
-        (run (step s event).after events).front (effect s event)
+    (run (step s event).after events).front (effect s event)
     (counts_from events (step s event).after)
 
 pub counts : FrontCounts
@@ -160,7 +160,7 @@ front_from [] s k = omega arith
 front_from (x ∷ story) s k =
     let rest = front_from story (step s x.event).after k.2 in
     let here = raised s (step s x.event).after (changes (step s x.event).answer) (ap changes (sym k.0) ∙ k.1)
-        (effect s x.event) in
+    (effect s x.event) in
     omega (arith, rest, here)
   where
     raised : (s next : State) (b : Bool) → b ≡ true → Effect s b next → next.front ≡ s.front + 1

@@ -2,6 +2,9 @@ pub mod Members
 pub mod Rows
 pub mod LaterPeriods
 pub mod Digests
+pub mod Soundness
+pub mod StationSteps
+pub mod Claims
 pub mod Honest
 pub mod Accepted
 pub mod Leading

@@ -131,7 +131,7 @@ module _ {X : Type 0} where
   shared p q xs e f =
       let lt = more (length xs) (count_by p xs) (count_by q xs) e f in
       ⊎_elim (λ (k : Both p q xs). k) (λ k. absurd (omega (arith, lt, k, count_is p xs, count_is q xs)))
-          (both_by p q xs)
+      (both_by p q xs)
 
   tally_le : (p q : X → Bool) (xs : List X) → ((x : X) → In x xs → p x ≡ true → q x ≡ true) → tally p xs ≤ tally q xs
   tally_le p q [] to = omega arith
@@ -145,5 +145,9 @@ module _ {X : Type 0} where
   pub over_with : (p q : X → Bool) (xs : List X) → ((x : X) → In x xs → p x ≡ true → q x ≡ true)
       → over (count_by p xs) (length xs) ≡ true → over (count_by q xs) (length xs) ≡ true
   over_with p q xs to e =
-      over_more (length xs) (count_by p xs) (count_by q xs) (omega (arith, tally_le p q xs to, count_is p xs,
-          count_is q xs)) e
+      over_more (length xs) (count_by p xs) (count_by q xs) (omega (
+        arith,
+        tally_le p q xs to,
+        count_is p xs,
+        count_is q xs,
+      )) e

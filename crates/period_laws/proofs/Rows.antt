@@ -83,8 +83,8 @@ compared_by false true s v held is f e g =
     let P : Outcome Offer → Type 0 = λ o. Offering s v o in
     let same : keeping s v (offers.Replaced (s.front + 1) (rank_of held)) ≡ compared s v (Some held) = rw (e, g) refl in
     subst P same (keeping_by _ s v (offers.Replaced (s.front + 1) (rank_of held)) is
-        (λ other h. subst (λ (x : ReadVote). outranks v x ≡ true)
-        (same_vote held other (vote_of s.votes v.says.identity) f h) g) refl refl refl)
+    (λ other h. subst (λ (x : ReadVote). outranks v x ≡ true)
+    (same_vote held other (vote_of s.votes v.says.identity) f h) g) refl refl refl)
 compared_by false false s v held is f e g = had (offers.Have (rank_of held)) held is.period is.member f g
     (rw (e, g) refl) refl refl
 
@@ -105,9 +105,9 @@ late_by true s v via now p m e = refused (offers.Late now (cutoff_of via s.sched
 late_by false s v via now p m e =
     let P : Outcome Offer → Type 0 = λ o. Offering s v o in
     let voting : is_voting s.stage ≡ true = open_by (is_voting s.stage)
-        (nat_le (cutoff_of via s.schedule s.valid_after) now) e in
+    (nat_le (cutoff_of via s.schedule s.valid_after) now) e in
     subst P (rw e refl) (with_held s v (vote_of s.votes v.says.identity) refl
-        (record { period = p; member = m; voting = voting }))
+    (record { period = p; member = m; voting = voting }))
   where
     open_by : (a b : Bool) → (not a || b) ≡ false → a ≡ true
     open_by true b h = refl
@@ -201,7 +201,7 @@ advancing_at Frozen s now given at = computing _ s given at refl
 advancing_at Computed s now given at = signing_of s s.computed given at refl
 advancing_at Signed s now given at =
     from_by _ s given s.valid_after now (advances.with_consensus s (advances.publish s) s.computed) refl
-        (publishing_of s given s.computed at refl)
+    (publishing_of s given s.computed at refl)
 advancing_at Ended s now given at =
     from_by _ s given s.valid_after now (advances.begin s (next_valid_after s.schedule s.valid_after now)) refl
     (beginning s given now (next_valid_after s.schedule s.valid_after now) at refl)

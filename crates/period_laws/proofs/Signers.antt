@@ -116,8 +116,15 @@ own_good : (may_give may_accept : Relation) (s : State) (c : Consensus) (vote : 
     → Good may_accept s.votes s.computed flavour (own_line flavour s.own vote.says.certificate.signing_key bytes)
 own_good may_give may_accept s c vote flavour bytes is f given =
     let r = found (λ (v : ReadVote). same_identity v.says.identity s.own) s.votes vote f in
-    record { c = c; is = is; vote = vote; there = r.0; same = same_one vote.says.identity s.own r.1; accepted =
-        given.accepted }
+    record {
+      c = c;
+      is = is;
+      vote = vote;
+      there = r.0;
+      same = same_one vote.says.identity s.own r.1;
+      accepted =
+          given.accepted;
+    }
 
 with_own : (may_accept : Relation) (s : State) (flavour : Flavour) (lines : List SignatureLine) (own : SignatureLine)
     → Good may_accept s.votes s.computed flavour own
@@ -128,7 +135,7 @@ with_own may_accept s flavour lines own good k line i =
     (λ (j : In line (filter (λ other. not (same_identity other.identity own.identity)) lines)).
     k line (in_filter (λ other. not (same_identity other.identity own.identity)) lines line j).0)
     (λ j. ⊎_elim (λ (e : line ≡ own). subst (λ (x : SignatureLine). Good may_accept s.votes s.computed flavour x)
-        (sym e) good) (λ n. absurd n) j)
+    (sym e) good) (λ n. absurd n) j)
     (in_either (filter (λ other. not (same_identity other.identity own.identity)) lines) (own ∷ []) line i)
 
 -- what may come of signing, where this is computed, this is the own vote and this was given
@@ -154,7 +161,7 @@ of_moment may_give rules s given o row may k =
       | freezes at e ↦ subst P (sym e) (goes_on rules.may_accept s Voting Frozen at (λ h. h) k)
       | computes at n e ↦ subst P (sym e)
           (fresh rules.may_accept s s.votes Computed (Some (consensus_of s)) (k.unset (ap is_set at))
-              (λ h. absurd (false≢true (sym h))) k)
+          (λ h. absurd (false≢true (sym h))) k)
       | gives_up at e ↦ subst P (sym e) (goes_on rules.may_accept s Frozen Ended at (λ h. absurd (false≢true (sym h)))
           k)
       | passes_over c at is e ↦ subst P (sym e) (goes_on rules.may_accept s Computed Signed at
@@ -172,8 +179,11 @@ of_moment may_give rules s given o row may k =
       | publishes c at is h e ↦ subst P (sym e) (goes_on rules.may_accept s Signed Ended at
           (λ x. absurd (false≢true (sym x))) k)
       | misses at e ↦ subst P (sym e) (goes_on rules.may_accept s Signed Ended at (λ x. absurd (false≢true (sym x))) k)
-      | begins now next at f e ↦ subst P (sym e) (record { unset = λ h. refl; ns_lines = λ line i. absurd i;
-          micro_lines = λ line i. absurd i })
+      | begins now next at f e ↦ subst P (sym e) (record {
+        unset = λ h. refl;
+        ns_lines = λ line i. absurd i;
+        micro_lines = λ line i. absurd i;
+      })
     ]
 
 -- ---- a signature
@@ -185,7 +195,7 @@ one_more : (may_accept : Relation) (s : State) (flavour : Flavour) (lines : List
 one_more may_accept s flavour lines one good k line i =
     ⊎_elim (λ (j : In line lines). k line j)
     (λ j. ⊎_elim (λ (e : line ≡ one). subst (λ (x : SignatureLine). Good may_accept s.votes s.computed flavour x)
-        (sym e) good) (λ n. absurd n) j)
+    (sym e) good) (λ n. absurd n) j)
     (in_either lines (one ∷ []) line i)
 
 line_good : (may_accept : Relation) (s : State) (flavour : Flavour) (line : SignatureLine) → Good may_accept s.votes
@@ -210,15 +220,15 @@ of_signature may_accept s x o row was k =
       | refuses answer e q ↦ subst P (sym e) k
       | keeps c p is d key n open_it e ↦
           let r = any_from (λ (v : ReadVote). same_identity v.says.identity x.authority && bytes_eq
-              v.says.certificate.signing_key x.key) s.votes key in
+          v.says.certificate.signing_key x.key) s.votes key in
           let both = and_true (same_identity r.0.says.identity x.authority) (bytes_eq r.0.says.certificate.signing_key
-              x.key) r.2 in
+          x.key) r.2 in
           let over_ours : may_accept key_kind.Signing x.key (digest_of x.flavour c) x.signature ≡ true =
           subst (λ (y : List ℕ). may_accept key_kind.Signing x.key y x.signature ≡ true) d was in
           let by_theirs : may_accept key_kind.Signing r.0.says.certificate.signing_key (digest_of x.flavour c)
-              x.signature ≡ true =
+          x.signature ≡ true =
           subst (λ (y : List ℕ). may_accept key_kind.Signing y (digest_of x.flavour c) x.signature ≡ true)
-              (sym (same_text r.0.says.certificate.signing_key x.key both.1)) over_ours in
+          (sym (same_text r.0.says.certificate.signing_key x.key both.1)) over_ours in
           subst P (sym e) (line_good may_accept s x.flavour (line_of x) (record {
             c = c;
             is = is;
@@ -251,8 +261,12 @@ run_good (event ∷ events) may_give rules s h k = run_good events may_give rule
 
 start_good : (may_accept : Relation) (start : State) → IsStart start → SoundAt may_accept start
 start_good may_accept start begin =
-    subst (λ (x : State). SoundAt may_accept x) (sym begin.empty) (record { unset = λ e. refl; ns_lines = λ line i.
-        absurd i; micro_lines = λ line i. absurd i })
+    subst (λ (x : State). SoundAt may_accept x) (sym begin.empty) (record {
+      unset = λ e. refl;
+      ns_lines = λ line i.
+          absurd i;
+      micro_lines = λ line i. absurd i;
+    })
 
 told_of : (flavour : Flavour) (may_accept : Relation) (s : State) (line : SignatureLine) → SoundAt may_accept s
     → In line (lines_of flavour s)
@@ -264,7 +278,7 @@ pub accepted : LinesAreAccepted
 accepted may_give rules start events begin checked flavour line c =
     let k = run_good events may_give rules start checked (start_good rules.may_accept start begin) in
     let g = told_of flavour rules.may_accept (run start events) line k (in_from (lines_of flavour (run start events))
-        line c) in
+    line c) in
     record {
       c = g.c;
       computed = g.is;

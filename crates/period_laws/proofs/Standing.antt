@@ -48,16 +48,22 @@ ended : (computed : Option Consensus) → Has Ended computed
 ended computed = record { some = λ h. absurd (false≢true h); none = λ h. absurd (false≢true h) }
 
 signed : (c : Consensus) (computed : Option Consensus) → computed ≡ Some c → Has Signed computed
-signed c computed is = record { some = λ h. ap (λ (x : Option Consensus). is_some x) is; none =
-    λ h. absurd (false≢true h) }
+signed c computed is = record {
+  some = λ h. ap (λ (x : Option Consensus). is_some x) is;
+  none =
+      λ h. absurd (false≢true h);
+}
 
 of_moment : (s : State) (given : Signing) (o : Outcome Advance) → Advancing s given o → HasAt s → HasAt o.after
 of_moment s given o row k =
     let P : Outcome Advance → Type 0 = λ x. HasAt x.after in
     elim row [
       | stays answer e q ↦ subst P (sym e) k
-      | freezes at e ↦ subst P (sym e) (record { some = λ h. absurd (false≢true h); none =
-          λ h. k.none (ap has_none at) })
+      | freezes at e ↦ subst P (sym e) (record {
+        some = λ h. absurd (false≢true h);
+        none =
+            λ h. k.none (ap has_none at);
+      })
       | computes at n e ↦ subst P (sym e) (record { some = λ h. refl; none = λ h. absurd (false≢true h) })
       | gives_up at e ↦ subst P (sym e) (ended s.computed)
       | passes_over c at is e ↦ subst P (sym e) (signed c s.computed is)
@@ -90,9 +96,14 @@ run_has [] s k = k
 run_has (event ∷ events) s k = run_has events (step s event).after (step_has s event k)
 
 start_has : (start : State) → IsStart start → HasAt start
-start_has start begin = subst (λ (x : State). HasAt x) (sym begin.empty) (record { some = λ h. absurd (false≢true h);
-    none = λ h. refl })
+start_has start begin = subst (λ (x : State). HasAt x) (sym begin.empty) (record {
+  some = λ h. absurd (false≢true h);
+  none = λ h. refl;
+})
 
 pub stand : TextsStand
-stand start events begin = let k = run_has events start (start_has start begin) in record { some = k.some; none =
-    k.none }
+stand start events begin = let k = run_has events start (start_has start begin) in record {
+  some = k.some;
+  none =
+      k.none;
+}

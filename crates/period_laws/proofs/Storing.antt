@@ -99,7 +99,7 @@ run_stores : (events : List Event) (s : State) (forms : List Change) → s.chang
 run_stores [] s forms e = e
 run_stores (event ∷ events) s forms e =
     run_stores events (step s event).after (forms_after s event forms) (stores s event
-        ∙ ap (λ (x : List Change). forms_after s event x) e)
+    ∙ ap (λ (x : List Change). forms_after s event x) e)
 
 pub stored : FormsAreStored
 stored start events begin = run_stores events start [] (ap (λ (x : State). x.changes) begin.empty)

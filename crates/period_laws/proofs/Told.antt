@@ -72,7 +72,7 @@ of_moment s given o row k =
           microdesc k)
       | publishes c at is h e ↦ subst P (sym e)
           (plain s (change kind.Publish None s.valid_after (published_digests (is_signed Ns s) (is_signed Microdesc s)
-              c)) Ended refl refl refl k)
+          c)) Ended refl refl refl k)
       | misses at e ↦ subst P (sym e) (plain s (change kind.Miss None s.valid_after []) Ended refl refl refl k)
       | begins now next at f e ↦ subst P (sym e) (record {
         ranks = λ a. refl;

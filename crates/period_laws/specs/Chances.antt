@@ -40,17 +40,16 @@ GreaterVotesReplace = (state : State) (vote held : ReadVote) (via : Via) (now : 
     → (offer state vote via now).answer ≡ offers.Replaced (state.front + 1) (rank_of held)
 
 -- A signature of this period, over the digest of what is computed, by a held vote's key, not yet held and before the
--- period ended, is
--- kept.
+-- period ended, is kept.
 abbrev pub SignaturesAreKept : Type 0
-SignaturesAreKept = (state : State) (signature : OfferedSignature) (c : Consensus) → signature.valid_after ≡
-    state.valid_after → state.computed ≡ Some c
+SignaturesAreKept = (state : State) (signature : OfferedSignature) (c : Consensus)
+    → signature.valid_after ≡ state.valid_after → state.computed ≡ Some c
     → signature.digest ≡ digest_of signature.flavour c → has_key state.votes signature.authority signature.key ≡ true
     → has_line (lines_of signature.flavour state) signature.authority ≡ false → is_ended state.stage ≡ false
     → (sign_in state signature).answer ≡ signs.Kept (state.front + 1)
 
 -- Of a frozen station with the votes of more than half of the roster the consensus is computed.
 abbrev pub MajoritiesCompute : Type 0
-MajoritiesCompute = (state : State) (now : ℕ) (given : Signing) → state.stage ≡ Frozen → over (length state.votes)
-    (length state.roster) ≡ true
+MajoritiesCompute = (state : State) (now : ℕ) (given : Signing) → state.stage ≡ Frozen
+    → over (length state.votes) (length state.roster) ≡ true
     → (advance state now given).answer ≡ moments.Computed

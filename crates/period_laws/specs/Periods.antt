@@ -30,20 +30,20 @@ use Rattle.period_terms.specs.Histories.{IsStart, IsHistory, run, after, entry_i
 
 -- Whatever came, the held votes are those that are held of the votes of the period that were accepted.
 abbrev pub HeldAreHeld : Type 0
-HeldAreHeld = (start : State) (events : List Event) → IsStart start → (run start events).votes ≡ held
-    (accepted start events)
+HeldAreHeld = (start : State) (events : List Event) → IsStart start
+    → (run start events).votes ≡ held (accepted start events)
 
 -- Whatever came, each accepted vote is one for the period, of an authority of the roster.
 abbrev pub AcceptedAreWanted : Type 0
 AcceptedAreWanted = (start : State) (events : List Event) → IsStart start
-    → (vote : ReadVote) → Contains (accepted start events) vote → IsWanted start.roster (run start events).valid_after
-    vote
+    → (vote : ReadVote) → Contains (accepted start events) vote
+    → IsWanted start.roster (run start events).valid_after vote
 
 -- Whatever came, what is computed is the consensus of the accepted votes alone. Its texts are `unsigned` of it.
 abbrev pub ComputedOfAccepted : Type 0
 ComputedOfAccepted = (start : State) (events : List Event) → IsStart start
-    → (c : Consensus) → (run start events).computed ≡ Some c → c ≡ consensus (length start.roster)
-    (held (accepted start events))
+    → (c : Consensus) → (run start events).computed ≡ Some c
+    → c ≡ consensus (length start.roster) (held (accepted start events))
 
 -- ---- histories
 
@@ -56,8 +56,7 @@ abbrev pub HistoryIsOne : Type 0
 HistoryIsOne = (start : State) (events : List Event) → IsHistory start (history start events)
 
 -- What a history becomes by one more event: it has the event as one more entry where that changed something, and
--- leads to the state
--- after the event.
+-- leads to the state after the event.
 pub record GoesOn (start : State) (story : List Entry) (event : Event) (entries : List Entry) : Type 0 where
   pub is : IsHistory start (story ++ entries)
   pub leads : after start (story ++ entries) ≡ (step (after start story) event).after
@@ -68,13 +67,13 @@ HistoryGoesOn = (start : State) (story : List Entry) (event : Event) → IsHisto
 
 -- The front after a history is the number of its entries.
 abbrev pub FrontOfHistory : Type 0
-FrontOfHistory = (start : State) (story : List Entry) → IsHistory start story → (after start story).front ≡
-    start.front + length story
+FrontOfHistory = (start : State) (story : List Entry) → IsHistory start story
+    → (after start story).front ≡ start.front + length story
 
 -- The front is the number of the changes that were made.
 abbrev pub FrontCounts : Type 0
-FrontCounts = (start : State) (events : List Event) → (run start events).front ≡ start.front + length
-    (history start events)
+FrontCounts = (start : State) (events : List Event)
+    → (run start events).front ≡ start.front + length (history start events)
 
 -- ---- two authorities
 
@@ -94,8 +93,7 @@ RanksAreOne = (one other : State) (events others : List Event) → AreAlike one 
     → (outranks a b ≡ false) × (outranks b a ≡ false)
 
 -- Two authorities that accepted the same votes hold the same votes and compute the same texts, unless two different
--- votes of one
--- authority share a rank.
+-- votes of one authority share a rank.
 pub record HoldTheSame (one other : State) : Type 0 where
   pub votes : one.votes ≡ other.votes
   pub texts : (c d : Consensus) → one.computed ≡ Some c → other.computed ≡ Some d → (flavour : Flavour)
@@ -117,16 +115,16 @@ pub record IsPublished (state : State) (now : ℕ) (ns microdesc : Bool) (publis
   pub some : (ns || microdesc) ≡ true
   pub ns_is : ns ≡ is_signed Ns state
   pub microdesc_is : microdesc ≡ is_signed Microdesc state
-  pub ns_text : published.ns_current ≡ (if ns then Some (signed (unsigned Ns c) (lines_of Ns state)) else
-      state.ns_current)
+  pub ns_text : published.ns_current ≡
+      (if ns then Some (signed (unsigned Ns c) (lines_of Ns state)) else state.ns_current)
   pub microdesc_text : published.micro_current ≡
       (if microdesc then Some (signed (unsigned Microdesc c) (lines_of Microdesc state)) else state.micro_current)
 
 -- Published is answered only so.
 abbrev pub PublishedIsSigned : Type 0
 PublishedIsSigned = (state : State) (now : ℕ) (given : Signing) (ns microdesc : Bool)
-    → (advance state now given).answer ≡ moments.Published ns microdesc → IsPublished state now ns microdesc
-    (advance state now given).after
+    → (advance state now given).answer ≡ moments.Published ns microdesc
+    → IsPublished state now ns microdesc (advance state now given).after
 
 -- Where the state is signed, the period has begun and more than half of the roster signed a flavour, it is published.
 abbrev pub SignedIsPublished : Type 0
@@ -141,15 +139,15 @@ SignedIsPublished = (state : State) (now : ℕ) (given : Signing) (c : Consensus
 abbrev pub IsChecked : Relation → Rules → State → Event → Type 0
 IsChecked may_give rules state (Offered vote via now) = Unit {0}
 IsChecked may_give rules state (Advanced now given) = MayGiveAt may_give rules state given
-IsChecked may_give rules state (SignedIn signature) = rules.may_accept key_kind.Signing signature.key signature.digest
-    signature.signature ≡ true
+IsChecked may_give rules state (SignedIn signature) =
+    rules.may_accept key_kind.Signing signature.key signature.digest signature.signature ≡ true
 IsChecked may_give rules state Read = Unit {0}
 
 -- all that comes was
 abbrev pub AreChecked : Relation → Rules → State → List Event → Type 0
 AreChecked may_give rules state [] = Unit {0}
-AreChecked may_give rules state (event ∷ events) = IsChecked may_give rules state event × AreChecked may_give rules
-    (step state event).after events
+AreChecked may_give rules state (event ∷ events) =
+    IsChecked may_give rules state event × AreChecked may_give rules (step state event).after events
 
 -- The signature may be accepted over the digest of what is computed, by the key of its authority's held vote.
 pub record IsAccepted (may_accept : Relation) (state : State) (flavour : Flavour) (line : SignatureLine) : Type 0 where
@@ -158,8 +156,8 @@ pub record IsAccepted (may_accept : Relation) (state : State) (flavour : Flavour
   pub vote : ReadVote
   pub holds : Contains state.votes vote
   pub authority : vote.says.identity ≡ line.identity
-  pub accepted : may_accept key_kind.Signing vote.says.certificate.signing_key (digest_of flavour c) line.signature ≡
-      true
+  pub accepted :
+      may_accept key_kind.Signing vote.says.certificate.signing_key (digest_of flavour c) line.signature ≡ true
 
 -- Whatever came that was checked, each signature that is held is so.
 abbrev pub LinesAreAccepted : Type 0
@@ -173,8 +171,8 @@ LinesAreAccepted = (may_give : Relation) (rules : Rules) (start : State) (events
 -- What the signer gave is told by the answer and the state after it: it is no choice that they hide.
 abbrev pub GivenIsTold : Type 0
 GivenIsTold = (state : State) (now : ℕ) (given : Signing)
-    → advance state now (given_told (advance state now given).answer (advance state now given).after) ≡ advance state
-    now given
+    → advance state now (given_told (advance state now given).answer (advance state now given).after)
+    ≡ advance state now given
 
 -- ---- when there are texts
 

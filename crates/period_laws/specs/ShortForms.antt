@@ -34,8 +34,8 @@ moment_form state moments.Frozen = change kind.Freeze None state.valid_after [] 
 moment_form state moments.Computed = change kind.Compute None state.valid_after (both_digests (consensus_of state)) ∷ []
 moment_form state (moments.NoConsensus held roster) = change kind.NoConsensus None state.valid_after [] ∷ []
 moment_form state moments.NoOwnVote = change kind.NoOwnVote (Some state.own) state.valid_after [] ∷ []
-moment_form state moments.Signed = change kind.Sign (Some state.own) state.valid_after
-    (digests_by both_digests state.computed) ∷ []
+moment_form state moments.Signed =
+    change kind.Sign (Some state.own) state.valid_after (digests_by both_digests state.computed) ∷ []
 moment_form state (moments.Published ns microdesc) =
     change kind.Publish None state.valid_after (digests_by (published_digests ns microdesc) state.computed) ∷ []
 moment_form state (moments.Missed ns microdesc roster) = change kind.Miss None state.valid_after [] ∷ []
@@ -48,13 +48,13 @@ moment_form state (moments.OwnSignatureRefused digest) = []
 -- the short form of a kept vote, and of a kept signature
 abbrev pub vote_form : ReadVote → Offer → List Change
 vote_form vote answer =
-    if offer_changes answer then change kind.Vote (Some vote.says.identity) vote.says.published (rank_of vote).whole.0
-        ∷ [] else []
+    if offer_changes answer
+    then change kind.Vote (Some vote.says.identity) vote.says.published (rank_of vote).whole.0 ∷ [] else []
 
 abbrev pub signature_form : State → OfferedSignature → SignIn → List Change
 signature_form state signature answer =
-    if sign_in_changes answer then change kind.Signature (Some signature.authority) state.valid_after signature.digest
-        ∷ [] else []
+    if sign_in_changes answer
+    then change kind.Signature (Some signature.authority) state.valid_after signature.digest ∷ [] else []
 
 -- whether the next period began
 abbrev pub begins_next : Advance → Bool
@@ -76,8 +76,8 @@ begins_next (moments.OwnSignatureRefused digest) = false
 abbrev pub forms_after : State → Event → List Change → List Change
 forms_after state (Offered vote via now) forms = forms ++ vote_form vote (offer state vote via now).answer
 forms_after state (Advanced now given) forms =
-    if begins_next (advance state now given).answer then [] else forms ++ moment_form state
-        (advance state now given).answer
+    if begins_next (advance state now given).answer
+    then [] else forms ++ moment_form state (advance state now given).answer
 forms_after state (SignedIn signature) forms = forms ++ signature_form state signature (sign_in state signature).answer
 forms_after state Read forms = forms
 
@@ -88,8 +88,8 @@ forms_with forms state (event ∷ events) = forms_with (forms_after state event 
 
 -- The stored changes are the short forms of what changed something since the period began.
 abbrev pub FormsAreStored : Type 0
-FormsAreStored = (start : State) (events : List Event) → IsStart start → (run start events).changes ≡ forms_with []
-    start events
+FormsAreStored = (start : State) (events : List Event) → IsStart start
+    → (run start events).changes ≡ forms_with [] start events
 
 -- where an event is the begin of a period
 abbrev pub is_begin : Answer → Bool
@@ -101,5 +101,5 @@ is_begin Reading = false
 -- The base is the front after the last begin: a begin sets it, and nothing else changes it.
 abbrev pub BaseIsLastBegin : Type 0
 BaseIsLastBegin = (state : State) (event : Event)
-    → (step state event).after.base ≡ (if is_begin (step state event).answer then (step state event).after.front else
-    state.base)
+    → (step state event).after.base ≡
+    (if is_begin (step state event).answer then (step state event).after.front else state.base)

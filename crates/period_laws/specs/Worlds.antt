@@ -61,13 +61,18 @@ same_flavour Microdesc Microdesc = true
 
 -- whether both say the same
 abbrev pub same_signed : SignedDigest → SignedDigest → Bool
-same_signed a b = same_identity a.authority b.authority && same_flavour a.flavour b.flavour && (a.period == b.period)
+same_signed a b =
+    same_identity a.authority b.authority && same_flavour a.flavour b.flavour && (a.period == b.period)
     && bytes_eq a.digest b.digest
 
 -- that this authority signed this
 abbrev pub signed_by : Fingerprint → Flavour → ℕ → List ℕ → SignedDigest
-signed_by authority flavour period digest = record { authority = authority; flavour = flavour; period = period;
-    digest = digest }
+signed_by authority flavour period digest = record {
+  authority = authority;
+  flavour = flavour;
+  period = period;
+  digest = digest;
+}
 
 -- whether something is among what was signed
 abbrev pub is_among : List SignedDigest → SignedDigest → Bool
@@ -76,20 +81,19 @@ is_among all one = list_any (λ other. same_signed other one) all
 -- ---- what happens
 
 -- Whether an event may come: a signature that is accepted under a member's certified key comes only where that member
--- signed that
--- digest for that flavour and period.
+-- signed that digest for that flavour and period.
 abbrev pub may_come : List SignedDigest → Event → Bool
 may_come signed (Offered vote via now) = true
 may_come signed (Advanced now given) = true
-may_come signed (SignedIn signature) = is_among signed (signed_by signature.authority signature.flavour
-    signature.valid_after signature.digest)
+may_come signed (SignedIn signature) =
+    is_among signed (signed_by signature.authority signature.flavour signature.valid_after signature.digest)
 may_come signed Read = true
 
 -- both digests of a consensus, signed by an authority
 abbrev pub signs_both : Fingerprint → ℕ → Option Consensus → List SignedDigest
 signs_both authority period None = []
-signs_both authority period (Some c) = signed_by authority Ns period (digest_of Ns c) ∷ signed_by authority Microdesc
-    period (digest_of Microdesc c) ∷ []
+signs_both authority period (Some c) =
+    signed_by authority Ns period (digest_of Ns c) ∷ signed_by authority Microdesc period (digest_of Microdesc c) ∷ []
 
 -- what a station signs where a moment was answered so
 abbrev pub signs_at : State → Advance → List SignedDigest
@@ -117,8 +121,9 @@ signs_in state answers.Reading = []
 -- a flavour of a consensus, where it is published
 abbrev pub publication : State → Bool → Flavour → Consensus → List Publication
 publication state passed flavour c =
-    if passed then record { station = state.own; flavour = flavour; period = state.valid_after; text =
-        unsigned flavour c } ∷ [] else []
+    if passed
+    then record { station = state.own; flavour = flavour; period = state.valid_after; text = unsigned flavour c } ∷ []
+    else []
 
 -- these flavours of a consensus, where they are published
 abbrev pub publications : State → Bool → Bool → Option Consensus → List Publication
@@ -164,8 +169,8 @@ moved world member state outcome = record {
 -- the world after something came to a member's station; to a member without one nothing comes
 abbrev pub came : World → Fingerprint → Event → Option State → World
 came world member event None = world
-came world member event (Some state) = if may_come world.signed event then moved world member state (step state event)
-    else world
+came world member event (Some state) =
+    if may_come world.signed event then moved world member state (step state event) else world
 
 -- the world after something was signed by a member, unless that has a station
 abbrev pub signed_elsewhere : World → SignedDigest → World

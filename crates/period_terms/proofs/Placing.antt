@@ -28,8 +28,11 @@ found (w ∷ ws) a h e = by (same_identity w.says.identity a) refl (found ws a h
   where
     by : (b : Bool) → same_identity w.says.identity a ≡ b → (vote_of ws a ≡ Some h → In h ws × (h.says.identity ≡ a))
         → cond b (Some w) (vote_of ws a) ≡ Some h → In h (w ∷ ws) × (h.says.identity ≡ a)
-    by true f r g = let same : w ≡ h = cc in (inl (sym same), subst (λ (x : ReadVote). x.says.identity ≡ a) same
-        (same_one w.says.identity a f))
+    by true f r g = let same : w ≡ h = cc in (
+      inl (sym same),
+      subst (λ (x : ReadVote). x.says.identity ≡ a) same
+          (same_one w.says.identity a f),
+    )
     by false f r g = let q = r g in (inr q.0, q.1)
 
 never_both : (w v : ReadVote) → identity_below w.says.identity v.says.identity ≡ true → same_identity w.says.identity
@@ -90,7 +93,7 @@ other_by true b c w ws v x e f o n r = rw e (ap (λ (h : Option ReadVote). cond 
     (Some w) h) r)
 other_by false true true w ws v x e f o n r =
     let away : same_identity w.says.identity x ≡ false = ap (λ (y : Fingerprint). same_identity y x)
-        (same_one w.says.identity v.says.identity f) ∙ n in
+    (same_one w.says.identity v.says.identity f) ∙ n in
     rw (e, f, o, n, away) refl
 other_by false true false w ws v x e f o n r = rw (e, f, o) refl
 other_by false false c w ws v x e f o n r = rw (e, f, n) refl

@@ -91,7 +91,7 @@ pub rank_push : (changes : List Change) (c : Change) (a : Fingerprint)
     (last_of (keeps_vote_of a) changes))
 rank_push changes c a =
     ap (λ (found : Option Change). option_map rank_told found) (fold_push (λ (found : Option Change) (x : Change).
-        cond (keeps_vote_of a x) (Some x) found) changes None c)
+    cond (keeps_vote_of a x) (Some x) found) changes None c)
 
 pub stage_push : (changes : List Change) (c : Change) → last_stage (changes ++ c ∷ []) ≡ stage_by (last_stage changes)
     c.kind
@@ -147,4 +147,3 @@ plain s c next v n at k = record {
   count = count_stays s.changes c s.vote_changes v k.count;
   front_is = length_push s.changes c s.front s.base k.front_is;
 }
-

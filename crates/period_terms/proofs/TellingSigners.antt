@@ -45,7 +45,7 @@ dropped (line ∷ lines) own a e = by (same_identity line.identity own) refl (dr
         ≡ has_line (line ∷ lines) a
     by true f r =
         let away : same_identity line.identity a ≡ false = ap (λ (x : Fingerprint). same_identity x a)
-            (same_one line.identity own f) ∙ e in
+        (same_one line.identity own f) ∙ e in
         rw away r
     by false f r = ap (λ (x : Bool). same_identity line.identity a || x) r
 
@@ -54,20 +54,20 @@ replaced_by : (b : Bool) (lines : List SignatureLine) (line : SignatureLine) (a 
     → has_line (with_signature lines line) a ≡ (has_line lines a || b)
 replaced_by true lines line a e =
     any_push (λ (other : SignatureLine). same_identity other.identity a)
-        (filter (λ (other : SignatureLine). not (same_identity other.identity line.identity)) lines) line
+    (filter (λ (other : SignatureLine). not (same_identity other.identity line.identity)) lines) line
     ∙ ap (λ (x : Bool). has_line (filter (λ (other : SignatureLine). not (same_identity other.identity line.identity))
-        lines) a || x) e
+    lines) a || x) e
     ∙ or_true (has_line (filter (λ (other : SignatureLine). not (same_identity other.identity line.identity)) lines)
-        a) ∙ sym (or_true (has_line lines a))
+    a) ∙ sym (or_true (has_line lines a))
   where
     or_true : (x : Bool) → (x || true) ≡ true
     or_true true = refl
     or_true false = refl
 replaced_by false lines line a e =
     any_push (λ (other : SignatureLine). same_identity other.identity a)
-        (filter (λ (other : SignatureLine). not (same_identity other.identity line.identity)) lines) line
+    (filter (λ (other : SignatureLine). not (same_identity other.identity line.identity)) lines) line
     ∙ ap (λ (x : Bool). has_line (filter (λ (other : SignatureLine). not (same_identity other.identity line.identity))
-        lines) a || x) e
+    lines) a || x) e
     ∙ ap (λ (x : Bool). x || false) (dropped lines line.identity a e)
 
 -- whose line stands in place of its authority's
@@ -99,7 +99,7 @@ own_signers : (flavour : Flavour) (lines : List SignatureLine) (changes : List C
     → has_line (with_signature lines line) a ≡ was_kept flavour (changes ++ c ∷ []) a
 own_signers flavour lines changes c line a told k =
     replaced lines line a ∙ ap (λ (x : Bool). x || same_identity line.identity a) k
-        ∙ ap (λ (x : Bool). was_kept flavour changes a || x) (sym told)
+    ∙ ap (λ (x : Bool). was_kept flavour changes a || x) (sym told)
     ∙ sym (kept_push flavour changes c a)
 
 own_told : (flavour : Flavour) (s : State) (digests : List ℕ) (line : SignatureLine) (a : Fingerprint)
@@ -119,7 +119,7 @@ has_micro size e = rw e refl
 pub own_tells : (s : State) (digests : List ℕ) (ns micro : SignatureLine) → length digests ≡ 52 → ns.identity ≡ s.own
     → micro.identity ≡ s.own → TellsAt s
     → Tells s.votes Signed (with_signature s.ns_lines ns) (with_signature s.micro_lines micro) s.vote_changes
-        (s.front + 1) s.base (s.changes ++ sign_change s digests ∷ [])
+    (s.front + 1) s.base (s.changes ++ sign_change s digests ∷ [])
 own_tells s digests ns micro size n m k =
     record {
       ranks = λ a. k.ranks a ∙ sym (ranks_stay s.changes (sign_change s digests) a refl);
@@ -134,11 +134,11 @@ own_tells s digests ns micro size n m k =
 
 pub sign_tells : (s : State) (c : Consensus) (key ns microdesc : List ℕ) → TellsAt s
     → Tells s.votes Signed (with_signature s.ns_lines (own_line Ns s.own key ns))
-        (with_signature s.micro_lines (own_line Microdesc s.own key microdesc)) s.vote_changes (s.front + 1) s.base
-        (s.changes ++ sign_change s (both_digests c) ∷ [])
+    (with_signature s.micro_lines (own_line Microdesc s.own key microdesc)) s.vote_changes (s.front + 1) s.base
+    (s.changes ++ sign_change s (both_digests c) ∷ [])
 sign_tells s c key ns microdesc k =
     own_tells s (both_digests c) (own_line Ns s.own key ns) (own_line Microdesc s.own key microdesc) (both_size c) refl
-        refl k
+    refl k
 
 -- ---- an offered signature
 
@@ -154,7 +154,7 @@ more_signers : (flavour : Flavour) (lines : List SignatureLine) (changes : List 
 more_signers flavour lines changes c line a told k =
     any_push (λ (other : SignatureLine). same_identity other.identity a) lines line
     ∙ ap (λ (x : Bool). x || same_identity line.identity a) k ∙ ap (λ (x : Bool). was_kept flavour changes a || x)
-        (sym told)
+    (sym told)
     ∙ sym (kept_push flavour changes c a)
 
 -- and the other flavour's are as they were

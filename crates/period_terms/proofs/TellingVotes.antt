@@ -36,7 +36,7 @@ ranks_by : (b : Bool) (s : State) (v : ReadVote) (a : Fingerprint) → same_iden
     (last_of (keeps_vote_of a) s.changes))
 ranks_by true s v a e beats k =
     subst (λ (x : Fingerprint). option_map rank_of (vote_of (placed s.votes v) x) ≡ Some (rank_told (vote_change v)))
-        (same_one v.says.identity a e)
+    (same_one v.says.identity a e)
     (ap (λ (x : Option ReadVote). option_map rank_of x) (placed_new s.votes v beats))
 ranks_by false s v a e beats k = ap (λ (x : Option ReadVote). option_map rank_of x) (placed_other s.votes v a e)
     ∙ k.ranks a
@@ -50,4 +50,3 @@ vote_tells s v beats k = record {
   count = ap (λ (n : ℕ). n + 1) k.count ∙ sym (count_push s.changes (vote_change v));
   front_is = length_push s.changes (vote_change v) s.front s.base k.front_is;
 }
-

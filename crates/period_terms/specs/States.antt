@@ -53,7 +53,8 @@ is_ended Ended = true
 -- whether a held vote has this authority and this signing key
 abbrev pub has_key : List ReadVote → Fingerprint → List ℕ → Bool
 has_key votes authority key =
-    list_any (λ vote. same_identity vote.says.identity authority && bytes_eq vote.says.certificate.signing_key key) votes
+    list_any
+    (λ vote. same_identity vote.says.identity authority && bytes_eq vote.says.certificate.signing_key key) votes
 
 -- ---- the consensus
 

@@ -8,14 +8,14 @@ use Rattle.detached_sigs.proofs.counting.signs.Goals as goal
 pub returns-in-Yes-clause-asked : goal.returns-in-Yes-clause-asked
 returns-in-Yes-clause-asked g c =
     answers_at g.V.Verifier.steps c.args.digest.now c.args.key.now c.args.lines.now c.lines.line-index
-        c.line-item.result
-        _ _ _ _ c.lines-test.true c.line-item.is c.lines.invariant.asked c.in-Yes.ensures.asked
+    c.line-item.result
+    _ _ _ _ c.lines-test.true c.line-item.is c.lines.invariant.asked c.in-Yes.ensures.asked
 
 pub returns-in-Fault-clause-asked : goal.returns-in-Fault-clause-asked
 returns-in-Fault-clause-asked g c =
     answers_at g.V.Verifier.steps c.args.digest.now c.args.key.now c.args.lines.now c.lines.line-index
-        c.line-item.result
-        _ _ _ _ c.lines-test.true c.line-item.is c.lines.invariant.asked c.in-Fault.ensures.asked
+    c.line-item.result
+    _ _ _ _ c.lines-test.true c.line-item.is c.lines.invariant.asked c.in-Fault.ensures.asked
 
 pub lines-preserved : goal.lines-preserved
 lines-preserved g c = record {
