@@ -1,0 +1,4 @@
+pub mod KeptDetached
+pub mod Order
+pub mod Rests
+pub mod WholeTexts
