@@ -5,3 +5,4 @@ pub mod Files
 pub mod Refusals
 pub mod Lending
 pub mod Texts
+pub mod Ages

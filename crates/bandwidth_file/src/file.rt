@@ -1,5 +1,6 @@
 // Bandwidth files as their content.
-ghost use Rattle.std.specs.Prelude.{◌≡◌};
+ghost use Rattle.std.specs.Prelude.{◌≡◌, ◌↔◌, IsTrue};
+ghost use Rattle.bandwidth_file.specs.Ages.{IsOld};
 ghost use Rattle.bandwidth_file.specs.Relays.{bandwidth_in};
 
 use crate::relays::Relays;
@@ -12,6 +13,9 @@ pub struct Header {
     pub key: Text,
     pub value: Text,
 }
+
+/// How old a file may be that is voted on, in seconds: three days.
+const MAX_AGE: u64 = 259_200;
 
 /// What a bandwidth file says.
 #[derive(Drop)]
@@ -30,5 +34,15 @@ impl BandFile {
         ensures { result ≡ bandwidth_in self.now.relays identity.now }
     {
         self.relays.get(identity)
+    }
+
+    /// Whether the file is too old to be voted on at this moment: more than three days.
+    pub fn is_old(&self, now: u64) -> bool
+        ensures { IsTrue result ↔ IsOld self.now now }
+    {
+        match self.timestamp.checked_add(MAX_AGE) {
+            Some(last) => last < now,
+            None => false,
+        }
     }
 }

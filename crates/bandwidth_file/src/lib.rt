@@ -14,6 +14,7 @@ mod text;
 
 pub use feeder::BandFeeder;
 pub use file::{BandFile, Header};
+pub use reading::read;
 pub use refusal::{BandFault, BandReason, BandRefusal};
 pub use relays::Relays;
 pub use text::write;

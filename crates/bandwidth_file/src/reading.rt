@@ -35,7 +35,7 @@ pub(crate) struct Reading {
 ///
 /// # Errors
 /// `Fault` is the first fault. `Memory` is want of memory.
-pub(crate) fn read(alloc: Global, bytes: &[u8]) -> Result<BandFile, BandRefusal>
+pub fn read(alloc: Global, bytes: &[u8]) -> Result<BandFile, BandRefusal>
     ensures file { IfOk result (λ file. IsBandFile bytes.now file) }
     ensures fault { IfErr result (λ refusal. RefusedAs (files.first_fault (lines bytes.now)) refusal) }
 {
