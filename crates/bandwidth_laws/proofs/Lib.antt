@@ -1,0 +1,7 @@
+pub mod Saying
+pub mod WrittenLines
+pub mod HeaderLines
+pub mod RelayLines
+pub mod LastRows
+pub mod Again
+pub mod KeysAndValues
