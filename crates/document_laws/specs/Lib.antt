@@ -1,3 +1,4 @@
 pub mod Clear
+pub mod Tests
 pub mod Parts
 pub mod Documents

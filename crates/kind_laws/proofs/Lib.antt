@@ -1,3 +1,2 @@
-pub mod SoundKinds
 pub mod ClearKinds
 pub mod NoDocKinds

@@ -5,21 +5,9 @@ use Rattle.consensus_terms.specs.declared.flavour.Flavour.{Flavour}
 use Rattle.descriptor_frame.specs.Tables.{descriptor_tables}
 use Rattle.micro_desc.specs.Tables.{micro_tables}
 use Rattle.vote_frame.specs.Tables.{vote_tables}
-use Rattle.table_laws.specs.OneSection.{HasOneSection}
-use Rattle.table_laws.specs.Sound.{AreSound}
 use Rattle.document_laws.specs.Clear.{AreClear}
 use Rattle.document_laws.specs.Documents.{AreExact}
 use Rattle.feed_laws.specs.Known.{HasNoDoc}
-
--- The tables of each kind are sound, and those of certificates that stand alone and of descriptors have one section.
-pub record KindsAreSound : Type 0 where
-  pub certificates : AreSound cert_tables
-  pub votes : AreSound vote_tables
-  pub consensuses : (flavour : Flavour) → AreSound (consensus_tables flavour)
-  pub descriptors : AreSound descriptor_tables
-  pub microdescriptors : AreSound micro_tables
-  pub one_certificate : HasOneSection cert_tables
-  pub one_descriptor : HasOneSection descriptor_tables
 
 -- The tables of each kind are clear.
 pub record KindsAreClear : Type 0 where

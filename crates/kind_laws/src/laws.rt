@@ -1,13 +1,8 @@
 // What holds of the tables of each kind of document.
-ghost use Rattle.kind_laws.specs.Kinds.{KindsAreClear, KindsAreExact, KindsAreSound, KindsHaveNoDoc};
+ghost use Rattle.kind_laws.specs.Kinds.{KindsAreClear, KindsAreExact, KindsHaveNoDoc};
 
 /// A law: the tables of certificates, votes, consensuses of either flavour, server descriptors and microdescriptors are
-/// sound, and certificates and descriptors have one section.
-pub fn kinds_are_sound()
-    ensures { KindsAreSound }
-{}
-
-/// A law: the tables of each of these kinds are clear.
+/// clear, and so sound.
 pub fn kinds_are_clear()
     ensures { KindsAreClear }
 {}

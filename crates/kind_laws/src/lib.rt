@@ -4,4 +4,4 @@
 
 mod laws;
 
-pub use laws::{kinds_are_clear, kinds_are_exact, kinds_are_sound, kinds_have_no_doc};
+pub use laws::{kinds_are_clear, kinds_are_exact, kinds_have_no_doc};

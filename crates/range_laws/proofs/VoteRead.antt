@@ -14,7 +14,7 @@ use Rattle.frame_values.specs.declared.values.Value.{Value}
 use Rattle.table_laws.specs.Items.{AreItemsIn}
 use Rattle.table_laws.specs.Order.{AreInOrder, BeginsWithOpener, Part, sections_of}
 use Rattle.table_laws.proofs.Ordering.{stand_in_order}
-use Rattle.kind_laws.proofs.SoundKinds.{kinds_are_sound}
+use Rattle.kind_laws.proofs.ClearKinds.{kinds_are_clear}
 use Rattle.table_laws.proofs.Taking.{are_said}
 use Rattle.vote_terms.specs.Votes.{ReadVote}
 use Rattle.vote_terms.specs.declared.entry.EntryFacts.{EntryFacts}
@@ -142,7 +142,7 @@ vote_in_range start bytes vote after are is =
     by (Ok document) got e =
         let contents = items_from start max_vote bytes in
         let groups = document.groups in
-        let stand = stand_in_order vote_tables kinds_are_sound.votes (length bytes) contents document got in
+        let stand = stand_in_order vote_tables kinds_are_clear.votes.sound (length bytes) contents document got in
         let has = subst HasAuthority (sym stand.are) (authority_there stand.parts stand.in_order) in
         let kept = fold (λ k (g : VoteGroup). kept_with k g.section g.taken) none_kept groups in
         let all =

@@ -9,8 +9,3 @@ pub mod Lists
 pub mod Parts
 pub mod Placing
 pub mod Ordering
-pub mod Kept
-pub mod Others
-pub mod SectionItems
-pub mod OneSection
-pub mod OneDocument

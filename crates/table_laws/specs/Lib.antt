@@ -3,4 +3,3 @@ pub mod Counts
 pub mod Sound
 pub mod Order
 pub mod Passing
-pub mod OneSection

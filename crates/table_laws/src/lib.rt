@@ -4,7 +4,4 @@
 
 mod laws;
 
-pub use laws::{
-    items_are_said, one_section_is_all, one_section_is_read, others_are_passed_over,
-    rows_stand_as_often, sections_stand_in_order,
-};
+pub use laws::{items_are_said, rows_stand_as_often, sections_stand_in_order};
