@@ -3,7 +3,8 @@ ghost use Rattle.std.specs.Prelude.{⊤};
 
 use dir_bytes::{MemorySink, MemorySource, Sink, Source};
 use key_port::{
-    Dial, KeyKind, ServiceKeys, UnixDial, Verifier, VerifyAnswer, exchange, request_fits,
+    Dial, KeyKind, ServiceKeys, SignAnswer, UnixDial, Verifier, VerifyAnswer, exchange,
+    exchange_signing, request_fits, sign_request_fits,
 };
 use std::alloc::Global;
 use std::fs;
@@ -156,6 +157,40 @@ fn requests_are_lines_of_hex(rt: HostRuntime) -> Result<(), Fail> {
     }
     if sink.written.as_slice() != want.as_slice() {
         return Err(Fail::new("other requests"));
+    }
+    Ok(())
+}
+
+// What is asked for three times, which signature is given, and whether one is.
+const SIGN_LINE: &[u8] = b"sign signing 7369676e2d31 2fd4\n";
+
+const GIVEN: [(&[u8], bool); 3] = [(&[0, 255], true), (b"", true), (b"", false)];
+
+#[test]
+fn a_service_gives_signatures(rt: HostRuntime) -> Result<(), Fail> {
+    let alloc = rt.alloc();
+    let (mut source, mut sink) = service(alloc, b"ok 00ff\nok -\nyes\n", 0, 0)?;
+    let (key, message): (&[u8], &[u8]) = (b"sign-1", &[0x2f, 0xd4]);
+    for (want, gives) in GIVEN {
+        if !sign_request_fits(KeyKind::Signing, key, message) {
+            return Err(Fail::new("too long"));
+        }
+        sink.written.clear();
+        let answer = exchange_signing(
+            alloc,
+            &mut source,
+            &mut sink,
+            KeyKind::Signing,
+            key,
+            message,
+        );
+        let given = match answer {
+            SignAnswer::Signed(signature) => signature.as_bytes() == want,
+            SignAnswer::Fault | SignAnswer::Memory => false,
+        };
+        if given != gives || sink.written.as_slice() != SIGN_LINE {
+            return Err(Fail::new("another signature"));
+        }
     }
     Ok(())
 }

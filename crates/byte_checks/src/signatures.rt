@@ -1,5 +1,5 @@
 // Signatures of the test scheme, from outside.
-use key_port::{KeyKind, TestKeys, Verifier, VerifyAnswer};
+use key_port::{KeyKind, SignAnswer, Signer, TestKeys, Verifier, VerifyAnswer};
 use std::test::Fail;
 
 // The SHA-1 of the identity key of a worked certificate.
@@ -45,6 +45,15 @@ fn a_signature_is_that_of_its_key_message_and_kind(rt: HostRuntime) -> Result<()
         let signature = front(&SIGNATURE, signature);
         if keys.verify(kind, &key, front(&DIGEST, digest), signature) != want {
             return Err(Fail::new(row));
+        }
+    }
+    for (kind, size) in [(KeyKind::Signing, 32), (KeyKind::Ed25519, 64)] {
+        let given = match keys.sign(rt.alloc(), kind, b"sign-1", &DIGEST) {
+            SignAnswer::Signed(signature) => signature.as_bytes() == front(&SIGNATURE, size),
+            SignAnswer::Fault | SignAnswer::Memory => false,
+        };
+        if !given {
+            return Err(Fail::new("another signature"));
         }
     }
     Ok(())
