@@ -1,5 +1,5 @@
--- Lists of values among the rows of any kind of document: versions of Tor, versions of protocols, params. Each suits its
--- row, and is read as the list that it was written for.
+-- Lists of values among the rows of any kind of document: versions of Tor, versions of protocols, params. Each suits
+-- its row, and is read as the list that it was written for.
 use Rattle.std.proofs.Common.{◌≡◌, ℕ, false, List, [], ◌∷◌, length, Option, Some, None, Result, refl, sym, ap, ◌∙◌}
 use Rattle.std.specs.Prelude.{ℤ, IfSome, map, option_map}
 use Rattle.std.proofs.lemmas.List.{length-map}
@@ -150,7 +150,8 @@ module _ {S K W X : Type 0} {tables : Tables S K (Value W) X} {kinds : ListKinds
   pub said_params : (params : Option (List (Named ℤ))) → IfSome params (AreParamsWithin most)
       → IsSaid tables (params_row kinds params)
   said_params params are =
-      said_if tables (row the.Params Optional kinds.params) params_text (AreParamsWithin most) params refl are suits_params
+      said_if tables (row the.Params Optional kinds.params) params_text (AreParamsWithin most) params refl are
+      suits_params
 
   -- the versions of Tor
   pub versions_said : (client server : Option (List (List ℕ))) → IfSome client AreVersionsInRange

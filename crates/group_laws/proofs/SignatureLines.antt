@@ -87,7 +87,8 @@ module _ (p : ℕ) (k : Keyword) (identity : Fingerprint) (key : Digest1) (bytes
   two : (name : Option (List ℕ)) → IsSignerInRange name identity key
       → AreWords (hex_text identity.0 ∷ hex_text key.0 ∷ [])
   two name are =
-      two_words (hex_text identity.0) (hex_text key.0) (word_of_identity identity.0 are.identity_is.count are.identity_is.each)
+      two_words (hex_text identity.0) (hex_text key.0)
+      (word_of_identity identity.0 are.identity_is.count are.identity_is.each)
       (word_of_identity key.0 are.key_is.count are.key_is.each)
 
   without_name : IsSignerInRange None identity key → IsSignedBy (item None) None (at None None)
@@ -114,7 +115,8 @@ module _ (p : ℕ) (k : Keyword) (identity : Fingerprint) (key : Digest1) (bytes
       (lines_at p k (signer_text (Some name) identity key) (codes "SIGNATURE") bytes)
       (arguments_of_words start (name ∷ a ∷ b ∷ [])
       (All-cons IsWord name (a ∷ b ∷ []) are.name_is.0 (two (Some name) are)))
-      (word_is_there name are.name_is.0) are.name_is.1 is (identity_again identity are.identity_is.count are.identity_is.each)
+      (word_is_there name are.name_is.0) are.name_is.1 is
+      (identity_again identity are.identity_is.count are.identity_is.each)
       (key_again key are.key_is.count are.key_is.each) refl
 
   with_other : (name : List ℕ) → IsSignerInRange (Some name) identity key → algorithm name ≡ None
@@ -140,7 +142,8 @@ module _ (p : ℕ) (k : Keyword) (identity : Fingerprint) (key : Digest1) (bytes
           → known_signature_of (item (Some name))
           ≡ Ok (option_map (λ f. at (Some name) f) (option_map (λ a. Some a) found))
       by None is = with_other name are is
-      by (Some found) is = known_is (item (Some name)) (Some found) (at (Some name) (Some found)) (with_name name found are is)
+      by (Some found) is =
+          known_is (item (Some name)) (Some found) (at (Some name) (Some found)) (with_name name found are is)
 
   -- its text is not empty
   pub signer_filled : (name : Option (List ℕ)) → 0 < length (signer_text name identity key)

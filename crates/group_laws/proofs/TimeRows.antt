@@ -74,7 +74,8 @@ pub record HasTimes {S K W X : Type 0} (tables : Tables S K (Value W) X) (moment
 
 module _ {S K W X : Type 0} {tables : Tables S K (Value W) X} {moment delays : K} {own : ℕ → ℕ → W}
     (has : HasTimes tables moment delays own) where
-  said_delays : (vote dist : ℕ) → vote ≤ 4294967295 → dist ≤ 4294967295 → IsSaid tables (delays_row delays own vote dist)
+  said_delays : (vote dist : ℕ) → vote ≤ 4294967295 → dist ≤ 4294967295
+      → IsSaid tables (delays_row delays own vote dist)
   said_delays vote dist first second =
       let entry = own_entry the.VotingDelay (delays_text vote dist) (λ p. own vote dist) in
       said_once tables (row the.VotingDelay One delays) entry

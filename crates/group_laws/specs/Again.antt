@@ -1,8 +1,10 @@
 -- Lines of signatures are read again, in any kind of document (dir-spec, "Vote and consensus status document formats",
 -- the `directory-signature` line).
-use Rattle.std.specs.Prelude.{◌≡◌, ℕ, ◌+◌, true, List, [], ◌∷◌, ◌++◌, length, IfSome, Ok, Option, Some, None, codes, option_map}
+use Rattle.std.specs.Prelude.{◌≡◌, ℕ, ◌+◌, true, List, [], ◌∷◌, ◌++◌, length, IfSome, Ok, Option, Some, None, codes}
+use Rattle.std.specs.Prelude.{option_map}
 use Rattle.std.specs.List.{join_with_byte}
 use Rattle.item_terms.specs.Bytes.{space}
+use Rattle.item_terms.specs.Items.{Item}
 use Rattle.dir_bytes.specs.FieldTexts.{hex_text}
 use Rattle.dir_values.specs.Digests.{fingerprint}
 use Rattle.dir_values.specs.Names.{algorithm}
@@ -64,13 +66,18 @@ abbrev pub signature_said : ℕ → Keyword → Option (List ℕ) → Fingerprin
 signature_said place keyword name identity key bytes =
     option_map (λ (found : Option Algorithm). signature_at place keyword name found identity key bytes) (named name)
 
+-- the item of a signature that was written at a place
+abbrev pub signature_written : ℕ → Keyword → Option (List ℕ) → Fingerprint → Digest1 → List ℕ → Item
+signature_written place keyword name identity key bytes =
+    written place (with_object keyword (signer_text name identity key) (codes "SIGNATURE") bytes)
+
 -- A signature is read as it was written: one of several, which says nothing by an algorithm that is not known, and the
 -- one of a document, by an algorithm that is known or none.
 abbrev pub SignatureLinesAreReadAgain : Type 0
 SignatureLinesAreReadAgain = (place : ℕ) (keyword : Keyword) (name : Option (List ℕ)) (identity : Fingerprint)
     (key : Digest1) (bytes : List ℕ) → IsSignerInRange name identity key
-    → (known_signature_of (written place (with_object keyword (signer_text name identity key) (codes "SIGNATURE") bytes))
+    → (known_signature_of (signature_written place keyword name identity key bytes)
     ≡ Ok (signature_said place keyword name identity key bytes))
     × ((found : Option Algorithm) → named name ≡ Some found
-    → signature_of (written place (with_object keyword (signer_text name identity key) (codes "SIGNATURE") bytes))
+    → signature_of (signature_written place keyword name identity key bytes)
     ≡ Ok (signature_at place keyword name found identity key bytes))
