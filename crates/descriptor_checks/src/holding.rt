@@ -9,7 +9,7 @@ use std::test::Fail;
 
 /// Which text.
 #[derive(Clone, Copy)]
-enum Which {
+pub(crate) enum Which {
     Signed,
     Plain,
     Expired,
@@ -17,7 +17,7 @@ enum Which {
     Whole,
 }
 
-fn text_of(which: Which) -> &'static [u8] {
+pub(crate) fn text_of(which: Which) -> &'static [u8] {
     match which {
         Which::Signed => SIGNED,
         Which::Plain => PLAIN,
