@@ -63,9 +63,10 @@ one_is Many is = absurd (cc (is))
 module _ {A : Type 0} (test : A → Bool) (P : A → Type 0) (holds : (one : A) → test one ≡ true → P one) where
   all_hold : (list : List A) → list_all test list ≡ true → AllByRecursion P list
   all_hold [] is = tt
-  all_hold (one ∷ list) is =
-      (holds one (first_of_both (test one) (list_all test list) is),
-      all_hold list (second_of_both (test one) (list_all test list) is))
+  all_hold (one ∷ list) is = (
+    holds one (first_of_both (test one) (list_all test list) is),
+    all_hold list (second_of_both (test one) (list_all test list) is),
+  )
 
   holds_there : (one : Option A) → if_there test one ≡ true → IfSome one P
   holds_there None is = tt
@@ -87,10 +88,11 @@ distinct : (keywords : List Keyword) → differ keywords ≡ true → IsDistinct
 unfolding IsDistinct
 distinct [] is = tt
 distinct (keyword ∷ keywords) is =
-    let apart = list_all (λ other. not (same keyword other)) keywords in
-    (all_hold (λ other. not (same keyword other)) (λ other. same keyword other ≡ false)
-    (λ other no. is_not (same keyword other) no) keywords (first_of_both apart (differ keywords) is),
-    distinct keywords (second_of_both apart (differ keywords) is))
+    let apart = list_all (λ other. not (same keyword other)) keywords in (
+      all_hold (λ other. not (same keyword other)) (λ other. same keyword other ≡ false)
+          (λ other no. is_not (same keyword other) no) keywords (first_of_both apart (differ keywords) is),
+      distinct keywords (second_of_both apart (differ keywords) is),
+    )
 
 module _ {K : Type 0} where
   -- rows of which none has the keyword of one in front are found behind it
@@ -99,18 +101,20 @@ module _ {K : Type 0} where
       → AllByRecursion (λ (row : Row K). row_of all row.keyword ≡ Some row) rows
       → AllByRecursion (λ (row : Row K). row_of (front ∷ all) row.keyword ≡ Some row) rows
   found_behind front all [] apart found = tt
-  found_behind front all (row ∷ rows) apart found =
-      (ap (λ (t : Bool). if t then Some front else row_of all row.keyword) apart.0 ∙ found.0,
-      found_behind front all rows apart.1 found.1)
+  found_behind front all (row ∷ rows) apart found = (
+    ap (λ (t : Bool). if t then Some front else row_of all row.keyword) apart.0 ∙ found.0,
+    found_behind front all rows apart.1 found.1,
+  )
 
   -- of rows of which no two have one keyword each is found by its keyword
   are_found : (rows : List (Row K)) → IsDistinct same (map (λ (row : Row K). row.keyword) rows)
       → AllByRecursion (λ (row : Row K). row_of rows row.keyword ≡ Some row) rows
   unfolding IsDistinct
   are_found [] apart = tt
-  are_found (row ∷ rows) apart =
-      (ap (λ (t : Bool). if t then Some row else row_of rows row.keyword) (same-refl row.keyword),
-      found_behind row rows rows apart.0 (are_found rows apart.1))
+  are_found (row ∷ rows) apart = (
+    ap (λ (t : Bool). if t then Some row else row_of rows row.keyword) (same-refl row.keyword),
+    found_behind row rows rows apart.0 (are_found rows apart.1),
+  )
 
 -- ---- sections
 
