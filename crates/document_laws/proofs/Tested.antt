@@ -9,6 +9,7 @@ use Rattle.frame_terms.specs.declared.row.Count.TheVariants.{One, Optional, Many
 use Rattle.frame_terms.specs.declared.row.Row.{Row}
 use Rattle.frame_terms.specs.declared.section.Again.{Again}
 use Rattle.frame_terms.specs.declared.section.Again.TheVariants.{Nothing, Section, Document}
+use Rattle.frame_terms.specs.declared.section.Shape.{Shape}
 use Rattle.frame_terms.specs.Keywords.{same}
 use Rattle.frame_terms.specs.Order.{following, is_keyword, opener, repeats}
 use Rattle.frame_terms.specs.Rows.{is_many, is_one}
@@ -35,8 +36,8 @@ is_not true is = absurd (cc (is))
 is_not false is = refl
 
 not_or : (a b : Bool) → (not a || b) ≡ true → a ≡ true → b ≡ true
-not_or true b is yes = is
-not_or false b is yes = absurd (cc (yes))
+not_or true b is holds = is
+not_or false b is holds = absurd (cc (holds))
 
 all_are : (tests : List Bool) → each tests ≡ true → AllByRecursion (λ test. test ≡ true) tests
 all_are [] is = tt
