@@ -39,6 +39,7 @@ last_or item [] = item
 last_or item (next ∷ items) = last_or next items
 
 last_behind : (item : Item) (before : List Item) (last : Item) → last_or item (before ++ last ∷ []) ≡ last
+unfolding last_or
 last_behind item [] last = refl
 last_behind item (next ∷ before) last = last_behind next before last
 
@@ -103,6 +104,7 @@ module _ (bytes : List ℕ) where
     last_keyword = is.ends.5
 
     none_before : stands the.DirKeyCertification (is.first_one ∷ is.between) ≡ false
+    unfolding same
     none_before =
         let later : same the.DirKeyCertificateVersion the.DirKeyCertification ≡ false = refl in
         ap (λ (t : Bool). t || stands the.DirKeyCertification is.between)
