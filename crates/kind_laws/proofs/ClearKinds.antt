@@ -10,6 +10,7 @@ use Rattle.consensus_frame.specs.Tables.{consensus_tables}
 use Rattle.consensus_terms.specs.declared.flavour.Flavour.{Flavour}
 use Rattle.consensus_terms.specs.declared.flavour.Flavour.TheVariants.{Ns, Microdesc}
 use Rattle.descriptor_frame.specs.Tables.{descriptor_tables}
+use Rattle.detached_frame.specs.Tables.{detached_tables}
 use Rattle.micro_desc.specs.Tables.{micro_tables}
 use Rattle.vote_frame.specs.declared.frame.VoteSection.{VoteSection}
 use Rattle.vote_frame.specs.declared.frame.VoteSection.TheVariants as vote
@@ -49,6 +50,18 @@ descriptors = record {
 microdescriptors : PassTests micro_tables
 unfolding same
 microdescriptors = record {
+  others = [];
+  begins = refl;
+  apart = refl;
+  first_stands = refl;
+  each = λ section. refl;
+  regarded = λ section item. refl;
+  entered = λ section. tt;
+}
+
+detached_signatures : PassTests detached_tables
+unfolding same
+detached_signatures = record {
   others = [];
   begins = refl;
   apart = refl;
@@ -143,6 +156,7 @@ kinds_are_clear = record {
   consensuses = λ flavour. are_clear (consensus_tables flavour) (consensuses flavour);
   descriptors = are_clear descriptor_tables descriptors;
   microdescriptors = are_clear micro_tables microdescriptors;
+  detached_signatures = are_clear detached_tables detached_signatures;
 }
 
 pub kinds_are_exact : KindsAreExact
@@ -152,4 +166,5 @@ kinds_are_exact = record {
   consensuses = λ flavour. are_exact (consensus_tables flavour) (kinds_are_clear.consensuses flavour);
   descriptors = are_exact descriptor_tables kinds_are_clear.descriptors;
   microdescriptors = are_exact micro_tables kinds_are_clear.microdescriptors;
+  detached_signatures = are_exact detached_tables kinds_are_clear.detached_signatures;
 }

@@ -26,6 +26,7 @@ use Rattle.consensus_frame.specs.declared.value.ConsensusValue.{ConsensusValue}
 use Rattle.consensus_frame.specs.declared.value.ConsensusValue.TheVariants as listed
 use Rattle.consensus_frame.specs.Tables as consensus
 use Rattle.descriptor_frame.specs.Lines as descriptor
+use Rattle.detached_frame.specs.Tables as detached
 use Rattle.micro_desc.specs.Lines as micro
 use Rattle.vote_frame.specs.Across as across
 use Rattle.vote_frame.specs.declared.across.Across as vote_across
@@ -169,6 +170,10 @@ kinds_have_no_doc = record {
   };
   microdescriptors = record {
     values = λ across kind item. placed (micro.value_at kind item);
+    notes = λ across one. tt;
+  };
+  detached_signatures = record {
+    values = λ across kind item. placed (detached.value_at kind item);
     notes = λ across one. tt;
   };
 }
