@@ -1,0 +1,105 @@
+-- The document that a descriptor is read of: one section, whose items are those of the input.
+use Rattle.std.proofs.Common.{◌≡◌, ℕ, List, [], ◌∷◌, length, Result, Ok, Err, refl, sym, ap, subst, ◌∙◌}
+use Rattle.item_terms.specs.Items.{Item, items_of}
+use Rattle.frame_terms.specs.Documents.{Document, document_of, finish, group}
+use Rattle.frame_terms.specs.declared.document.Group.{Group}
+use Rattle.frame_terms.specs.declared.document.Taken.{Taken}
+use Rattle.frame_terms.specs.declared.fault.ReadRefusal.{ReadRefusal}
+use Rattle.frame_terms.specs.declared.keyword.Keyword.{Keyword}
+use Rattle.frame_values.specs.declared.values.Value.{Value}
+use Rattle.table_laws.specs.OneSection.{IsOneSection}
+use Rattle.table_laws.proofs.OneDocument.{one_section_is_all}
+use Rattle.kind_laws.proofs.SoundKinds.{kinds_are_sound}
+use Rattle.descriptor_frame.specs.Tables.{descriptor_tables}
+use Rattle.descriptor_frame.specs.declared.said.DescriptorValue.{DescriptorValue}
+use Rattle.descriptor_doc.specs.Descriptors.{descriptor_in}
+use Rattle.descriptor_doc.specs.Heads.{kept_of, kept_with, none_kept}
+use Rattle.descriptor_doc.specs.Reading.{descriptor_of, max_descriptor, with_descriptor}
+use Rattle.descriptor_doc.specs.declared.descriptor.Descriptor.{Descriptor}
+
+abbrev pub Said : Type 0
+Said = Value DescriptorValue
+
+abbrev pub DescriptorTaken : Type 0
+DescriptorTaken = Taken Said
+
+abbrev pub DescriptorDocument : Type 0
+DescriptorDocument = Document (Unit {0}) Said
+
+-- the document of one section with these items
+abbrev pub of_section : List DescriptorTaken → ℕ → DescriptorDocument
+of_section taken used = record { groups = group tt taken ∷ []; used = used }
+
+-- the last item of the section
+abbrev pub last_keyword : Keyword
+last_keyword = kinds_are_sound.one_descriptor.last
+
+-- the items are those of a descriptor's section
+abbrev pub AreItems : List Item → List DescriptorTaken → ℕ → Type 0
+AreItems items taken used = IsOneSection descriptor_tables last_keyword items taken used
+
+-- what the bytes say, of which this document was read
+abbrev pub says_of : List ℕ → Result DescriptorDocument ReadRefusal → Result (Descriptor × ℕ) ReadRefusal
+says_of bytes read = with_descriptor bytes (finish kept_with none_kept read)
+
+-- The document that the descriptor is read of.
+pub record IsReadOf (bytes : List ℕ) (d : Descriptor) (used : ℕ) : Type 0 where
+  pub taken : List DescriptorTaken
+  pub read : document_of descriptor_tables (length bytes) (items_of max_descriptor bytes) ≡ Ok (of_section taken used)
+  pub items : AreItems (items_of max_descriptor bytes).items taken used
+  pub says : descriptor_in bytes (kept_of taken) ≡ d
+
+abbrev taken_in : List (Group (Unit {0}) Said) → List DescriptorTaken
+taken_in [] = []
+taken_in (g ∷ groups) = g.taken
+
+-- a document of one section has its items
+pub are_items : (length_ : ℕ) (bytes : List ℕ) (taken : List DescriptorTaken) (used : ℕ)
+    → document_of descriptor_tables length_ (items_of max_descriptor bytes) ≡ Ok (of_section taken used)
+    → AreItems (items_of max_descriptor bytes).items taken used
+are_items length_ bytes taken used is =
+    let items = (items_of max_descriptor bytes).items in
+    let all =
+    one_section_is_all descriptor_tables kinds_are_sound.descriptors kinds_are_sound.one_descriptor length_
+    (items_of max_descriptor bytes) (of_section taken used) is in
+    let same_taken : all.0 ≡ taken = sym (ap (λ (d : DescriptorDocument). taken_in d.groups) all.2) in
+    let same_used : all.1 ≡ used = sym (ap (λ (d : DescriptorDocument). d.used) all.2) in
+    subst (λ (n : ℕ). AreItems items taken n) same_used
+    (subst (λ (t : List DescriptorTaken). AreItems items t all.1) same_taken all.3)
+
+pub is_read : (bytes : List ℕ) (d : Descriptor) (used : ℕ) → descriptor_of bytes ≡ Ok (d, used) → IsReadOf bytes d used
+is_read bytes d used is =
+    by (document_of descriptor_tables (length bytes) (items_of max_descriptor bytes)) refl is
+  where
+    descriptor_or : Result (Descriptor × ℕ) ReadRefusal → Descriptor
+    descriptor_or (Ok (found, n)) = found
+    descriptor_or (Err r) = d
+
+    used_or : Result (Descriptor × ℕ) ReadRefusal → ℕ
+    used_or (Ok (found, n)) = n
+    used_or (Err r) = 0
+
+    by : (r : Result DescriptorDocument ReadRefusal)
+        → document_of descriptor_tables (length bytes) (items_of max_descriptor bytes) ≡ r
+        → says_of bytes r ≡ Ok (d, used) → IsReadOf bytes d used
+    by (Err refusal) e is = absurd (cc is)
+    by (Ok document) e is =
+        let all =
+        one_section_is_all descriptor_tables kinds_are_sound.descriptors kinds_are_sound.one_descriptor (length bytes)
+        (items_of max_descriptor bytes) document e in
+        let found : says_of bytes (Ok (of_section all.0 all.1)) ≡ Ok (d, used) =
+        sym (ap (λ (o : DescriptorDocument). says_of bytes (Ok o)) all.2) ∙ is in
+        let same_used : all.1 ≡ used = ap used_or found in
+        let read : document_of descriptor_tables (length bytes) (items_of max_descriptor bytes)
+        ≡ Ok (of_section all.0 used) =
+        e ∙ ap (λ (o : DescriptorDocument). read_as o) all.2
+        ∙ ap (λ (n : ℕ). read_as (of_section all.0 n)) same_used in
+        record {
+          taken = all.0;
+          read = read;
+          items = are_items (length bytes) bytes all.0 used read;
+          says = ap descriptor_or found;
+        }
+      where
+        read_as : DescriptorDocument → Result DescriptorDocument ReadRefusal
+        read_as o = Ok o

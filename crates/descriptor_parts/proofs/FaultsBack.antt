@@ -1,0 +1,86 @@
+-- A line that has no fault further on has none so many bytes before, under the same limit.
+use Rattle.std.proofs.Common.{◌≡◌, ℕ, ◌+◌, ◌-◌, ◌≤◌, min, Bool, true, false, Option, Some, None, refl, ap, ◌∙◌, arith}
+use Rattle.std.specs.Prelude.{nat_le, nat_lt, ◌&&◌, length, if◌then◌else◌}
+use Rattle.std.proofs.lemmas.Bool.{le-leb, ltb-false, ltb-true}
+use Rattle.item_terms.specs.declared.fault.DocFault.{DocFault}
+use Rattle.item_terms.specs.declared.fault.DocReason.TheVariants.{DocumentTooLong, LineTooLong, ObjectTooLong}
+use Rattle.item_terms.specs.declared.fault.DocReason.TheVariants.{Unterminated}
+use Rattle.item_terms.specs.Faults.{at, line_fault, max_line, max_object, nul_fault, object_line_fault, or_else}
+use Rattle.item_terms.specs.Faults.{too_long, unterminated}
+use Rattle.item_terms.specs.Lines.{Line, size}
+use Rattle.item_terms.specs.Words.{nul_in}
+use Rattle.part_laws.proofs.MovedFaults.{none_of, short}
+
+not_long : (limit place size_ : ℕ) → size_ ≤ min (limit - place) max_line → too_long limit place size_ ≡ None
+not_long limit place size_ fits =
+    ap (λ (t : Bool). if t then None else Some
+    (if nat_le (limit - place) max_line then at limit DocumentTooLong else at (place + max_line) LineTooLong))
+    (le-leb size_ (min (limit - place) max_line) fits)
+
+ended_too : (place other : ℕ) (line : Line) → unterminated place line ≡ None → unterminated other line ≡ None
+ended_too place other line is = by line.ended is
+  where
+    by : (t : Bool) → (if t then None else Some (at (place + length line.text) Unterminated)) ≡ None
+        → (if t then None else Some (at (other + length line.text) Unterminated)) ≡ None
+    by true is = refl
+    by false is = absurd (cc is)
+
+no_nul_too : (place other : ℕ) (found : Option ℕ) → nul_fault place found ≡ None → nul_fault other found ≡ None
+no_nul_too place other None is = refl
+no_nul_too place other (Some i) is = absurd (cc is)
+
+pub sound_back : (limit place n : ℕ) (line : Line) → line_fault limit (place + n) line ≡ None
+    → line_fault limit place line ≡ None
+sound_back limit place n line is =
+    let there = place + n in
+    let long = too_long limit there (size line) in
+    let others = or_else (unterminated there line) (nul_fault there (nul_in line.text)) in
+    let p = none_of long others is in
+    let q = none_of (unterminated there line) (nul_fault there (nul_in line.text)) p.1 in
+    let s = short limit there (size line) p.0 in
+    let m : size line ≤ min (limit - place) 1048576 = omega (arith, s) in
+    ap (λ (f : Option DocFault). or_else f (or_else (unterminated place line) (nul_fault place (nul_in line.text))))
+    (not_long limit place (size line) m)
+    ∙ ap (λ (f : Option DocFault). or_else f (nul_fault place (nul_in line.text))) (ended_too there place line q.0)
+    ∙ no_nul_too there place (nul_in line.text) q.1
+
+-- the same inside an object
+pub object_sound_back : (limit begin place n : ℕ) (line : Line)
+    → object_line_fault limit (begin + n) (place + n) line ≡ None → object_line_fault limit begin place line ≡ None
+object_sound_back limit begin place n line is =
+    let room = max_object - (place + n - (begin + n)) in
+    by (nat_lt room (min (limit - (place + n)) max_line)) (nat_lt room (size line)) refl refl is
+  where
+    never : (t : Bool) → (if t && false then Some (at begin ObjectTooLong) else line_fault limit place line)
+        ≡ line_fault limit place line
+    never true = refl
+    never false = refl
+
+    small : nat_lt (max_object - (place + n - (begin + n))) (size line) ≡ false
+        → line_fault limit (place + n) line ≡ None → object_line_fault limit begin place line ≡ None
+    small eb is =
+        let same : max_object - (place - begin) ≡ max_object - (place + n - (begin + n)) = omega arith in
+        let big : nat_lt (max_object - (place - begin)) (size line) ≡ false =
+        ap (λ (k : ℕ). nat_lt k (size line)) same ∙ eb in
+        ap (λ (t : Bool). if nat_lt (max_object - (place - begin)) (min (limit - place) max_line) && t
+        then Some (at begin ObjectTooLong) else line_fault limit place line) big
+        ∙ never (nat_lt (max_object - (place - begin)) (min (limit - place) max_line))
+        ∙ sound_back limit place n line is
+
+    by : (a b : Bool)
+        → nat_lt (max_object - (place + n - (begin + n))) (min (limit - (place + n)) max_line) ≡ a
+        → nat_lt (max_object - (place + n - (begin + n))) (size line) ≡ b
+        → (if a && b then Some (at (begin + n) ObjectTooLong) else line_fault limit (place + n) line) ≡ None
+        → object_line_fault limit begin place line ≡ None
+    by true true ea eb is = absurd (cc is)
+    by true false ea eb is = small eb is
+    by false true ea eb is =
+        let there = place + n in
+        let p =
+        none_of (too_long limit there (size line))
+        (or_else (unterminated there line) (nul_fault there (nul_in line.text))) is in
+        let s = short limit there (size line) p.0 in
+        let over = ltb-true (max_object - (there - (begin + n))) (size line) eb in
+        let under = ltb-false (max_object - (there - (begin + n))) (min (limit - there) max_line) ea in
+        absurd (omega (arith, s, over, under))
+    by false false ea eb is = small eb is

@@ -1,0 +1,3 @@
+pub mod Signers
+pub mod DescriptorReads
+pub mod DescriptorRead
