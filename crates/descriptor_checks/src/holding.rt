@@ -1,8 +1,9 @@
 // Descriptors that hold by the test scheme, and why others do not.
-use crate::texts::{EXPIRED, LASTS, PLAIN, SIGNED, WHOLE};
-use descriptor_doc::{Descriptor, DescriptorRefusal, check, read};
-use dir_bytes::Text;
-use dir_values::Fingerprint;
+use crate::texts::{
+    EMPTY, EXPIRED, LASTS, NO_CERTIFICATE, NO_ED_SIGNATURE, OTHER_ED_SIGNATURE, OTHER_FINGERPRINT,
+    OTHER_MASTER_KEY, PLAIN, SIGNED, WHOLE,
+};
+use descriptor_doc::{DescriptorRefusal, check, read};
 use key_port::TestKeys;
 use std::alloc::Global;
 use std::test::Fail;
@@ -15,6 +16,12 @@ pub(crate) enum Which {
     Expired,
     Lasts,
     Whole,
+    OtherFingerprint,
+    OtherMasterKey,
+    NoEdSignature,
+    NoCertificate,
+    Empty,
+    OtherEdSignature,
 }
 
 pub(crate) fn text_of(which: Which) -> &'static [u8] {
@@ -24,133 +31,75 @@ pub(crate) fn text_of(which: Which) -> &'static [u8] {
         Which::Expired => EXPIRED,
         Which::Lasts => LASTS,
         Which::Whole => WHOLE,
+        Which::OtherFingerprint => OTHER_FINGERPRINT,
+        Which::OtherMasterKey => OTHER_MASTER_KEY,
+        Which::NoEdSignature => NO_ED_SIGNATURE,
+        Which::NoCertificate => NO_CERTIFICATE,
+        Which::Empty => EMPTY,
+        Which::OtherEdSignature => OTHER_ED_SIGNATURE,
     }
 }
 
-/// What is another in a descriptor that holds.
-#[derive(Clone, Copy)]
-enum Change {
-    Nothing,
-    Fingerprint,
-    MasterKey,
-    NoSignature,
-    NoCertificate,
-    Empty,
-    EdSignature,
-}
-
-fn apply(alloc: Global, descriptor: &mut Descriptor, what: Change) {
-    match what {
-        Change::Nothing => {}
-        Change::Fingerprint => descriptor.fingerprint = Some(Fingerprint([0xA9; 20])),
-        Change::MasterKey => descriptor.master_key_ed25519 = Some([7; 32]),
-        Change::NoSignature => descriptor.router_sig_ed25519 = None,
-        Change::NoCertificate => {
-            descriptor.identity_ed25519 = None;
-            descriptor.master_key_ed25519 = None;
-        }
-        Change::Empty => descriptor.router_signature = Text::new(Vec::new(alloc)),
-        Change::EdSignature => {
-            if let Some(signature) = &mut descriptor.router_sig_ed25519 {
-                signature.signature[63] ^= 1;
-            }
-        }
-    }
-}
-
-// Why the descriptor with this change does not hold, where the call of the verifier with this number fails, and how often it
-// failed.
+// Why the descriptor of a text does not hold, where the call of the verifier with this number fails, and how often it failed.
 fn refusal(
     alloc: Global,
     text: &[u8],
-    what: Change,
     failing: u64,
 ) -> Result<(Option<DescriptorRefusal>, u64), Fail> {
     if text.len() > 100_000 {
         return Err(Fail::new("a long text"));
     }
-    let (mut descriptor, _) = read(alloc, text)?;
-    apply(alloc, &mut descriptor, what);
+    let (descriptor, _) = read(alloc, text)?;
     let mut keys = TestKeys::new([failing].to_vec(alloc)?);
     let answer = check(descriptor, &mut keys).err();
     Ok((answer, keys.faults()))
 }
 
-// A text, a change, the number of the call that fails, and the refusal.
-const CASES: [(Which, Change, u64, Option<DescriptorRefusal>); 14] = [
-    (Which::Signed, Change::Nothing, 0, None),
-    (Which::Plain, Change::Nothing, 0, None),
-    (Which::Lasts, Change::Nothing, 0, None),
-    (Which::Whole, Change::Nothing, 0, None),
+// A text, the number of the call that fails, and the refusal.
+const CASES: [(Which, u64, Option<DescriptorRefusal>); 14] = [
+    (Which::Signed, 0, None),
+    (Which::Plain, 0, None),
+    (Which::Lasts, 0, None),
+    (Which::Whole, 0, None),
+    (Which::Expired, 0, Some(DescriptorRefusal::BadEdSignature)),
     (
-        Which::Expired,
-        Change::Nothing,
+        Which::OtherFingerprint,
+        0,
+        Some(DescriptorRefusal::IdentityMismatch),
+    ),
+    (
+        Which::OtherMasterKey,
+        0,
+        Some(DescriptorRefusal::IdentityMismatch),
+    ),
+    (
+        Which::NoEdSignature,
+        0,
+        Some(DescriptorRefusal::IdentityMismatch),
+    ),
+    (
+        Which::NoCertificate,
+        0,
+        Some(DescriptorRefusal::IdentityMismatch),
+    ),
+    (Which::Empty, 0, Some(DescriptorRefusal::BadSignature)),
+    (
+        Which::OtherEdSignature,
         0,
         Some(DescriptorRefusal::BadEdSignature),
     ),
-    (
-        Which::Signed,
-        Change::Fingerprint,
-        0,
-        Some(DescriptorRefusal::IdentityMismatch),
-    ),
-    (
-        Which::Whole,
-        Change::MasterKey,
-        0,
-        Some(DescriptorRefusal::IdentityMismatch),
-    ),
-    (
-        Which::Whole,
-        Change::NoSignature,
-        0,
-        Some(DescriptorRefusal::IdentityMismatch),
-    ),
-    (
-        Which::Whole,
-        Change::NoCertificate,
-        0,
-        Some(DescriptorRefusal::IdentityMismatch),
-    ),
-    (
-        Which::Signed,
-        Change::Empty,
-        0,
-        Some(DescriptorRefusal::BadSignature),
-    ),
-    (
-        Which::Whole,
-        Change::EdSignature,
-        0,
-        Some(DescriptorRefusal::BadEdSignature),
-    ),
-    (
-        Which::Whole,
-        Change::Nothing,
-        1,
-        Some(DescriptorRefusal::VerifierFault),
-    ),
-    (
-        Which::Whole,
-        Change::Nothing,
-        2,
-        Some(DescriptorRefusal::VerifierFault),
-    ),
-    (
-        Which::Whole,
-        Change::Nothing,
-        3,
-        Some(DescriptorRefusal::VerifierFault),
-    ),
+    (Which::Whole, 1, Some(DescriptorRefusal::VerifierFault)),
+    (Which::Whole, 2, Some(DescriptorRefusal::VerifierFault)),
+    (Which::Whole, 3, Some(DescriptorRefusal::VerifierFault)),
 ];
 
 #[test]
 fn a_descriptor_holds_or_has_its_first_reason(rt: HostRuntime) -> Result<(), Fail> {
     let mut row = 0u32;
-    for (which, what, failing, want) in CASES {
+    for (which, failing, want) in CASES {
         row = row.wrapping_add(1);
         let faults = if failing == 0 { 0 } else { 1 };
-        if refusal(rt.alloc(), text_of(which), what, failing)? != (want, faults) {
+        if refusal(rt.alloc(), text_of(which), failing)? != (want, faults) {
             return Err(Fail::new(row));
         }
     }

@@ -109,3 +109,146 @@ router-signature\n\
 0DR+tL4HSwsroR9vh77zM7YQVNP4IhbT6+WRwvjfP1U=\n\
 -----END SIGNATURE-----\n\
 ";
+
+/// `SIGNED` with another fingerprint.
+pub const OTHER_FINGERPRINT: &[u8] = b"router relay1 198.51.100.7 9001 0 0\n\
+identity-ed25519\n\
+-----BEGIN ED25519 CERT-----\n\
+AQQACSfAAQNpCqtAEPAfS6YozW/WWlNB2xdz8Uo36WkcBDcQV7j9AQAgBACRnaCh\n\
+dS6KybKlB+DU5dYA6AIZma45GHoiGl/I3dVLsA2Kx5+lUQ05m5D35m965BFjzxzt\n\
+cL3GzmwVsgDbCer9DYrHn6VRDTmbkPfmb3rkEWPPHO1wvcbObBWyANsJ6v0=\n\
+-----END ED25519 CERT-----\n\
+master-key-ed25519 kZ2goXUuismypQfg1OXWAOgCGZmuORh6IhpfyN3VS7A\n\
+platform Tor 0.4.8.12 on Linux\n\
+published 2025-12-31 22:00:00\n\
+fingerprint A9A9 A9A9 A9A9 A9A9 A9A9 A9A9 A9A9 A9A9 A9A9 A9A9\n\
+uptime 5\n\
+bandwidth 1000000 2000000 900000\n\
+signing-key\n\
+-----BEGIN RSA PUBLIC KEY-----\n\
+cmVsYXktc2lnbg==\n\
+-----END RSA PUBLIC KEY-----\n\
+reject *:*\n\
+router-sig-ed25519 /ijXkQQWlB8F6VaLN8YSIvShT5yiX9oDJ7ihsOf6PBH+KNeRBBaUHwXpVos3xhIi9KFPnKJf2gMnuKGw5/o8EQ\n\
+router-signature\n\
+-----BEGIN SIGNATURE-----\n\
+vP+fl+WyyVUPS1aGJZeOu5OmVN0RKkz4em7UEiwI3aY=\n\
+-----END SIGNATURE-----\n\
+";
+
+/// `WHOLE` with another Ed25519 identity key.
+pub const OTHER_MASTER_KEY: &[u8] = b"router relay2 198.51.100.9 9001 0 0\n\
+identity-ed25519\n\
+-----BEGIN ED25519 CERT-----\n\
+AQQAB334ASFUOXTonOgq5DIANPkOwMxlsZIEBGkTv3Zcv0EM3o/yAQAgBAA0OxbJ\n\
+6i1+ksbAEGQefmztPV62IfPcBgVBnLdCdaIbmhqyHtl2aeeZ2DGR5TtYZUyoP5tm\n\
+cXsTLht5fOo9efCoGrIe2XZp55nYMZHlO1hlTKg/m2ZxexMuG3l86j158Kg=\n\
+-----END ED25519 CERT-----\n\
+master-key-ed25519 BwcHBwcHBwcHBwcHBwcHBwcHBwcHBwcHBwcHBwcHBwc\n\
+published 2025-12-31 22:00:00\n\
+bandwidth 1000 2000 900\n\
+signing-key\n\
+-----BEGIN RSA PUBLIC KEY-----\n\
+cmVsYXkyLWtleQ==\n\
+-----END RSA PUBLIC KEY-----\n\
+accept *:443\n\
+reject *:*\n\
+family gamma $AAAA BETA\n\
+router-sig-ed25519 u++f79sE2nzVV52TrZ4VR/5y8QcNberhW9xtqFrq3iu775/v2wTafNVXnZOtnhVH/nLxBw1t6uFb3G2oWureKw\n\
+router-signature\n\
+-----BEGIN SIGNATURE-----\n\
+0DR+tL4HSwsroR9vh77zM7YQVNP4IhbT6+WRwvjfP1U=\n\
+-----END SIGNATURE-----\n\
+";
+
+/// `WHOLE` without its Ed25519 signature.
+pub const NO_ED_SIGNATURE: &[u8] = b"router relay2 198.51.100.9 9001 0 0\n\
+identity-ed25519\n\
+-----BEGIN ED25519 CERT-----\n\
+AQQAB334ASFUOXTonOgq5DIANPkOwMxlsZIEBGkTv3Zcv0EM3o/yAQAgBAA0OxbJ\n\
+6i1+ksbAEGQefmztPV62IfPcBgVBnLdCdaIbmhqyHtl2aeeZ2DGR5TtYZUyoP5tm\n\
+cXsTLht5fOo9efCoGrIe2XZp55nYMZHlO1hlTKg/m2ZxexMuG3l86j158Kg=\n\
+-----END ED25519 CERT-----\n\
+master-key-ed25519 NDsWyeotfpLGwBBkHn5s7T1etiHz3AYFQZy3QnWiG5o\n\
+published 2025-12-31 22:00:00\n\
+bandwidth 1000 2000 900\n\
+signing-key\n\
+-----BEGIN RSA PUBLIC KEY-----\n\
+cmVsYXkyLWtleQ==\n\
+-----END RSA PUBLIC KEY-----\n\
+accept *:443\n\
+reject *:*\n\
+family gamma $AAAA BETA\n\
+router-signature\n\
+-----BEGIN SIGNATURE-----\n\
+0DR+tL4HSwsroR9vh77zM7YQVNP4IhbT6+WRwvjfP1U=\n\
+-----END SIGNATURE-----\n\
+";
+
+/// `WHOLE` without its Ed25519 certificate and identity key.
+pub const NO_CERTIFICATE: &[u8] = b"router relay2 198.51.100.9 9001 0 0\n\
+published 2025-12-31 22:00:00\n\
+bandwidth 1000 2000 900\n\
+signing-key\n\
+-----BEGIN RSA PUBLIC KEY-----\n\
+cmVsYXkyLWtleQ==\n\
+-----END RSA PUBLIC KEY-----\n\
+accept *:443\n\
+reject *:*\n\
+family gamma $AAAA BETA\n\
+router-sig-ed25519 u++f79sE2nzVV52TrZ4VR/5y8QcNberhW9xtqFrq3iu775/v2wTafNVXnZOtnhVH/nLxBw1t6uFb3G2oWureKw\n\
+router-signature\n\
+-----BEGIN SIGNATURE-----\n\
+0DR+tL4HSwsroR9vh77zM7YQVNP4IhbT6+WRwvjfP1U=\n\
+-----END SIGNATURE-----\n\
+";
+
+/// `SIGNED` with an empty signature.
+pub const EMPTY: &[u8] = b"router relay1 198.51.100.7 9001 0 0\n\
+identity-ed25519\n\
+-----BEGIN ED25519 CERT-----\n\
+AQQACSfAAQNpCqtAEPAfS6YozW/WWlNB2xdz8Uo36WkcBDcQV7j9AQAgBACRnaCh\n\
+dS6KybKlB+DU5dYA6AIZma45GHoiGl/I3dVLsA2Kx5+lUQ05m5D35m965BFjzxzt\n\
+cL3GzmwVsgDbCer9DYrHn6VRDTmbkPfmb3rkEWPPHO1wvcbObBWyANsJ6v0=\n\
+-----END ED25519 CERT-----\n\
+master-key-ed25519 kZ2goXUuismypQfg1OXWAOgCGZmuORh6IhpfyN3VS7A\n\
+platform Tor 0.4.8.12 on Linux\n\
+published 2025-12-31 22:00:00\n\
+fingerprint 438B F08F 85C0 84DE 9788 24AE 225C 6DD0 9DB3 BF03\n\
+uptime 5\n\
+bandwidth 1000000 2000000 900000\n\
+signing-key\n\
+-----BEGIN RSA PUBLIC KEY-----\n\
+cmVsYXktc2lnbg==\n\
+-----END RSA PUBLIC KEY-----\n\
+reject *:*\n\
+router-sig-ed25519 /ijXkQQWlB8F6VaLN8YSIvShT5yiX9oDJ7ihsOf6PBH+KNeRBBaUHwXpVos3xhIi9KFPnKJf2gMnuKGw5/o8EQ\n\
+router-signature\n\
+-----BEGIN SIGNATURE-----\n\
+-----END SIGNATURE-----\n\
+";
+
+/// `WHOLE` with another Ed25519 signature, signed by its signing key.
+pub const OTHER_ED_SIGNATURE: &[u8] = b"router relay2 198.51.100.9 9001 0 0\n\
+identity-ed25519\n\
+-----BEGIN ED25519 CERT-----\n\
+AQQAB334ASFUOXTonOgq5DIANPkOwMxlsZIEBGkTv3Zcv0EM3o/yAQAgBAA0OxbJ\n\
+6i1+ksbAEGQefmztPV62IfPcBgVBnLdCdaIbmhqyHtl2aeeZ2DGR5TtYZUyoP5tm\n\
+cXsTLht5fOo9efCoGrIe2XZp55nYMZHlO1hlTKg/m2ZxexMuG3l86j158Kg=\n\
+-----END ED25519 CERT-----\n\
+master-key-ed25519 NDsWyeotfpLGwBBkHn5s7T1etiHz3AYFQZy3QnWiG5o\n\
+published 2025-12-31 22:00:00\n\
+bandwidth 1000 2000 900\n\
+signing-key\n\
+-----BEGIN RSA PUBLIC KEY-----\n\
+cmVsYXkyLWtleQ==\n\
+-----END RSA PUBLIC KEY-----\n\
+accept *:443\n\
+reject *:*\n\
+family gamma $AAAA BETA\n\
+router-sig-ed25519 u++f79sE2nzVV52TrZ4VR/5y8QcNberhW9xtqFrq3iu775/v2wTafNVXnZOtnhVH/nLxBw1t6uFb3G2oWureKg\n\
+router-signature\n\
+-----BEGIN SIGNATURE-----\n\
+2K9R71K1V13fEhtj8dVpyjZVLhUSkavJNVd5ogFfmv4=\n\
+-----END SIGNATURE-----\n\
+";

@@ -14,6 +14,7 @@ use Rattle.descriptor_doc.specs.declared.checking.DescriptorRefusal.{DescriptorR
 use Rattle.descriptor_doc.specs.declared.checking.DescriptorRefusal.TheVariants as refusal
 use Rattle.descriptor_doc.specs.declared.descriptor.Descriptor.{Descriptor}
 use Rattle.descriptor_doc.specs.declared.descriptor.EdSignature.{EdSignature}
+use Rattle.descriptor_doc.specs.Reading.{IsRead}
 
 -- ---- who signed it
 
@@ -79,6 +80,11 @@ pub record IsVerified (rules : Rules) (d : Descriptor) : Type 0 where
   pub names_itself : names_itself d ≡ true
   pub signed : signs rules.may_accept d ≡ true
   pub ed_signed : IsEdSigned rules d.published d.identity_ed25519 d.router_sig_ed25519
+
+-- what is kept of a descriptor that was checked: it was read, and it holds
+pub record IsChecked (rules : Rules) (d : Descriptor) : Type 0 where
+  pub read : IsRead d
+  pub verified : IsVerified rules d
 
 -- ---- why it is refused
 

@@ -29,3 +29,9 @@ descriptor_of bytes =
 abbrev pub ReadsDescriptor : List ℕ → Result (Descriptor × ℕ) ReadRefusal → Type 0
 ReadsDescriptor bytes (Ok (descriptor, used)) = (descriptor_of bytes ≡ Ok (descriptor, used)) × (used ≤ length bytes)
 ReadsDescriptor bytes (Err refusal) = Fails refusal (descriptor_of bytes)
+
+-- the descriptor was read: some bytes begin with it
+pub record IsRead (descriptor : Descriptor) : Type 0 where
+  pub input : List ℕ
+  pub used : ℕ
+  pub read : descriptor_of input ≡ Ok (descriptor, used)

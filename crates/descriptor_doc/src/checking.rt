@@ -5,6 +5,7 @@ ghost use Rattle.key_port.specs.Answers.{rules};
 ghost use Rattle.key_port.specs.declared.verifier.VerifyAnswer.TheVariants as verified;
 ghost use Rattle.descriptor_doc.specs.Checks as checks;
 ghost use Rattle.descriptor_doc.specs.Checks.{AsksAll, AsksOfRefused, IsVerified, RefusedBy};
+ghost use Rattle.descriptor_doc.specs.Reading.{IsRead};
 
 use crate::checked::CheckedDescriptor;
 use crate::descriptor::{Descriptor, EdSignature};
@@ -164,9 +165,9 @@ fn refusal_of<V: Verifier>(
     }
 }
 
-/// The descriptor as one that was checked, if it holds (dir-spec, "Server descriptor format"): its digest's signature by its
-/// signing key, asked as `Signing`; and, of Ed25519, the certificate's by its signer and the descriptor's by the certified key.
-/// Takes no memory.
+/// The descriptor, which was read, as one that was checked, if it holds (dir-spec, "Server descriptor format"): its digest's
+/// signature by its signing key, asked as `Signing`; and, of Ed25519, the certificate's by its signer and the descriptor's by
+/// the certified key. Takes no memory.
 ///
 /// # Errors
 /// The first that applies: `IdentityMismatch` where it names another identity than it has, for which the verifier is not asked;
@@ -178,6 +179,7 @@ pub fn check<V: Verifier>(
     descriptor: Descriptor,
     verifier: &mut V,
 ) -> Result<CheckedDescriptor<V>, DescriptorRefusal>
+    requires read { IsRead descriptor }
     ensures accepted { IfOk result (λ checked. (checked ≡ descriptor) × IsVerified (rules V.may_accept V.may_refuse) descriptor) }
     ensures refused { IfErr result (λ refusal. RefusedBy (rules V.may_accept V.may_refuse) descriptor refusal) }
     ensures fault { IfErr result (λ refusal. refusal ≡ DescriptorRefusal.VerifierFault → Rose (V.faults verifier.old) (V.faults verifier.new)) }

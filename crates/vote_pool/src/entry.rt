@@ -3,6 +3,7 @@ ghost use Rattle.std.specs.Prelude.{◌≡◌};
 ghost use Rattle.exit_summary.specs.Summaries.{summary_of};
 ghost use Rattle.key_port.specs.Answers.{rules};
 ghost use Rattle.descriptor_doc.specs.Checks.{IsVerified};
+ghost use Rattle.descriptor_doc.specs.Reading.{IsRead};
 ghost use Rattle.vote_pool.specs.Ranks.{rank_of_descriptor};
 ghost use Rattle.vote_pool.specs.Summaries.{micro_text_of};
 
@@ -49,9 +50,10 @@ impl<V: Verifier> PoolEntry<V> {
         PoolEntry { prepared }
     }
 
-    /// The descriptor, which holds.
+    /// The descriptor, which was read and holds.
     pub fn descriptor(&self) -> &Descriptor
         ensures descriptor { result.now ≡ self.now }
+        ensures read { IsRead self.now }
         ensures verified { IsVerified (rules V.may_accept V.may_refuse) self.now }
     {
         self.prepared.descriptor.descriptor()
