@@ -1,0 +1,56 @@
+-- The entries of relays, one relay after the other.
+use Rattle.std.proofs.Common.{◌≡◌, ℕ, suc, ◌+◌, ◌<◌, Bool, List, [], ◌∷◌, ◌++◌, length, get_or, drop}
+use Rattle.std.proofs.Common.{◌≤◌, sym, ap, ap₂, ◌∙◌, arith, append_assoc}
+use Rattle.std.proofs.lemmas.List.{append-nil, drop_all}
+use Rattle.descriptor_doc.specs.declared.descriptor.Descriptor.{Descriptor}
+use Rattle.flag_rules.specs.Relays.{ruled_relays}
+use Rattle.flag_rules.specs.declared.flags.Flags.{Flags}
+use Rattle.flag_rules.specs.declared.relay.RelayFacts.{RelayFacts}
+use Rattle.flag_rules.specs.declared.ruling.Ruling.{Ruling}
+use Rattle.vote_terms.specs.declared.entry.EntryFacts.{EntryFacts}
+use Rattle.vote_maker.specs.Listings.{JudgedRelay, judged_relays}
+use Rattle.vote_maker.specs.Private.{AreAsMany, Keys, entries_from, entry_if, is_listed, keys_after}
+use Rattle.vote_maker.proofs.Judged.{judged_at, judged_drop}
+
+module _ (ds : List Descriptor) (ks : List RelayFacts) (rs : List Ruling) (fs : List Flags) where
+  abbrev relays : List JudgedRelay
+  relays = judged_relays ds (ruled_relays ks rs) fs
+
+  -- the entries from a place on
+  pub at_place : (i : ℕ) (d : Descriptor) (k : RelayFacts) (r : Ruling) (f : Flags) (keys : Keys) → i < length ds
+      → AreAsMany ds ks rs fs → d ≡ get_or ds i d → k ≡ get_or ks i k → r ≡ get_or rs i r → f ≡ get_or fs i f
+      → entries_from keys (drop i relays)
+      ≡ entry_if (is_listed keys r d.identity_ed25519) d k f
+      ++ entries_from (keys_after keys r d.identity_ed25519) (drop (i + 1) relays)
+  at_place i d k r f keys within many at_d at_k at_r at_f =
+      let one : suc i ≡ i + 1 = omega arith in
+      let there : drop i relays ≡ judged_at d k r f ∷ drop (i + 1) relays =
+      judged_drop ds ks rs fs i d k r f within many.known_are many.rulings_are many.flags_are
+      ∙ ap₂ (λ (a : JudgedRelay) (l : List JudgedRelay). a ∷ l)
+      (ap₂ (λ (x : Descriptor) (y : RelayFacts). judged_at x y (get_or rs i r) (get_or fs i f)) (sym at_d) (sym at_k)
+      ∙ ap₂ (λ (x : Ruling) (y : Flags). judged_at d k x y) (sym at_r) (sym at_f))
+      (ap (λ (n : ℕ). drop n relays) one) in
+      ap (λ (l : List JudgedRelay). entries_from keys l) there
+
+  -- with the entry of one more, if it has one
+  pub one_more : (i : ℕ) (d : Descriptor) (k : RelayFacts) (r : Ruling) (f : Flags) (keys new : Keys) (listed : Bool)
+      (out more all : List EntryFacts) → i < length ds → AreAsMany ds ks rs fs → d ≡ get_or ds i d → k ≡ get_or ks i k
+      → r ≡ get_or rs i r → f ≡ get_or fs i f → listed ≡ is_listed keys r d.identity_ed25519
+      → new ≡ keys_after keys r d.identity_ed25519 → more ≡ out ++ entry_if listed d k f
+      → out ++ entries_from keys (drop i relays) ≡ all → more ++ entries_from new (drop (i + 1) relays) ≡ all
+  one_more i d k r f keys new listed out more all within many at_d at_k at_r at_f its after put before =
+      let its_entry = entry_if (is_listed keys r d.identity_ed25519) d k f in
+      let rest = entries_from (keys_after keys r d.identity_ed25519) (drop (i + 1) relays) in
+      ap₂ (λ (l : List EntryFacts) (s : Keys). l ++ entries_from s (drop (i + 1) relays))
+      (put ∙ ap (λ (b : Bool). out ++ entry_if b d k f) its) after
+      ∙ append_assoc out its_entry rest
+      ∙ ap (λ (l : List EntryFacts). out ++ l) (sym (at_place i d k r f keys within many at_d at_k at_r at_f))
+      ∙ before
+
+-- where no relay is left
+pub none_left : (judged : List JudgedRelay) (i : ℕ) (keys : Keys) (out all : List EntryFacts) → length judged ≤ i
+    → out ++ entries_from keys (drop i judged) ≡ all → out ≡ all
+none_left judged i keys out all past before =
+    sym (append-nil out)
+    ∙ ap (λ (l : List JudgedRelay). out ++ entries_from keys l) (sym (drop_all i judged past))
+    ∙ before

@@ -1,0 +1,9 @@
+pub mod EntriesInTurn
+pub mod Judged
+pub mod Listed
+pub mod MadeFlags
+pub mod MadeTexts
+pub mod Measured
+pub mod RuledEntries
+pub mod SignedTexts
+pub mod Versions

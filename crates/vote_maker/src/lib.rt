@@ -1,0 +1,16 @@
+//! The vote that an authority makes: of what it is given and of the descriptors that it holds, signed.
+#![tactic(auto)]
+
+mod copies;
+mod entry;
+mod facts;
+mod known;
+mod listing;
+mod making;
+mod measures;
+mod refusal;
+mod signing;
+mod version;
+
+pub use making::make;
+pub use refusal::MakeRefusal;

@@ -1,0 +1,122 @@
+// Which relays have an entry, and their entries.
+ghost use Rattle.std.specs.Prelude.{◌≡◌, ◌<◌, ◌++◌, IfOk, OnOk, length, slice_index_or};
+ghost use Rattle.flag_rules.specs.Relays.{ruled_relays};
+ghost use Rattle.flag_rules.specs.Rulings.{is_reject};
+ghost use Rattle.vote_maker.specs.Listings as listings;
+ghost use Rattle.vote_maker.specs.Private as walks;
+
+use crate::entry::made_entry;
+use descriptor_doc::EdCert;
+use dir_bytes::Memory;
+use flag_rules::{Flags, RelayFacts, Ruling};
+use key_port::Verifier;
+use relay_entries::KeySet;
+use std::alloc::Global;
+use vote_pool::{Pool, PoolEntry};
+use vote_terms::EntryFacts;
+
+/// Whether a relay is left out.
+fn is_rejected(ruling: Ruling) -> bool
+    ensures { result ≡ is_reject ruling }
+{
+    matches!(ruling, Ruling::Reject)
+}
+
+/// Whether a relay has an entry behind others, of which these are the keys; and puts its own key to them, unless it
+/// is rejected.
+///
+/// # Errors
+/// `Memory` is want of memory.
+fn note_relay(
+    keys: &mut KeySet,
+    ruling: Ruling,
+    certificate: &Option<EdCert>,
+) -> Result<bool, Memory>
+    ensures listed { IfOk result (λ listed. listed ≡ walks.is_listed keys.old ruling certificate.now) }
+    ensures keys { OnOk result (keys.new ≡ walks.keys_after keys.old ruling certificate.now) }
+{
+    if is_rejected(ruling) {
+        return Ok(false);
+    }
+    match certificate {
+        None => Ok(true),
+        Some(certificate) => Ok(keys.insert(certificate.signer)?),
+    }
+}
+
+/// The ruling of the relay at a place.
+fn ruling_at(rulings: &[Ruling], i: usize) -> Ruling
+    requires { i < length rulings.now }
+    ensures { result ≡ slice_index_or rulings.now i result }
+{
+    rulings[i]
+}
+
+/// What is known of the relay at a place.
+fn known_at(known: &[RelayFacts], i: usize) -> &RelayFacts
+    requires { i < length known.now }
+    ensures { result.now ≡ slice_index_or known.now i result.now }
+{
+    &known[i]
+}
+
+/// The flags of the relay at a place.
+fn flags_at(flags: &[Flags], i: usize) -> &Flags
+    requires { i < length flags.now }
+    ensures { result.now ≡ slice_index_or flags.now i result.now }
+{
+    &flags[i]
+}
+
+/// Appends the entry of a relay of which this is known, with these flags, if it has one.
+///
+/// # Errors
+/// `Memory` is want of memory.
+fn push_entry_if<V: Verifier>(
+    out: &mut Vec<EntryFacts>,
+    alloc: Global,
+    listed: bool,
+    entry: &PoolEntry<V>,
+    known: &RelayFacts,
+    flags: &Flags,
+) -> Result<(), Memory>
+    ensures { OnOk result (out.new.items ≡ out.old.items ++ walks.entry_if listed entry.now known.now flags.now) }
+{
+    if listed {
+        out.push(made_entry(alloc, entry, known, flags)?)?;
+    }
+    Ok(())
+}
+
+/// The entries of a pool's relays, of which this is known and ruled, with these flags. Flags stand for all of them,
+/// also for those that have no entry.
+///
+/// # Errors
+/// `Memory` is want of memory.
+pub(crate) fn entries_of<V: Verifier>(
+    alloc: Global,
+    pool: &Pool<V>,
+    known: &[RelayFacts],
+    rulings: &[Ruling],
+    flags: &[Flags],
+) -> Result<Vec<EntryFacts>, Memory>
+    requires { walks.AreAsMany pool.now.descriptors known.now rulings.now flags.now }
+    ensures { IfOk result (λ entries. entries.items ≡ listings.made_entries (listings.judged_relays pool.now.descriptors (ruled_relays known.now rulings.now) flags.now)) }
+{
+    let mut keys = KeySet::new(alloc);
+    let mut entries = Vec::with_capacity(alloc, pool.len())?;
+    'relays: for i in 0..pool.len() {
+        let entry = pool.entry(i);
+        let certificate = &entry.descriptor().identity_ed25519;
+        let listed = note_relay(&mut keys, ruling_at(rulings, i), certificate)?;
+        push_entry_if(
+            &mut entries,
+            alloc,
+            listed,
+            entry,
+            known_at(known, i),
+            flags_at(flags, i),
+        )?;
+    }
+    Ok(entries)
+}
