@@ -1,0 +1,201 @@
+-- What is kept of a station input names each relay once.
+use Rattle.std.proofs.Common.{◌≡◌, ◌⊎◌, ℕ, Bool, true, false, List, [], ◌∷◌, ◌++◌, Option, Some, None, Result, Ok}
+use Rattle.std.proofs.Common.{Err, refl}
+use Rattle.std.proofs.Common.{sym, ap, subst, ◌∙◌, inl, inr, map}
+use Rattle.std.specs.Prelude.{AllPairs, length, replicate, if◌then◌else◌}
+use Rattle.std.specs.List.{fold}
+use Rattle.std.proofs.lemmas.List.Elements.{All-from_recursion}
+use Rattle.dir_values.proofs.Orders.{AllPairs-cons, AllPairs-nil}
+use Rattle.dir_values.specs.Digests.{same_identity}
+use Rattle.flag_rules.specs.Rules.{AreApart}
+use Rattle.flag_rules.specs.declared.operator.OperatorRule.{OperatorRule}
+use Rattle.frame_terms.specs.Documents.{Document, document_of, finish, group}
+use Rattle.frame_terms.specs.Keywords.{same}
+use Rattle.frame_terms.specs.Order.{inner}
+use Rattle.frame_terms.specs.declared.fault.ReadRefusal.{ReadRefusal}
+use Rattle.frame_terms.specs.declared.keyword.Keyword.{Keyword}
+use Rattle.frame_terms.specs.declared.keyword.Keyword.TheVariants as the
+use Rattle.frame_values.specs.declared.values.Value.{Value}
+use Rattle.item_terms.specs.Items.{items_of}
+use Rattle.table_laws.specs.Order.{AreInOrder, sections_of}
+use Rattle.document_laws.specs.Documents.{AreParts}
+use Rattle.document_laws.specs.Parts.{AreOthers, IsPart}
+use Rattle.station_frame.specs.Tables.{station_tables}
+use Rattle.station_frame.specs.declared.across.Across.{Across}
+use Rattle.station_frame.specs.declared.frame.StationSection.{StationSection}
+use Rattle.station_frame.specs.declared.frame.StationSection.TheVariants as its
+use Rattle.station_frame.specs.declared.said.MeasuredRelay.{MeasuredRelay}
+use Rattle.station_frame.specs.declared.said.StationValue.{StationValue}
+use Rattle.station_input.specs.Facts.{facts_of}
+use Rattle.station_input.specs.Kept.{kept_with, none_kept}
+use Rattle.station_input.specs.Reading.{max_station, with_facts}
+use Rattle.station_input.specs.Saying.{measured_if, measured_in, onto_if, rule_if, rules_in}
+use Rattle.station_input.specs.declared.facts.StationFacts.{StationFacts}
+use Rattle.station_laws.specs.Once.{AreOfOthers, NamesOnce, RelaysAreNamedOnce}
+use Rattle.station_laws.proofs.NamedOnce.{AllDiffer, StationGroup, StationPart, StationTaken, lines_in, part_named}
+use Rattle.station_laws.proofs.StationNotes.{Naming, measured_name, rules_name}
+use Rattle.station_laws.proofs.StationTables.{stations_are_exact}
+
+-- ---- the sections of a station input
+
+-- What is read is the station's section, with the certificate inside it or none.
+pub record HasSections (document : Document StationSection (Value StationValue)) : Type 0 where
+  pub part : StationPart
+  pub next : Across
+  pub section : part.whole.section ≡ its.Station
+  pub is_part : IsPart station_tables station_tables.start part next
+  pub are : document.groups ≡ part.inside ++ part.whole ∷ []
+
+one_part : (parts : List StationPart) → map (λ (part : StationPart). part.whole.section) parts ≡ its.Station ∷ []
+    → (part : StationPart) × (parts ≡ part ∷ []) × (part.whole.section ≡ its.Station)
+one_part [] is = absurd (cc (is))
+one_part (part ∷ []) is = (part, refl, cc)
+one_part (part ∷ other ∷ parts) is = absurd (cc (is))
+
+names_are : (names : List StationSection) → AreInOrder station_tables (its.Station ∷ []) names
+    → names ≡ its.Station ∷ []
+names_are names is =
+    is.2 ∙ ap (λ (k : ℕ). replicate k its.Station ++ is.1) is.3
+    ∙ ap (λ (l : List StationSection). its.Station ∷ l) is.4
+
+pub sections_are : (bytes : List ℕ) (document : Document StationSection (Value StationValue))
+    → document_of station_tables (length bytes) (items_of max_station bytes) ≡ Ok document → HasSections document
+sections_are bytes document is =
+    let exact = (stations_are_exact.exact (length bytes) (items_of max_station bytes) document).0 is in
+    let names =
+    names_are (map (λ (part : StationPart). part.whole.section) exact.parts) exact.in_order in
+    let one = one_part exact.parts names in
+    let each = subst (AreParts station_tables station_tables.start) one.1 exact.each in
+    record {
+      part = one.0;
+      next = each.0;
+      section = one.2;
+      is_part = each.1;
+      are = exact.are ∙ ap (λ (l : List StationPart). sections_of l) one.1;
+    }
+
+abbrev certificate_if : Bool → Option StationSection
+certificate_if test = if test then Some its.Certificate else None
+
+-- only the certificate stands inside a station's section
+pub only_certificate : (keyword : Keyword) (name : StationSection)
+    → inner station_tables its.Station keyword ≡ Some name
+    → name ≡ its.Certificate
+only_certificate keyword name e = by (same the.DirKeyCertificateVersion keyword) e
+  where
+    by : (t : Bool) → certificate_if t ≡ Some name → name ≡ its.Certificate
+    by true found = cc
+    by false found = absurd (cc (found))
+
+-- the sections themselves: the station's, and before it the certificate's or none
+abbrev pub AreSections : List StationGroup → List StationTaken → Type 0
+AreSections groups others =
+    (groups ≡ group its.Station others ∷ [])
+    ⊎ ((taken : List StationTaken) × (groups ≡ group its.Certificate taken ∷ group its.Station others ∷ []))
+
+pub groups_are : (document : Document StationSection (Value StationValue)) (has : HasSections document)
+    → AreSections document.groups has.part.whole.taken
+groups_are document has = by has.part.inside has.section has.is_part.others
+  where
+    whole : StationGroup
+    whole = has.part.whole
+
+    named : has.part.whole.section ≡ its.Station → whole ≡ group its.Station whole.taken
+    named e = ap (λ (s : StationSection). group s whole.taken) e
+
+    by : (inside : List StationGroup) → has.part.whole.section ≡ its.Station
+        → AreOthers station_tables has.part.whole.section has.is_part.with_first has.is_part.items_between
+        has.part.inside has.is_part.between has.is_part.before_last
+        → AreSections document.groups has.part.whole.taken
+    by inside e (inl none) =
+        inl (has.are ∙ ap (λ (l : List StationGroup). l ++ whole ∷ []) none.0
+        ∙ ap (λ (g : StationGroup). g ∷ []) (named e))
+    by inside e (inr have) =
+        let opens : inner station_tables its.Station have.one.keyword ≡ Some have.whole.section =
+        subst (λ (s : StationSection). inner station_tables s have.one.keyword
+        ≡ Some have.whole.section) e have.is.opens in
+        let certificate = only_certificate have.one.keyword have.whole.section opens in
+        inr (
+          have.whole.taken,
+          has.are ∙ ap (λ (l : List StationGroup). l ++ whole ∷ []) have.only
+              ∙ ap (λ (s : StationSection). group s have.whole.taken ∷ whole ∷ []) certificate
+              ∙ ap (λ (g : StationGroup). group its.Certificate have.whole.taken ∷ g ∷ []) (named e),
+        )
+
+-- what a station is given of which these sections were read
+abbrev pub facts_in : List ℕ → List StationGroup → StationFacts
+facts_in bytes groups =
+    facts_of bytes (fold (λ kept (g : StationGroup). kept_with kept g.section g.taken) none_kept groups)
+
+-- ---- lines of a section
+
+rules_are : (taken : List StationTaken) → rules_in taken ≡ lines_in rules_name taken
+rules_are [] = refl
+rules_are (one ∷ taken) = ap (λ (l : List OperatorRule). onto_if (rule_if one.value) l) (rules_are taken)
+
+measured_are : (taken : List StationTaken) → measured_in taken ≡ lines_in measured_name taken
+measured_are [] = refl
+measured_are (one ∷ taken) = ap (λ (l : List MeasuredRelay). onto_if (measured_if one.value) l) (measured_are taken)
+
+module _ {R : Type 0} (naming : Naming R) where
+  abbrev IsOther : R → R → Type 0
+  IsOther earlier later = same_identity (naming.identity earlier) (naming.identity later) ≡ false
+
+  all_pairs : (list : List R) → AllDiffer naming list → AllPairs IsOther list
+  all_pairs [] differ = AllPairs-nil IsOther
+  all_pairs (r ∷ list) differ =
+      AllPairs-cons IsOther r list (All-from_recursion (IsOther r) list differ.0) (all_pairs list differ.1)
+
+-- the rules and the measured lines of a section
+record AreNamedOnce (taken : List StationTaken) : Type 0 where
+  rules : AreApart (rules_in taken)
+  measured : AreOfOthers (measured_in taken)
+
+named_in_section : (part : StationPart) (next : Across) → IsPart station_tables station_tables.start part next
+    → AreNamedOnce part.whole.taken
+named_in_section part next is =
+    let taken = part.whole.taken in
+    let rules = all_pairs rules_name (lines_in rules_name taken)
+    (part_named rules_name station_tables.start part next is).differ in
+    let measured =
+    all_pairs measured_name (lines_in measured_name taken)
+    (part_named measured_name station_tables.start part next is).differ in
+    record {
+      rules = subst (λ (l : List OperatorRule). AreApart l) (sym (rules_are taken)) rules;
+      measured = subst (λ (l : List MeasuredRelay). AreOfOthers l) (sym (measured_are taken)) measured;
+    }
+
+named_in : (bytes : List ℕ) (groups : List StationGroup) (taken : List StationTaken) → AreSections groups taken
+    → AreNamedOnce taken → NamesOnce (facts_in bytes groups)
+named_in bytes groups taken (inl are) once =
+    subst (λ (l : List StationGroup). NamesOnce (facts_in bytes l)) (sym are)
+    (record { rules = once.rules; measured = once.measured })
+named_in bytes groups taken (inr (certificate, are)) once =
+    subst (λ (l : List StationGroup). NamesOnce (facts_in bytes l)) (sym are)
+    (record { rules = once.rules; measured = once.measured })
+
+-- ---- the law
+
+abbrev facts_or : StationFacts → Result (StationFacts × ℕ) ReadRefusal → StationFacts
+facts_or other (Ok found) = found.0
+facts_or other (Err refusal) = other
+
+abbrev as_facts : StationFacts → ℕ → Result (StationFacts × ℕ) ReadRefusal
+as_facts facts used = Ok (facts, used)
+
+pub same_facts : (a b : StationFacts) (m n : ℕ) → as_facts a m ≡ as_facts b n → a ≡ b
+same_facts a b m n is = ap (facts_or a) is
+
+pub named_once : RelaysAreNamedOnce
+named_once bytes facts used is = by (document_of station_tables (length bytes) (items_of max_station bytes)) refl is
+  where
+    by : (read : Result (Document StationSection (Value StationValue)) ReadRefusal)
+        → document_of station_tables (length bytes) (items_of max_station bytes) ≡ read
+        → with_facts bytes (finish kept_with none_kept read) ≡ Ok (facts, used) → NamesOnce facts
+    by (Err refusal) e f = absurd (cc (f))
+    by (Ok document) e f =
+        let has = sections_are bytes document e in
+        subst (λ (f : StationFacts). NamesOnce f) (same_facts
+        (facts_in bytes document.groups) facts document.used used f)
+        (named_in bytes document.groups has.part.whole.taken (groups_are document has)
+        (named_in_section has.part has.next has.is_part))

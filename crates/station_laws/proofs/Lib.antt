@@ -1,0 +1,5 @@
+pub mod StationTables
+pub mod NewLines
+pub mod StationNotes
+pub mod NamedOnce
+pub mod KeptLines

@@ -1,0 +1,21 @@
+-- What a station is given names no relay twice in one kind of line.
+use Rattle.std.specs.Prelude.{◌≡◌, ℕ, false, List, AllPairs, Ok}
+use Rattle.dir_values.specs.Digests.{same_identity}
+use Rattle.flag_rules.specs.Rules.{AreApart}
+use Rattle.station_frame.specs.declared.said.MeasuredRelay.{MeasuredRelay}
+use Rattle.station_input.specs.declared.facts.StationFacts.{StationFacts}
+use Rattle.station_input.specs.Reading.{station_of}
+
+-- No two of these are of one relay.
+abbrev pub AreOfOthers : List MeasuredRelay → Type 0
+AreOfOthers relays = AllPairs (λ earlier later. same_identity earlier.identity later.identity ≡ false) relays
+
+-- Of what is read no two rules are for one relay, and no two measured lines of one.
+pub record NamesOnce (facts : StationFacts) : Type 0 where
+  pub rules : AreApart facts.rules
+  pub measured : AreOfOthers facts.measured
+
+-- All that is read is such.
+abbrev pub RelaysAreNamedOnce : Type 0
+RelaysAreNamedOnce = (bytes : List ℕ) (facts : StationFacts) (used : ℕ) → station_of bytes ≡ Ok (facts, used)
+    → NamesOnce facts
