@@ -1,0 +1,14 @@
+//! Signatures of a period that were checked: which lines of detached signatures an authority may hold (dir-spec, "Serving and
+//! fetching detached signatures").
+#![tactic(auto)]
+
+mod checking;
+mod over;
+mod report;
+mod signature;
+mod view;
+
+pub use checking::check_signatures;
+pub use report::{SigRefusal, SigReport};
+pub use signature::CheckedSig;
+pub use view::PeriodView;

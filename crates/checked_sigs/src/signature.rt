@@ -1,0 +1,129 @@
+// A signature that was checked.
+ghost use Rattle.std.specs.Prelude.{◌≡◌, ◌≤◌, IfOk, length, true};
+ghost use Rattle.key_port.specs.declared.verifier.KeyKind.TheVariants as kind;
+ghost use Rattle.period_terms.specs.Advances.{algorithm_of};
+ghost use Rattle.period_terms.specs.SignIns.{line_of};
+ghost use Rattle.checked_sigs.specs.Asking.{offer_of};
+
+use consensus_terms::{Flavour, SignatureLine};
+use dir_bytes::{Memory, Text};
+use dir_values::{Digest1, Fingerprint};
+use key_port::Verifier;
+use period_terms::ShortBytes;
+use std::alloc::Global;
+use std::marker::{Model, PhantomData};
+
+/// A signature that a verifier may accept, by a key over a digest.
+#[derive(Drop)]
+pub struct CheckedSig<V: Verifier> {
+    line: SignatureLine,
+    key: Text,
+    flavour: Flavour,
+    valid_after: u64,
+    digest: ShortBytes,
+    verifier: PhantomData<V>,
+}
+
+impl<V: Verifier> Model for CheckedSig<V> {
+    ghost use Rattle.std.specs.Prelude.{◌≡◌, true};
+    ghost use Rattle.key_port.specs.declared.verifier.KeyKind.TheVariants as kind;
+    ghost use Rattle.period_terms.specs.Advances.{algorithm_of};
+    ghost use Rattle.period_terms.specs.declared.signature.OfferedSignature.{OfferedSignature};
+
+    ghost Value = { OfferedSignature };
+
+    ghost view = { λ s. record { authority = s.line.identity; key = s.key; key_digest = s.line.key_digest; flavour = s.flavour; valid_after = s.valid_after; digest = s.digest; signature = s.line.signature } };
+
+    ghost invariant = { λ s. (V.may_accept kind.Signing s.key s.digest s.line.signature ≡ true) × (s.line.algorithm ≡ algorithm_of s.flavour) };
+}
+
+/// A copy of a line.
+fn copy_of(alloc: Global, line: &SignatureLine) -> Result<SignatureLine, Memory>
+    ensures { IfOk result (λ copy. copy ≡ line.now) }
+{
+    Ok(SignatureLine {
+        algorithm: Text::copy_of(alloc, line.algorithm.as_bytes())?,
+        identity: line.identity,
+        key_digest: line.key_digest,
+        signature: Text::copy_of(alloc, line.signature.as_bytes())?,
+    })
+}
+
+impl<V: Verifier> CheckedSig<V> {
+    /// A signature over this digest of a flavour that the verifier may accept by this key.
+    ///
+    /// # Errors
+    /// `Memory` is want of memory.
+    pub(crate) fn of(
+        alloc: Global,
+        valid_after: u64,
+        flavour: Flavour,
+        digest: &[u8],
+        key: &[u8],
+        line: &SignatureLine,
+    ) -> Result<CheckedSig<V>, Memory>
+        requires short { length digest.now ≤ 52 }
+        requires algorithm { line.now.algorithm ≡ algorithm_of flavour }
+        requires accepted { V.may_accept kind.Signing key.now digest.now line.now.signature ≡ true }
+        ensures { IfOk result (λ sig. sig ≡ offer_of valid_after flavour digest.now key.now line.now) }
+    {
+        Ok(CheckedSig {
+            line: copy_of(alloc, line)?,
+            key: Text::copy_of(alloc, key)?,
+            flavour,
+            valid_after,
+            digest: ShortBytes::of(digest),
+            verifier: PhantomData,
+        })
+    }
+
+    /// Who signed.
+    pub fn authority(&self) -> Fingerprint
+        ensures { result ≡ self.now.authority }
+    {
+        self.line.identity
+    }
+
+    /// The key that it was checked with.
+    pub fn key(&self) -> &[u8]
+        ensures { result.now ≡ self.now.key }
+    {
+        self.key.as_bytes()
+    }
+
+    /// The digest of that key.
+    pub fn key_digest(&self) -> Digest1
+        ensures { result ≡ self.now.key_digest }
+    {
+        self.line.key_digest
+    }
+
+    /// The flavour of what was signed.
+    pub fn flavour(&self) -> Flavour
+        ensures { result ≡ self.now.flavour }
+    {
+        self.flavour
+    }
+
+    /// When the period begins that it is for.
+    pub fn valid_after(&self) -> u64
+        ensures { result ≡ self.now.valid_after }
+    {
+        self.valid_after
+    }
+
+    /// The digest that was signed.
+    pub fn digest(&self) -> &[u8]
+        ensures { result.now ≡ self.now.digest }
+    {
+        self.digest.as_bytes()
+    }
+
+    /// The line, and the digest that was signed.
+    pub fn into_parts(self) -> (SignatureLine, ShortBytes)
+        ensures line { result.0 ≡ line_of self }
+        ensures digest { result.1 ≡ self.digest }
+    {
+        (self.line, self.digest)
+    }
+}
