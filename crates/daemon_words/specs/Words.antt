@@ -58,7 +58,8 @@ kind_named word =
     else (if bytes_eq word (codes "consensus") then Some kind.Consensus
     else (if bytes_eq word (codes "descriptor") then Some kind.Descriptor
     else (if bytes_eq word (codes "micro") then Some kind.Micro
-    else None))))
+    else (if bytes_eq word (codes "detached") then Some kind.Detached
+    else None)))))
 
 -- the kind of document that stands among the values
 abbrev pub kind_in : List Row → Option Kind

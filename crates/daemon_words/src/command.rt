@@ -45,6 +45,8 @@ pub enum Kind {
     Descriptor,
     /// A microdescriptor.
     Micro,
+    /// Detached signatures.
+    Detached,
 }
 
 /// A command with its options.
@@ -105,6 +107,7 @@ fn kind_named(word: &str) -> Option<Kind>
         "consensus" => Some(Kind::Consensus),
         "descriptor" => Some(Kind::Descriptor),
         "micro" => Some(Kind::Micro),
+        "detached" => Some(Kind::Detached),
         _ => None,
     }
 }

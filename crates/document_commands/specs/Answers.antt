@@ -8,11 +8,12 @@ use Rattle.vote_text.specs.Texts.{vote_text}
 use Rattle.consensus_terms.specs.Signed.{signed}
 use Rattle.consensus_terms.specs.Texts.{facts_text}
 use Rattle.descriptor_text.specs.Texts.{descriptor_text}
+use Rattle.detached_doc.specs.Texts.{detached_text}
 use Rattle.micro_desc.specs.Texts.{micro_text}
 use Rattle.daemon_words.specs.declared.command.Kind.{Kind}
 use Rattle.exit_status.specs.declared.status.Refusal.{Refusal}
 use Rattle.exit_status.specs.declared.status.Refusal.TheVariants as refusal
-use Rattle.document_commands.specs.Documents.{Document, cert, consensus, descriptor, document_of, micro, vote}
+use Rattle.document_commands.specs.Documents.{Document, cert, consensus, descriptor, detached, document_of, micro, vote}
 
 -- A document was read, and the text is that of it.
 pub record Tells {D : Type 0} (text_of : D → List ℕ) (read : Result D ReadRefusal) (text : List ℕ) : Type 0 where
@@ -37,6 +38,7 @@ canonical_text (cert read) = cert_text read
 canonical_text (consensus read) = signed (facts_text read) read.signatures
 canonical_text (descriptor read) = descriptor_text read
 canonical_text (micro read) = micro_text read
+canonical_text (detached read) = detached_text read
 
 -- what `check` answers
 abbrev pub CheckAnswers : Kind → List ℕ → Result (List ℕ) Refusal → Type 0

@@ -11,6 +11,8 @@ use Rattle.consensus_terms.specs.declared.consensus.SignedConsensus.{SignedConse
 use Rattle.consensus_doc.specs.Reading.{consensus_of}
 use Rattle.descriptor_doc.specs.declared.descriptor.Descriptor.{Descriptor}
 use Rattle.descriptor_doc.specs.Reading.{descriptor_of}
+use Rattle.detached_doc.specs.declared.detached.Detached.{Detached}
+use Rattle.detached_doc.specs.Reading.{detached_of}
 use Rattle.micro_desc.specs.declared.micro.Micro.{Micro}
 use Rattle.daemon_words.specs.declared.command.Kind.{Kind}
 use Rattle.daemon_words.specs.declared.command.Kind.TheVariants as kind
@@ -24,6 +26,7 @@ pub data Document : Type 0 where
   consensus : SignedConsensus → Document
   descriptor : Descriptor → Document
   micro : Micro → Document
+  detached : Detached → Document
 
 -- what was read, unless another line stands at a place behind it: that line is out of order
 abbrev pub unless_more : {X : Type 0} → X → Option ℕ → Result X ReadRefusal
@@ -47,3 +50,4 @@ document_of kind.Cert bytes = as_document cert (whole bytes (cert_of bytes))
 document_of kind.Consensus bytes = as_document consensus (whole bytes (consensus_of bytes))
 document_of kind.Descriptor bytes = as_document descriptor (whole bytes (descriptor_of bytes))
 document_of kind.Micro bytes = as_document micro (whole bytes (first_micro bytes))
+document_of kind.Detached bytes = as_document detached (whole bytes (detached_of bytes))

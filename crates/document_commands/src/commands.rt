@@ -9,6 +9,7 @@ use bytes::Bytes;
 use consensus_doc::SignedConsensus;
 use daemon_words::Kind;
 use descriptor_doc::Descriptor;
+use detached_doc::Detached;
 use exit_status::Stop;
 use micro_desc::Micro;
 use std::alloc::Global;
@@ -25,6 +26,7 @@ pub fn check(alloc: Global, kind: Kind, bytes: &Bytes) -> Result<Vec<u8>, Stop>
         Kind::Consensus => check_one::<SignedConsensus>(alloc, kind, bytes),
         Kind::Descriptor => check_one::<Descriptor>(alloc, kind, bytes),
         Kind::Micro => check_one::<Micro>(alloc, kind, bytes),
+        Kind::Detached => check_one::<Detached>(alloc, kind, bytes),
     }
 }
 
@@ -39,5 +41,6 @@ pub fn show(alloc: Global, kind: Kind, bytes: &Bytes) -> Result<Vec<u8>, Stop>
         Kind::Consensus => show_one::<SignedConsensus>(alloc, kind, bytes),
         Kind::Descriptor => show_one::<Descriptor>(alloc, kind, bytes),
         Kind::Micro => show_one::<Micro>(alloc, kind, bytes),
+        Kind::Detached => show_one::<Detached>(alloc, kind, bytes),
     }
 }

@@ -6,6 +6,7 @@ mod cert;
 mod commands;
 mod consensus;
 mod descriptor;
+mod detached;
 mod ends;
 mod micro;
 mod next_micro;

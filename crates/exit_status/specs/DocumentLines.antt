@@ -17,6 +17,7 @@ document_limit kind.Cert = codes "certificate 65536"
 document_limit kind.Consensus = codes "consensus 67108864"
 document_limit kind.Descriptor = codes "descriptor 65536"
 document_limit kind.Micro = codes "microdescriptor 65536"
+document_limit kind.Detached = codes "detached 1048576"
 
 -- what is wrong with a line or an object of a document of a kind; a limit with its number
 abbrev pub doc_text : Kind → DocReason → List ℕ

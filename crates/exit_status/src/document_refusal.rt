@@ -57,6 +57,7 @@ fn document_limit(kind: Kind) -> &'static [u8]
         Kind::Consensus => b"consensus 67108864",
         Kind::Descriptor => b"descriptor 65536",
         Kind::Micro => b"microdescriptor 65536",
+        Kind::Detached => b"detached 1048576",
     }
 }
 
