@@ -1,7 +1,7 @@
 -- A bandwidth file that was written is read again.
-use Rattle.std.proofs.Common.{◌≡◌, ℕ, Bool, true, false, List, [], ◌∷◌, ◌++◌, length, Option, Some, None}
+use Rattle.std.proofs.Common.{◌≡◌, ℕ, Bool, true, false, List, [], ◌∷◌, ◌++◌, length, Some, None}
 use Rattle.std.proofs.Common.{refl, sym, ap, ◌∙◌, subst, arith, append_assoc, append-nil, if◌then◌else◌}
-use Rattle.std.specs.Prelude.{◌<◌, ◌≤◌, ◌^◌, ◌==◌, ◌&&◌, ◌||◌, not, map, All, codes, decimal, is_none, slice_get}
+use Rattle.std.specs.Prelude.{◌<◌, ◌^◌, ◌==◌, ◌&&◌, not, map, codes, decimal, is_none, slice_get}
 use Rattle.std.specs.List.{filter, flat_map, list_all}
 use Rattle.std.specs.Option.{option_or}
 use Rattle.std.proofs.lemmas.Bool.{and_parts, false≢true, not-true}
@@ -21,11 +21,12 @@ use Rattle.bandwidth_file.specs.declared.refusal.BandReason.TheVariants as reaso
 use Rattle.bandwidth_file.specs.declared.said.Row.{Row}
 use Rattle.bandwidth_file.specs.declared.said.Said.TheVariants as said
 use Rattle.bandwidth_file.specs.declared.section.Section.TheVariants as section
-use Rattle.bandwidth_file.specs.Lines.{at, max_line, place_of}
-use Rattle.bandwidth_file.specs.Files.{IsBandFile, end_fault, first_fault, is_filled, time_said}
-use Rattle.bandwidth_file.specs.Relays.{bandwidth_in, last_bandwidth}
+use Rattle.bandwidth_file.specs.Lines.{at, place_of}
+use Rattle.bandwidth_file.specs.Files.{end_fault, is_filled, time_said}
+use Rattle.bandwidth_file.specs.Relays.{last_bandwidth}
 use Rattle.bandwidth_file.specs.Texts.{header_text, relay_text, text_of}
-use Rattle.bandwidth_laws.specs.Again.{FilesAreReadAgain, IsInRange, IsRelayInRange, StandsInHeader, is_line_byte, line_text}
+use Rattle.bandwidth_laws.specs.Again.{FilesAreReadAgain, IsInRange, IsRelayInRange, StandsInHeader, is_line_byte}
+use Rattle.bandwidth_laws.specs.Again.{line_text}
 use Rattle.bandwidth_laws.proofs.HeaderLines.{header_line_is, headers_say}
 use Rattle.bandwidth_laws.proofs.LastRows.{last_is}
 use Rattle.bandwidth_laws.proofs.RelayLines.{line_bytes, line_of, relay_bytes, relay_line_is, relays_say, row_of}
@@ -58,12 +59,13 @@ lines_are file is =
     one_line separator relays refl
     ∙ ap (λ (l : List ℕ). whole separator ∷ lines l) (sym (append-nil relays))
     ∙ ap (λ (l : List Line). whole separator ∷ l) (line_each relay_text line_of relay_line_is file.relays []
-    (All-weaker IsRelayInRange (λ relay. list_all is_line_byte (line_of relay) ≡ true) relay_bytes file.relays is.relays))
+    (All-weaker IsRelayInRange (λ relay. list_all is_line_byte (line_of relay) ≡ true) relay_bytes file.relays
+    is.relays))
     ∙ ap (λ (l : List Line). whole separator ∷ l) (append-nil (relay_lines file.relays)) in
     let next : lines rest ≡ header_lines file.headers ++ whole separator ∷ relay_lines file.relays =
     line_each header_text line_text header_line_is file.headers (codes "=====\n" ++ relays)
-    (All-weaker StandsInHeader (λ header. list_all is_line_byte (line_text header) ≡ true) (λ header stands. stands.bytes)
-    file.headers is.headers)
+    (All-weaker StandsInHeader (λ header. list_all is_line_byte (line_text header) ≡ true)
+    (λ header stands. stands.bytes) file.headers is.headers)
     ∙ ap (λ (l : List Line). header_lines file.headers ++ l) behind in
     ap lines
     (append_assoc ((time ++ 10 ∷ []) ++ headers) (codes "=====\n") relays
@@ -79,7 +81,8 @@ word_not_blank : (word : List ℕ) → is_argument word ≡ true → is_blank_li
 word_not_blank [] is = absurd (false≢true is)
 word_not_blank (b ∷ word) is =
     let first = (and_parts (is_argument_byte b) (list_all is_argument_byte word) is).0 in
-    ap (λ (t : Bool). t && list_all is_blank word) (not-true (is_blank b) (all_three (not (is_blank b)) (not (b == 10)) (not (b == 0)) first).0)
+    ap (λ (t : Bool). t && list_all is_blank word)
+    (not-true (is_blank b) (all_three (not (is_blank b)) (not (b == 10)) (not (b == 0)) first).0)
 
 says_time : (time : ℕ) → time < 2 ^ 64 → Says (whole (decimal time) ∷ []) section.Headers (time ∷ []) [] []
 says_time time fits =
@@ -95,10 +98,11 @@ all_say : (file : BandFile) → IsInRange file
 all_say file is =
     let first = whole (decimal file.timestamp) ∷ [] in
     let before = first ++ header_lines file.headers in
-    let headers = headers_say first (file.timestamp ∷ []) [] file.headers is.headers (says_time file.timestamp is.timestamp) in
-    let ended = says_one before separator said.Nothing section.Headers (file.timestamp ∷ []) file.headers [] section.Relays
-    (file.timestamp ∷ []) file.headers [] headers refl refl (let five : length separator ≡ 5 = refl in omega (arith, five)) refl refl refl refl
-    (append-nil file.headers) refl in
+    let times = file.timestamp ∷ [] in
+    let headers = headers_say first times [] file.headers is.headers (says_time file.timestamp is.timestamp) in
+    let five : length separator ≡ 5 = refl in
+    let ended = says_one before separator said.Nothing section.Headers times file.headers [] section.Relays times
+    file.headers [] headers refl refl (omega (arith, five)) refl refl refl refl (append-nil file.headers) refl in
     subst (λ (l : List Line). Says l section.Relays (file.timestamp ∷ []) file.headers (map row_of file.relays))
     (append_assoc before (whole separator ∷ []) (relay_lines file.relays)
     ∙ append_assoc first (header_lines file.headers) (whole separator ∷ relay_lines file.relays))
@@ -112,7 +116,8 @@ some_line : (time : ℕ) (more : List Line) → end_fault (whole (decimal time) 
 some_line time more =
     let place = place_of (whole (decimal time) ∷ more) in
     let rest = filter is_filled more in
-    ap (λ (b : Bool). if is_none (slice_get (if not b then whole (decimal time) ∷ rest else rest) 0) then Some (at place reason.Timestamp) else None)
+    ap (λ (b : Bool). if is_none (slice_get (if not b then whole (decimal time) ∷ rest else rest) 0)
+    then Some (at place reason.Timestamp) else None)
     (word_not_blank (decimal time) (word_of_number time))
 
 pub files_again : FilesAreReadAgain
@@ -120,7 +125,9 @@ files_again file is =
     let same = sym (lines_are file is) in
     let says = all_say file is in
     let more = header_lines file.headers ++ whole separator ∷ relay_lines file.relays in
-    let all = subst (λ (l : List Line). Says l section.Relays (file.timestamp ∷ []) file.headers (map row_of file.relays)) same says in
+    let all =
+    subst (λ (l : List Line). Says l section.Relays (file.timestamp ∷ []) file.headers (map row_of file.relays)) same
+    says in
     record {
       sound = ap (λ (l : List BandFault). option_or (slice_get l 0) (end_fault (lines (text_of file)))) all.sound
           ∙ ap end_fault (sym same) ∙ some_line file.timestamp more;

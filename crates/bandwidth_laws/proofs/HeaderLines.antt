@@ -1,9 +1,8 @@
 -- Header lines that were written.
 use Rattle.std.proofs.Common.{◌≡◌, ℕ, Bool, true, false, List, [], ◌∷◌, ◌++◌, refl, sym, ap, ap₂, ◌∙◌}
 use Rattle.std.proofs.Common.{append_assoc, append-nil, subst, if◌then◌else◌}
-use Rattle.std.specs.Prelude.{map, All, ◌==◌, ◌&&◌, ◌||◌, codes, length}
-use Rattle.std.specs.List.{list_all, list_any, before_first, after_first}
-use Rattle.std.specs.Str.{bytes_eq}
+use Rattle.std.specs.Prelude.{map, All, ◌==◌, ◌&&◌, ◌||◌}
+use Rattle.std.specs.List.{list_any}
 use Rattle.std.proofs.lemmas.Bool.{false≢true}
 use Rattle.std.proofs.lemmas.List.Elements.{All-cons, All-head, All-nil, All-tail}
 use Rattle.item_terms.specs.Lines.{Line}
@@ -11,13 +10,11 @@ use Rattle.item_terms.specs.Words.{is_blank, is_blank_line}
 use Rattle.list_laws.proofs.Marks.{behind_again, front_again, mark_is_there}
 use Rattle.bandwidth_file.specs.declared.file.Header.{Header}
 use Rattle.bandwidth_file.specs.declared.refusal.BandReason.TheVariants as reason
-use Rattle.bandwidth_file.specs.declared.said.Row.{Row}
 use Rattle.bandwidth_file.specs.declared.said.Said.TheVariants as said
-use Rattle.bandwidth_file.specs.declared.section.Section.{Section}
 use Rattle.bandwidth_file.specs.declared.section.Section.TheVariants as section
 use Rattle.bandwidth_file.specs.Lines.{at, place_of}
 use Rattle.bandwidth_file.specs.Relays.{relay_line}
-use Rattle.bandwidth_file.specs.Files.{ends_header, filled_line, header_of, header_said, is_separator, names_relay}
+use Rattle.bandwidth_file.specs.Files.{filled_line, header_of, header_said, is_separator, names_relay}
 use Rattle.bandwidth_file.specs.Texts.{header_text}
 use Rattle.bandwidth_laws.specs.Again.{StandsInHeader, line_text}
 use Rattle.bandwidth_laws.proofs.Saying.{Says, says_one, whole}
@@ -63,13 +60,15 @@ says_header : (header : Header) (place : ℕ) → StandsInHeader header
 says_header header place stands =
     let text = line_text header in
     let none = neither (is_separator text) (names_relay text) stands.goes_on in
-    ap₂ (λ (a b : Bool). if a then said.Nothing else if b then relay_line place text else header_said place text) none.0 none.1
+    ap₂ (λ (a b : Bool). if a then said.Nothing else if b then relay_line place text else header_said place text)
+    none.0 none.1
     ∙ ap (λ (t : Bool). if t then said.Header else said.Wrong (at place reason.Header))
     (mark_is_there 61 header.key header.value)
 
 -- header lines say their headers
 pub headers_say : (before : List Line) (t : List ℕ) (h more : List Header) → All StandsInHeader more
-    → Says before section.Headers t h [] → Says (before ++ map (λ header. whole (line_text header)) more) section.Headers t (h ++ more) []
+    → Says before section.Headers t h []
+    → Says (before ++ map (λ header. whole (line_text header)) more) section.Headers t (h ++ more) []
 headers_say before t h [] each says =
     subst (λ (l : List Line). Says l section.Headers t (h ++ []) []) (sym (append-nil before))
     (subst (λ (l : List Header). Says before section.Headers t l []) (sym (append-nil h)) says)
@@ -82,7 +81,8 @@ headers_say before t h (header ∷ more) each says =
     (ap (λ (b : Bool). if b then section.Relays else section.Headers) stands.goes_on) (append-nil t)
     (ap (λ (x : Header). h ++ x ∷ []) (header_again header stands)) refl in
     let lines = map (λ other. whole (line_text other)) more in
-    subst (λ (l : List Line). Says l section.Headers t (h ++ header ∷ more) []) (append_assoc before (whole text ∷ []) lines)
+    subst (λ (l : List Line). Says l section.Headers t (h ++ header ∷ more) [])
+    (append_assoc before (whole text ∷ []) lines)
     (subst (λ (l : List Header). Says ((before ++ whole text ∷ []) ++ lines) section.Headers t l [])
     (append_assoc h (header ∷ []) more)
     (headers_say (before ++ whole text ∷ []) t here more (All-tail StandsInHeader header more each) one))

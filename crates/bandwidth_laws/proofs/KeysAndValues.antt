@@ -1,5 +1,6 @@
 -- Keys and values are headers.
-use Rattle.std.proofs.Common.{◌≡◌, ℕ, ◌+◌, Bool, true, false, List, [], ◌∷◌, ◌++◌, length, take, drop, Option, Some, None}
+use Rattle.std.proofs.Common.{◌≡◌, ℕ, ◌+◌, Bool, true, false, List, [], ◌∷◌, ◌++◌, length, take, drop}
+use Rattle.std.proofs.Common.{Option, Some, None}
 use Rattle.std.proofs.Common.{refl, sym, ap, ap₂, ◌∙◌, arith, if◌then◌else◌}
 use Rattle.std.specs.Prelude.{◌<◌, ◌==◌, ◌&&◌, ◌||◌, codes, is_some, nat_eq}
 use Rattle.std.specs.List.{list_all, list_any}
@@ -51,14 +52,16 @@ no_relay header is = by (pointwise nat_eq (take 8 (line_text header)) node_id) r
     by false there = refl
 
 -- nor with a `=`
-no_separator : (key value : List ℕ) → 0 < length key → list_any is_equals key ≡ false → is_separator (key ++ 61 ∷ value) ≡ false
+no_separator : (key value : List ℕ) → 0 < length key → list_any is_equals key ≡ false
+    → is_separator (key ++ 61 ∷ value) ≡ false
 no_separator [] value some none = absurd (omega arith)
 no_separator (b ∷ key) value some none =
     let rest = key ++ 61 ∷ value in
     ap (λ (t : Bool). (t && bytes_eq rest (codes "====")) || (t && bytes_eq rest (codes "===")))
     (neither (b == 61) (list_any is_equals key) none).0
 
-word_is : (key value : List ℕ) → list_all is_argument_byte (key ++ 61 ∷ value) ≡ true → is_argument (key ++ 61 ∷ value) ≡ true
+word_is : (key value : List ℕ) → list_all is_argument_byte (key ++ 61 ∷ value) ≡ true
+    → is_argument (key ++ 61 ∷ value) ≡ true
 word_is [] value all = all
 word_is (b ∷ key) value all = all
 

@@ -1,15 +1,12 @@
 -- Of identities that ascend each has one row.
-use Rattle.std.proofs.Common.{◌≡◌, ℕ, Bool, true, false, cond, List, [], ◌∷◌, ◌++◌, Option, Some, None, refl, sym, ap, ap₂, ◌∙◌}
+use Rattle.std.proofs.Common.{◌≡◌, ℕ, Bool, true, false, cond, List, [], ◌∷◌, Option, Some, None, refl, sym, ap, ◌∙◌}
 use Rattle.std.proofs.Common.{reverse, subst, if◌then◌else◌}
 use Rattle.std.specs.Prelude.{map}
 use Rattle.std.specs.List.{find}
-use Rattle.std.specs.List.Sorted.{IsStrictlySortedBy}
-use Rattle.std.specs.Map.{keys_of, lookup}
+use Rattle.std.specs.Map.{keys_of}
 use Rattle.std.specs.Option.{option_map, option_or}
-use Rattle.std.specs.Ordering.{is_eq, nat_cmp}
-use Rattle.std.specs.declared.cmp.Ordering.{Ordering}
+use Rattle.std.specs.Ordering.{is_eq}
 use Rattle.std.specs.declared.cmp.Ordering.TheVariants.{Less}
-use Rattle.std.specs.Cmp.Lexicographic.{slice_cmp}
 use Rattle.std.specs.Str.{bytes_eq}
 use Rattle.std.proofs.lemmas.List.{reverse-append}
 use Rattle.std.proofs.lemmas.List.Elements.{All-head, All-tail}
@@ -30,14 +27,16 @@ abbrev band : Option Row → Option ℕ
 band found = option_map (λ (row : Row). row.bandwidth) found
 
 either : (found : Option Row) (same : Bool) (row : Row)
-    → band (option_or found (cond same (Some row) None)) ≡ option_or (band found) (if same then Some row.bandwidth else None)
+    → band (option_or found (cond same (Some row) None))
+    ≡ option_or (band found) (if same then Some row.bandwidth else None)
 either (Some other) same row = refl
 either None true row = refl
 either None false row = refl
 
 -- the last bandwidth, with one row more in front
 last_with_first : (row : Row) (rows : List Row) (identity : Fingerprint) → last_bandwidth (row ∷ rows) identity
-    ≡ option_or (last_bandwidth rows identity) (if same_identity row.identity identity then Some row.bandwidth else None)
+    ≡ option_or (last_bandwidth rows identity)
+    (if same_identity row.identity identity then Some row.bandwidth else None)
 last_with_first row rows identity =
     let test = λ (other : Row). same_identity other.identity identity in
     ap (λ (l : List Row). band (find test l)) (reverse-append (row ∷ []) rows)
@@ -52,7 +51,8 @@ other_one key other identity less same =
     (sym (ties_as_one other.0 key.0) ∙ ap is_eq less)
 
 none_later : (key identity : Fingerprint) (relays : List (Fingerprint × ℕ))
-    → All (λ other. identity_order key other ≡ Less) (keys_of relays) → key.0 ≡ identity.0 → bandwidth_in relays identity ≡ None
+    → All (λ other. identity_order key other ≡ Less) (keys_of relays) → key.0 ≡ identity.0
+    → bandwidth_in relays identity ≡ None
 none_later key identity [] later same = refl
 none_later key identity (relay ∷ relays) later same =
     let Above = λ (other : Fingerprint). identity_order key other ≡ Less in

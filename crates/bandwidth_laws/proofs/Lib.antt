@@ -5,3 +5,4 @@ pub mod RelayLines
 pub mod LastRows
 pub mod Again
 pub mod KeysAndValues
+pub mod OneFile

@@ -1,6 +1,7 @@
 -- Relay lines that were written.
 use Rattle.std.proofs.Common.{◌≡◌, ℕ, ◌+◌, Bool, true, false, List, [], ◌∷◌, ◌++◌, length, Option, Some, None}
-use Rattle.std.proofs.Common.{refl, sym, ap, ap₂, ◌∙◌, subst, arith, append_assoc, append-nil, length-append, if◌then◌else◌}
+use Rattle.std.proofs.Common.{refl, sym, ap, ap₂, ◌∙◌, subst, arith, append_assoc, append-nil, length-append}
+use Rattle.std.proofs.Common.{if◌then◌else◌}
 use Rattle.std.specs.Prelude.{◌<◌, ◌≤◌, ◌==◌, ◌&&◌, not, map, All, codes, decimal, is_none}
 use Rattle.std.specs.List.{cons_option, list_all}
 use Rattle.std.proofs.lemmas.Bool.{and_from, ne_eqb}
@@ -8,7 +9,7 @@ use Rattle.std.proofs.lemmas.Fmt.{length-decimal-le}
 use Rattle.std.proofs.lemmas.List.Elements.{All-head, All-tail}
 use Rattle.std.proofs.lemmas.List.Folds.{list_all-append}
 use Rattle.item_terms.specs.Lines.{Line}
-use Rattle.item_terms.specs.Words.{is_blank, is_blank_line}
+use Rattle.item_terms.specs.Words.{is_blank}
 use Rattle.dir_bytes.proofs.ReadAgain.{number-decimal}
 use Rattle.dir_bytes.proofs.Spelling.{length-hex_text}
 use Rattle.dir_bytes.specs.FieldTexts.{hex_text}
@@ -26,7 +27,7 @@ use Rattle.bandwidth_file.specs.declared.said.Said.TheVariants as said
 use Rattle.bandwidth_file.specs.declared.section.Section.TheVariants as section
 use Rattle.bandwidth_file.specs.Gathered.{gathered_behind}
 use Rattle.bandwidth_file.specs.Lines.{at, bw, last_of, max_line, node_id, place_of, vote}
-use Rattle.bandwidth_file.specs.Relays.{identity_in, last_bandwidth, new_row, number_of_identities, relay_line, relay_said, row_said}
+use Rattle.bandwidth_file.specs.Relays.{last_bandwidth, new_row, number_of_identities, relay_line, relay_said, row_said}
 use Rattle.bandwidth_file.specs.Files.{many_fault, max_relays}
 use Rattle.bandwidth_file.specs.Texts.{relay_text}
 use Rattle.bandwidth_laws.specs.Again.{IsRelayInRange, is_line_byte}
@@ -60,7 +61,8 @@ node_is_word relay is =
     (bytes_of (hex_text relay.0.0) (word_of_identity relay.0.0 is.identity.count is.identity.each))
 
 band_is_word : (relay : Fingerprint × ℕ) → is_argument (band_word relay) ≡ true
-band_is_word relay = both_dark (codes "bw=") (decimal relay.1) refl (bytes_of (decimal relay.1) (word_of_number relay.1))
+band_is_word relay =
+    both_dark (codes "bw=") (decimal relay.1) refl (bytes_of (decimal relay.1) (word_of_number relay.1))
 
 -- the items of the line
 items_of : (relay : Fingerprint × ℕ) (place : ℕ) → IsRelayInRange relay → arguments_at place (line_of relay)
@@ -68,12 +70,14 @@ items_of : (relay : Fingerprint × ℕ) (place : ℕ) → IsRelayInRange relay �
     ∷ record { place = place + length (node_word relay) + 1; text = band_word relay } ∷ []
 items_of relay place is =
     let next = place + length (node_word relay) + 1 in
-    ap (arguments_at place) (in_words relay) ∙ arguments_of_more place (node_word relay) (band_word relay) (node_is_word relay is)
+    ap (arguments_at place) (in_words relay)
+    ∙ arguments_of_more place (node_word relay) (band_word relay) (node_is_word relay is)
     ∙ ap (λ (l : List Argument). record { place = place; text = node_word relay } ∷ l)
     (arguments_of_word next (band_word relay) (band_is_word relay))
 
 -- the line says the row
-says_row : (relay : Fingerprint × ℕ) (place : ℕ) → IsRelayInRange relay → relay_line place (line_of relay) ≡ said.Relay (row_of relay)
+says_row : (relay : Fingerprint × ℕ) (place : ℕ) → IsRelayInRange relay
+    → relay_line place (line_of relay) ≡ said.Relay (row_of relay)
 says_row relay place is =
     let node : Argument = record { place = place + 8; text = 36 ∷ hex_text relay.0.0 } in
     let band : Argument = record { place = place + length (node_word relay) + 1 + 3; text = decimal relay.1 } in
@@ -99,7 +103,8 @@ relay_bytes relay is =
 
 relay_size : (relay : Fingerprint × ℕ) → IsRelayInRange relay → length (line_of relay) < max_line
 relay_size relay is =
-    let digits = length-decimal-le 10 relay.1 (omega arith) (omega (arith, is.bandwidth)) (omega (arith, is.bandwidth)) in
+    let digits =
+    length-decimal-le 10 relay.1 (omega arith) (omega (arith, is.bandwidth)) (omega (arith, is.bandwidth)) in
     let hex = length-hex_text relay.0.0 in
     let both = length-append (node_word relay) (32 ∷ band_word relay) in
     let same = ap (λ (l : List ℕ). length l) (in_words relay) in
@@ -109,11 +114,13 @@ relay_size relay is =
 
 -- ---- how many there are
 
-longer : {B : Type 0} (first : Option B) (rest : List B) (n : ℕ) → length rest ≤ n → length (cons_option first rest) ≤ n + 1
+longer : {B : Type 0} (first : Option B) (rest : List B) (n : ℕ) → length rest ≤ n
+    → length (cons_option first rest) ≤ n + 1
 longer None rest n le = omega (arith, le)
 longer (Some x) rest n le = omega (arith, le)
 
-not_more : (says : List Row → Row → Option Row) (before rows : List Row) → length (gathered_behind says before rows) ≤ length rows
+not_more : (says : List Row → Row → Option Row) (before rows : List Row)
+    → length (gathered_behind says before rows) ≤ length rows
 not_more says before [] = omega arith
 not_more says before (row ∷ rows) =
     let rest = gathered_behind says (before ++ row ∷ []) rows in
@@ -126,8 +133,9 @@ may_follow rows row place few =
     let count : number_of_identities rows ≤ length rows = not_more new_row [] rows in
     let other : (number_of_identities rows == max_relays) ≡ false =
     ne_eqb (number_of_identities rows) max_relays (λ e. omega (arith, few, count, e)) in
-    ap (λ (b : Bool). if is_none (last_bandwidth rows row.identity) && b then Some (at place reason.TooMany) else None) other
-    ∙ elim (is_none (last_bandwidth rows row.identity)) as (λ b. (if b && false then Some (at place reason.TooMany) else None) ≡ None) [
+    let new = is_none (last_bandwidth rows row.identity) in
+    ap (λ (b : Bool). if new && b then Some (at place reason.TooMany) else None) other
+    ∙ elim new as (λ b. (if b && false then Some (at place reason.TooMany) else None) ≡ None) [
       | true ↦ refl
       | false ↦ refl
     ]
@@ -148,7 +156,8 @@ relays_say before t h r (relay ∷ more) each few says =
     (may_follow r row (place_of before) (omega (arith, few))) refl (append-nil t) (append-nil h) refl in
     let lines = map (λ other. whole (line_of other)) more in
     let long = length-append r (row ∷ []) in
-    subst (λ (l : List Line). Says l section.Relays t h (r ++ row ∷ map row_of more)) (append_assoc before (whole text ∷ []) lines)
+    subst (λ (l : List Line). Says l section.Relays t h (r ++ row ∷ map row_of more))
+    (append_assoc before (whole text ∷ []) lines)
     (subst (λ (l : List Row). Says ((before ++ whole text ∷ []) ++ lines) section.Relays t h l)
     (append_assoc r (row ∷ []) (map row_of more))
     (relays_say (before ++ whole text ∷ []) t h (r ++ row ∷ []) more (All-tail IsRelayInRange relay more each)

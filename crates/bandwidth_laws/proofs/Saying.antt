@@ -1,11 +1,11 @@
 -- What some lines say together, and one more line.
 use Rattle.std.proofs.Common.{◌≡◌, ℕ, ◌+◌, Bool, true, false, List, [], ◌∷◌, ◌++◌, length, Option, Some, None}
-use Rattle.std.proofs.Common.{option_to_list, refl, sym, ap, ap₂, ◌∙◌, arith, if◌then◌else◌}
-use Rattle.std.specs.Prelude.{◌<◌, ◌≤◌, nat_lt, not, ◌==◌, ◌&&◌}
+use Rattle.std.proofs.Common.{option_to_list, refl, ap, ap₂, ◌∙◌, arith, if◌then◌else◌}
+use Rattle.std.specs.Prelude.{◌<◌, nat_lt, not, ◌==◌}
 use Rattle.std.specs.List.{list_all, prefix_len}
 use Rattle.std.specs.Option.{option_map, option_or}
 use Rattle.std.proofs.lemmas.Bool.{and_parts, le-ltb}
-use Rattle.item_terms.specs.Lines.{Line, size}
+use Rattle.item_terms.specs.Lines.{Line}
 use Rattle.item_terms.specs.Words.{is_blank_line, nul_in}
 use Rattle.bandwidth_file.specs.declared.file.Header.{Header}
 use Rattle.bandwidth_file.specs.declared.refusal.BandFault.{BandFault}
@@ -14,8 +14,9 @@ use Rattle.bandwidth_file.specs.declared.said.Row.{Row}
 use Rattle.bandwidth_file.specs.declared.said.Said.{Said}
 use Rattle.bandwidth_file.specs.declared.said.Said.TheVariants as said
 use Rattle.bandwidth_file.specs.declared.section.Section.{Section}
-use Rattle.bandwidth_file.specs.Lines.{at, line_fault, max_line, place_of, too_long, unterminated}
-use Rattle.bandwidth_file.specs.Files.{fault_in, fault_of, faults_of, filled_line, header_in, headers_of, row_in, rows_of}
+use Rattle.bandwidth_file.specs.Lines.{at, line_fault, max_line, place_of, too_long}
+use Rattle.bandwidth_file.specs.Files.{fault_in, fault_of, faults_of, filled_line, header_in, headers_of}
+use Rattle.bandwidth_file.specs.Files.{row_in, rows_of}
 use Rattle.bandwidth_file.specs.Files.{said_by, said_if, section_of, time_in, times_of}
 use Rattle.bandwidth_file.specs.Lending.{next_section}
 use Rattle.bandwidth_file.proofs.Gathering.{gathered_one}
@@ -55,11 +56,13 @@ sound_line place text all within =
     let none : nul_in text ≡ None =
     ap (λ (n : ℕ). if nat_lt n (length text) then Some n else None) (no_nul text all)
     ∙ ap (λ (b : Bool). if b then Some (length text) else None) (le-ltb (length text) (length text) (omega arith)) in
-    ap₂ (λ (long : Option BandFault) (o : Option ℕ). option_or long (option_map (λ offset. at (place + offset) Nul) o)) short none
+    ap₂ (λ (long : Option BandFault) (o : Option ℕ). option_or long (option_map (λ offset. at (place + offset) Nul) o))
+    short none
 
 -- ---- one more line
 
-module _ (before : List Line) (text : List ℕ) (what : Said) (s : Section) (t : List ℕ) (h : List Header) (r : List Row) where
+module _ (before : List Line) (text : List ℕ) (what : Said) (s : Section) (t : List ℕ)
+    (h : List Header) (r : List Row) where
   line_says : Says before s t h r → is_blank_line text ≡ false → line_fault (place_of before) (whole text) ≡ None
       → filled_line s (place_of before) text ≡ what → said_by before (whole text) ≡ what
   line_says says filled sound is =
@@ -70,7 +73,8 @@ module _ (before : List Line) (text : List ℕ) (what : Said) (s : Section) (t :
 
   pub says_one : (s' : Section) (t' : List ℕ) (h' : List Header) (r' : List Row) → Says before s t h r
       → is_blank_line text ≡ false → list_all is_line_byte text ≡ true → length text < max_line
-      → filled_line s (place_of before) text ≡ what → fault_in r (place_of before) what ≡ None → next_section s text ≡ s'
+      → filled_line s (place_of before) text ≡ what → fault_in r (place_of before) what ≡ None
+      → next_section s text ≡ s'
       → t ++ option_to_list (time_in what) ≡ t' → h ++ option_to_list (header_in text what) ≡ h'
       → r ++ option_to_list (row_in what) ≡ r' → Says (before ++ whole text ∷ []) s' t' h' r'
   says_one s' t' h' r' says filled bytes within is right next times headers rows =
@@ -86,7 +90,8 @@ module _ (before : List Line) (text : List ℕ) (what : Said) (s : Section) (t :
         times = gathered_one (λ b l. time_in (said_by b l)) before line
             ∙ ap₂ (λ (l : List ℕ) (w : Said). l ++ option_to_list (time_in w)) says.times what_is ∙ times;
         headers = gathered_one (λ b l. header_in l.text (said_by b l)) before line
-            ∙ ap₂ (λ (l : List Header) (w : Said). l ++ option_to_list (header_in text w)) says.headers what_is ∙ headers;
+            ∙ ap₂ (λ (l : List Header) (w : Said). l ++ option_to_list (header_in text w)) says.headers what_is
+            ∙ headers;
         rows = gathered_one (λ b l. row_in (said_by b l)) before line
             ∙ ap₂ (λ (l : List Row) (w : Said). l ++ option_to_list (row_in w)) says.rows what_is ∙ rows;
       }

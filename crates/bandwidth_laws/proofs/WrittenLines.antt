@@ -1,6 +1,6 @@
 -- The lines of a written text.
-use Rattle.std.proofs.Common.{◌≡◌, ℕ, Bool, true, false, List, [], ◌∷◌, ◌++◌, refl, sym, ap, ◌∙◌, append_assoc}
-use Rattle.std.specs.Prelude.{map, All, not, ◌==◌, codes, decimal, if◌then◌else◌}
+use Rattle.std.proofs.Common.{◌≡◌, ℕ, Bool, true, false, List, [], ◌∷◌, ◌++◌, refl, ap, ◌∙◌, append_assoc}
+use Rattle.std.specs.Prelude.{map, All, not, ◌==◌, if◌then◌else◌}
 use Rattle.std.specs.List.{list_all, flat_map}
 use Rattle.std.proofs.lemmas.Bool.{and_parts, not-true}
 use Rattle.std.proofs.lemmas.List.Elements.{All-head, All-tail}
@@ -9,7 +9,8 @@ use Rattle.bandwidth_laws.specs.Again.{is_line_byte}
 use Rattle.bandwidth_laws.proofs.Saying.{whole}
 
 -- a line, and then others
-pub one_line : (text rest : List ℕ) → list_all is_line_byte text ≡ true → lines (text ++ 10 ∷ rest) ≡ whole text ∷ lines rest
+pub one_line : (text rest : List ℕ) → list_all is_line_byte text ≡ true
+    → lines (text ++ 10 ∷ rest) ≡ whole text ∷ lines rest
 one_line [] rest all = refl
 one_line (b ∷ text) rest all =
     let parts = and_parts (is_line_byte b) (list_all is_line_byte text) all in
@@ -17,7 +18,8 @@ one_line (b ∷ text) rest all =
     ap (λ (t : Bool). if t then whole [] ∷ lines (text ++ 10 ∷ rest) else onto b (lines (text ++ 10 ∷ rest))) other
     ∙ ap (onto b) (one_line text rest parts.1)
 
-module _ {X : Type 0} (text_of : X → List ℕ) (line_of : X → List ℕ) (is : (x : X) → text_of x ≡ line_of x ++ 10 ∷ []) where
+module _ {X : Type 0} (text_of : X → List ℕ) (line_of : X → List ℕ)
+    (is : (x : X) → text_of x ≡ line_of x ++ 10 ∷ []) where
   abbrev Stands : X → Type 0
   Stands x = list_all is_line_byte (line_of x) ≡ true
 

@@ -1,5 +1,5 @@
 -- A bandwidth file that was written is read again ("Bandwidth File Format").
-use Rattle.std.specs.Prelude.{◌≡◌, ℕ, ◌+◌, ◌<◌, ◌≤◌, ◌^◌, ◌==◌, ◌&&◌, not, Bool, true, false, List, [], ◌∷◌, ◌++◌}
+use Rattle.std.specs.Prelude.{◌≡◌, ℕ, ◌+◌, ◌<◌, ◌≤◌, ◌^◌, ◌==◌, ◌&&◌, not, Bool, true, false, List, ◌∷◌, ◌++◌}
 use Rattle.std.specs.Prelude.{length, All, codes}
 use Rattle.std.specs.List.{list_all, list_any}
 use Rattle.item_terms.specs.Bytes.{line_feed, nul}
@@ -25,8 +25,8 @@ is_line_byte byte = not (byte == line_feed) && not (byte == nul)
 abbrev pub line_text : Header → List ℕ
 line_text header = header.key ++ equals ∷ header.value
 
--- The header is what its line says: the key has no `=`, and the line has no NL and no NUL, is not too long, and is none with which
--- the header ends.
+-- The header is what its line says: the key has no `=`, and the line has no NL and no NUL, is not too long, and is none
+-- with which the header ends.
 pub record StandsInHeader (header : Header) : Type 0 where
   pub key : list_any (λ byte. byte == equals) header.key ≡ false
   pub bytes : list_all is_line_byte (line_text header) ≡ true
@@ -50,7 +50,8 @@ pub record IsInRange (file : BandFile) : Type 0 where
 abbrev pub FilesAreReadAgain : Type 0
 FilesAreReadAgain = (file : BandFile) → IsInRange file → IsBandFile (text_of file) file
 
--- A key and a value, of bytes that are no blank, no NL and no NUL; the key is not empty, has no `=`, and is not `node_id`.
+-- A key and a value, of bytes that are no blank, no NL and no NUL; the key is not empty, has no `=`, and is not
+-- `node_id`.
 pub record IsKeyAndValue (header : Header) : Type 0 where
   pub some : 0 < length header.key
   pub no_equals : list_any (λ byte. byte == equals) header.key ≡ false
@@ -59,4 +60,10 @@ pub record IsKeyAndValue (header : Header) : Type 0 where
 
 -- They are a header that is what its line says.
 abbrev pub KeysAndValuesStand : Type 0
-KeysAndValuesStand = (header : Header) → IsKeyAndValue header → length (line_text header) < max_line → StandsInHeader header
+KeysAndValuesStand =
+    (header : Header) → IsKeyAndValue header → length (line_text header) < max_line → StandsInHeader header
+
+-- Bytes are one bandwidth file, or none.
+abbrev pub BytesAreOneFile : Type 0
+BytesAreOneFile =
+    (bytes : List ℕ) (file other : BandFile) → IsBandFile bytes file → IsBandFile bytes other → file ≡ other
