@@ -7,7 +7,6 @@ use Rattle.exit_status.specs.declared.status.Refusal.{Refusal}
 use Rattle.exit_status.specs.declared.status.Refusal.TheVariants as refusal
 use Rattle.exit_status.specs.declared.status.Status.{Status}
 use Rattle.exit_status.specs.declared.status.Status.TheVariants as status
-use Rattle.document_commands.specs.Answers.{canonical_text, check_text}
 use Rattle.document_commands.proofs.NotRefused as document
 use Rattle.compute_command.proofs.NotRefused as votes
 use Rattle.authority_daemon.specs.Commands.{Answers, Answerable}
@@ -17,8 +16,8 @@ use Rattle.authority_daemon.specs.Runs.{Told, KnowsWords, KeepsLimit, Ends, Must
 pub not_refused : (rules : Rules) (c : Command) (bytes : List ℕ) (why : Refusal) → Answerable rules c bytes
     → Answers rules c bytes (Err why) → why ≡ refusal.Verifier
 not_refused rules (command.Compute wanted) bytes why can answer = votes.not_refused rules wanted bytes why can answer
-not_refused rules (command.Check kind) bytes why can answer = absurd (document.not_refused check_text kind bytes why can answer)
-not_refused rules (command.Show kind) bytes why can answer = absurd (document.not_refused canonical_text kind bytes why can answer)
+not_refused rules (command.Check named) bytes why can answer = absurd (document.check_not_refused named bytes why can answer)
+not_refused rules (command.Show named) bytes why can answer = absurd (document.show_not_refused named bytes why can answer)
 
 -- A status that meets these clauses is 'done', or 'no memory'.
 pub completes : (rules : Rules) (given : Option Command) (left old new : Option (List ℕ)) (read write verify : Type 0) (s : Status)

@@ -4,20 +4,20 @@ use Rattle.key_port.specs.Answers.{Rules}
 use Rattle.daemon_words.specs.declared.command.Command.{Command}
 use Rattle.daemon_words.specs.declared.command.Command.TheVariants as command
 use Rattle.exit_status.specs.declared.status.Refusal.{Refusal}
-use Rattle.document_commands.specs.Answers.{CheckAnswers, IsDocument, ShowAnswers}
+use Rattle.document_commands.specs.Answers.{CheckAnswers, IsSubject, ShowAnswers}
 use Rattle.compute_command.specs.Answers.{CanCompute, ComputeAnswers}
 
 -- a line for each command
 abbrev pub Answers : Rules → Command → List ℕ → Result (List ℕ) Refusal → Type 0
 Answers rules (command.Compute wanted) bytes answer = ComputeAnswers rules wanted bytes answer
-Answers rules (command.Check kind) bytes answer = CheckAnswers kind bytes answer
-Answers rules (command.Show kind) bytes answer = ShowAnswers kind bytes answer
+Answers rules (command.Check named) bytes answer = CheckAnswers named bytes answer
+Answers rules (command.Show named) bytes answer = ShowAnswers named bytes answer
 
 -- whether a command verifies signatures, a line for each command
 abbrev pub verifies : Command → Bool
 verifies (command.Compute wanted) = true
-verifies (command.Check kind) = false
-verifies (command.Show kind) = false
+verifies (command.Check named) = false
+verifies (command.Show named) = false
 
 -- whether words that give this command, or none, have signatures verified
 abbrev pub verifies_if : Option Command → Bool
@@ -27,5 +27,5 @@ verifies_if (Some given) = verifies given
 -- the inputs that a command has to answer with a text, a line for each command
 abbrev pub Answerable : Rules → Command → List ℕ → Type 0
 Answerable rules (command.Compute wanted) bytes = CanCompute rules wanted bytes
-Answerable rules (command.Check kind) bytes = IsDocument kind bytes
-Answerable rules (command.Show kind) bytes = IsDocument kind bytes
+Answerable rules (command.Check named) bytes = IsSubject named bytes
+Answerable rules (command.Show named) bytes = IsSubject named bytes

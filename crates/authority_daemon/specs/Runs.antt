@@ -30,8 +30,8 @@ KnowsWords given _ = (c : Command) × (given ≡ Some c)
 -- whether a command reads the input
 abbrev pub reads_input : Command → Bool
 reads_input (command.Compute wanted) = true
-reads_input (command.Check kind) = true
-reads_input (command.Show kind) = true
+reads_input (command.Check named) = true
+reads_input (command.Show named) = true
 
 -- an input past the limit is said to be so, and no other is
 abbrev pub KeepsLimit : Command → List ℕ → Status → Type 0
@@ -83,12 +83,13 @@ abbrev pub first_count : {X : Type 0} → (X → ℕ) → List X → ℕ
 first_count count [] = 0
 first_count count (x ∷ xs) = count x
 
--- the words are refused, or the input could not be read or is no list of documents: no vote was checked
+-- the words are refused, or the input could not be read, or is no list of documents or no bandwidth file: no vote was checked
 abbrev pub IsBeforeVotes : Status → Type 0
 IsBeforeVotes status.BadWords = Unit {0}
 IsBeforeVotes status.ReadFault = Unit {0}
 IsBeforeVotes status.TooLong = Unit {0}
 IsBeforeVotes (status.Refused (refusal.Document why)) = Unit {0}
+IsBeforeVotes (status.Refused (refusal.Bandwidth why)) = Unit {0}
 IsBeforeVotes _ = ⊥
 
 -- the text was written, or there was no memory

@@ -180,7 +180,7 @@ fn answer_to<V: Verifier>(
 {
     match command {
         Command::Compute(wanted) => compute(alloc, wanted, bytes, verifier),
-        Command::Check(kind) => check(alloc, *kind, bytes),
-        Command::Show(kind) => show(alloc, *kind, bytes),
+        Command::Check(subject) => check(alloc, *subject, bytes),
+        Command::Show(subject) => show(alloc, *subject, bytes),
     }
 }

@@ -12,7 +12,7 @@ use Rattle.clap.specs.declared.parser.matches.SubCommand.{SubCommand}
 use Rattle.clap.specs.declared.parser.matches.ArgMatches.TheViews.{out-SubCommand}
 use Rattle.daemon_words.specs.declared.command.Flavours.{Flavours}
 use Rattle.daemon_words.specs.Words.{command_named, command_read, compute_in, compute_of, compute_with, flavours_in, flavours_of}
-use Rattle.daemon_words.specs.Words.{kind_in, kind_named}
+use Rattle.daemon_words.specs.Words.{subject_in, subject_named}
 
 -- an error other than want of memory comes only where something is wrong with the words
 pub refused : (kinds : Kinds) (e : Error) → HasKind kinds e → (kind_of e ≡ error_kind.OutOfMemory → ⊥) → kinds ≡ [] → ⊥
@@ -92,10 +92,10 @@ pub flavours_are : (f : Found) (word : Option (List ℕ)) → word ≡ first_val
     → flavours_in (rows_of f) ≡ flavours_of word
 flavours_are f word stands = ap flavours_of (option_is f (codes "flavour") word stands)
 
--- the kind that the word names
-pub kind_is : (f : Found) (word : List ℕ) → Some word ≡ first_value f (codes "kind") → kind_in (rows_of f) ≡ kind_named word
-kind_is f word stands = ap (λ w. option_and_then kind_named w) (option_is f (codes "kind") (Some word) stands)
+-- what the word names
+pub subject_is : (f : Found) (word : List ℕ) → Some word ≡ first_value f (codes "kind") → subject_in (rows_of f) ≡ subject_named word
+subject_is f word stands = ap (λ w. option_and_then subject_named w) (option_is f (codes "kind") (Some word) stands)
 
 -- no word stands there
-pub no_kind : (f : Found) → None ≡ first_value f (codes "kind") → kind_in (rows_of f) ≡ None
-no_kind f none = ap (λ w. option_and_then kind_named w) (option_is f (codes "kind") None none)
+pub no_subject : (f : Found) → None ≡ first_value f (codes "kind") → subject_in (rows_of f) ≡ None
+no_subject f none = ap (λ w. option_and_then subject_named w) (option_is f (codes "kind") None none)

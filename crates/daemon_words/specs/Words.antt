@@ -12,6 +12,8 @@ use Rattle.daemon_words.specs.declared.command.Flavours.{Flavours}
 use Rattle.daemon_words.specs.declared.command.Flavours.TheVariants as flavours
 use Rattle.daemon_words.specs.declared.command.Kind.{Kind}
 use Rattle.daemon_words.specs.declared.command.Kind.TheVariants as kind
+use Rattle.daemon_words.specs.declared.command.Subject.{Subject}
+use Rattle.daemon_words.specs.declared.command.Subject.TheVariants as subject
 
 -- the flavours that a word names
 abbrev pub flavours_named : List ℕ → Option Flavours
@@ -61,16 +63,21 @@ kind_named word =
     else (if bytes_eq word (codes "detached") then Some kind.Detached
     else None)))))
 
--- the kind of document that stands among the values
-abbrev pub kind_in : List Row → Option Kind
-kind_in options = option_and_then kind_named (first_of (codes "kind") options)
+-- what a word names that is checked or shown
+abbrev pub subject_named : List ℕ → Option Subject
+subject_named word =
+    if bytes_eq word (codes "bandwidth") then Some subject.BandwidthFile else option_map subject.Document (kind_named word)
+
+-- what stands among the values to be checked or shown
+abbrev pub subject_in : List Row → Option Subject
+subject_in options = option_and_then subject_named (first_of (codes "kind") options)
 
 -- the command of a name, with the values of its options: a line for each command
 abbrev pub command_named : Text → List Row → Option Command
 command_named name options =
     if bytes_eq name (codes "compute") then compute_in options
-    else (if bytes_eq name (codes "check") then option_map command.Check (kind_in options)
-    else (if bytes_eq name (codes "show") then option_map command.Show (kind_in options)
+    else (if bytes_eq name (codes "check") then option_map command.Check (subject_in options)
+    else (if bytes_eq name (codes "show") then option_map command.Show (subject_in options)
     else None))
 
 -- the command that was named, if nothing is wrong with the words

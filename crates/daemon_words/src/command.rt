@@ -49,15 +49,24 @@ pub enum Kind {
     Detached,
 }
 
+/// What is checked or shown.
+#[derive(Clone, Copy, Debug, PartialEq, Eq)]
+pub enum Subject {
+    /// A document of a kind.
+    Document(Kind),
+    /// A bandwidth file.
+    BandwidthFile,
+}
+
 /// A command with its options.
 #[derive(Debug, Drop)]
 pub enum Command {
     /// Reads votes, and writes the unsigned texts of their consensus.
     Compute(Compute),
-    /// Reads a document of this kind, and says whether it is one.
-    Check(Kind),
-    /// Reads a document of this kind, and writes its canonical text.
-    Show(Kind),
+    /// Reads what is named, and says whether the input is one.
+    Check(Subject),
+    /// Reads what is named, and writes its canonical text.
+    Show(Subject),
 }
 
 /// The command that the words give, without the program's name in front, or nothing where they are not of the grammar.
@@ -83,18 +92,28 @@ fn command_named(
 {
     match name {
         "compute" => compute_with(alloc, options),
-        "check" => Ok(kind_in(options).map(Command::Check)),
-        "show" => Ok(kind_in(options).map(Command::Show)),
+        "check" => Ok(subject_in(options).map(Command::Check)),
+        "show" => Ok(subject_in(options).map(Command::Show)),
         _ => Ok(None),
     }
 }
 
-/// The kind of document that stands among the values.
-fn kind_in(values: &ArgMatches<'_>) -> Option<Kind>
-    ensures { result ≡ grammar.kind_in (rows_of (found_of values.now)) }
+/// What stands among the values to be checked or shown.
+fn subject_in(values: &ArgMatches<'_>) -> Option<Subject>
+    ensures { result ≡ grammar.subject_in (rows_of (found_of values.now)) }
 {
     let word = values.get_str("kind")?;
-    kind_named(word)
+    subject_named(word)
+}
+
+/// What a word names that is checked or shown.
+fn subject_named(word: &str) -> Option<Subject>
+    ensures { result ≡ grammar.subject_named word.now }
+{
+    match word {
+        "bandwidth" => Some(Subject::BandwidthFile),
+        _ => kind_named(word).map(Subject::Document),
+    }
 }
 
 /// The kind of document that a word names.

@@ -6,5 +6,5 @@ mod command_line;
 mod keys;
 mod values;
 
-pub use command::{Command, Compute, Flavours, Kind, command_of};
+pub use command::{Command, Compute, Flavours, Kind, Subject, command_of};
 pub use keys::{Keys, keys_of};

@@ -1,3 +1,4 @@
 pub mod LinesBehind
 pub mod NotRefused
 pub mod MadeOf
+pub mod ReadFiles

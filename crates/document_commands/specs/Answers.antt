@@ -1,6 +1,7 @@
 -- What the commands over one document answer to an input.
-use Rattle.std.specs.Prelude.{◌≡◌, ℕ, List, [], ◌∷◌, codes, ◌++◌, Result, Ok, Err}
+use Rattle.std.specs.Prelude.{◌≡◌, ℕ, List, [], ◌∷◌, codes, ◌++◌, None, Result, Ok, Err}
 use Rattle.item_terms.specs.Bytes.{line_feed}
+use Rattle.item_terms.specs.Lines.{lines}
 use Rattle.frame_terms.specs.declared.fault.ReadRefusal.{ReadRefusal}
 use Rattle.frame_terms.specs.declared.fault.ReadRefusal.TheVariants.{Frame}
 use Rattle.authority_certs.specs.Texts.{cert_text}
@@ -10,9 +11,14 @@ use Rattle.consensus_terms.specs.Texts.{facts_text}
 use Rattle.descriptor_text.specs.Texts.{descriptor_text}
 use Rattle.detached_doc.specs.Texts.{detached_text}
 use Rattle.micro_desc.specs.Texts.{micro_text}
+use Rattle.bandwidth_file.specs.Files.{first_fault}
+use Rattle.bandwidth_file.specs.Texts as file
 use Rattle.daemon_words.specs.declared.command.Kind.{Kind}
+use Rattle.daemon_words.specs.declared.command.Subject.{Subject}
+use Rattle.daemon_words.specs.declared.command.Subject.TheVariants as subject
 use Rattle.exit_status.specs.declared.status.Refusal.{Refusal}
 use Rattle.exit_status.specs.declared.status.Refusal.TheVariants as refusal
+use Rattle.document_commands.specs.BandwidthFiles.{FileAnswers}
 use Rattle.document_commands.specs.Documents.{Document, cert, consensus, descriptor, detached, document_of, micro, vote}
 
 -- A document was read, and the text is that of it.
@@ -41,14 +47,21 @@ canonical_text (micro read) = micro_text read
 canonical_text (detached read) = detached_text read
 
 -- what `check` answers
-abbrev pub CheckAnswers : Kind → List ℕ → Result (List ℕ) Refusal → Type 0
-CheckAnswers kind bytes answer = ReadAnswers check_text kind (document_of kind bytes) answer
+abbrev pub CheckAnswers : Subject → List ℕ → Result (List ℕ) Refusal → Type 0
+CheckAnswers (subject.Document kind) bytes answer = ReadAnswers check_text kind (document_of kind bytes) answer
+CheckAnswers subject.BandwidthFile bytes answer = FileAnswers check_text bytes answer
 
 -- what `show` answers
-abbrev pub ShowAnswers : Kind → List ℕ → Result (List ℕ) Refusal → Type 0
-ShowAnswers kind bytes answer = ReadAnswers canonical_text kind (document_of kind bytes) answer
+abbrev pub ShowAnswers : Subject → List ℕ → Result (List ℕ) Refusal → Type 0
+ShowAnswers (subject.Document kind) bytes answer = ReadAnswers canonical_text kind (document_of kind bytes) answer
+ShowAnswers subject.BandwidthFile bytes answer = FileAnswers file.text_of bytes answer
 
--- The input is one document of this kind: `check` and `show` have to answer it with a text.
+-- The input is one document of this kind.
 pub record IsDocument (kind : Kind) (bytes : List ℕ) : Type 0 where
   pub document : Document
   pub read : document_of kind bytes ≡ Ok document
+
+-- the input is what is named: `check` and `show` have to answer it with a text
+abbrev pub IsSubject : Subject → List ℕ → Type 0
+IsSubject (subject.Document kind) bytes = IsDocument kind bytes
+IsSubject subject.BandwidthFile bytes = first_fault (lines bytes) ≡ None

@@ -1,13 +1,15 @@
 // The commands over one document: a line in each for each kind.
 ghost use Rattle.std.specs.Prelude.{◌<◌, ◌^◌, length};
 ghost use Rattle.exit_status.specs.Stops.{Answered};
-ghost use Rattle.document_commands.specs.Answers.{CheckAnswers, ShowAnswers};
+ghost use Rattle.document_commands.specs.Answers.{CheckAnswers, ReadAnswers, ShowAnswers, canonical_text, check_text};
+ghost use Rattle.document_commands.specs.Documents.{document_of};
 
+use crate::bandwidth::{check_file, show_file};
 use crate::one::{check_one, show_one};
 use authority_certs::Cert;
 use bytes::Bytes;
 use consensus_doc::SignedConsensus;
-use daemon_words::Kind;
+use daemon_words::{Kind, Subject};
 use descriptor_doc::Descriptor;
 use detached_doc::Detached;
 use exit_status::Stop;
@@ -15,10 +17,21 @@ use micro_desc::Micro;
 use std::alloc::Global;
 use vote_doc::Vote;
 
-/// `ok`, where the input is one document of this kind, with nothing but blank lines before and after it.
-pub fn check(alloc: Global, kind: Kind, bytes: &Bytes) -> Result<Vec<u8>, Stop>
+/// `ok`, where the input is what is named.
+pub fn check(alloc: Global, subject: Subject, bytes: &Bytes) -> Result<Vec<u8>, Stop>
     requires { length bytes.now < 2 ^ 61 }
-    ensures { Answered (CheckAnswers kind bytes.now) result }
+    ensures { Answered (CheckAnswers subject bytes.now) result }
+{
+    match subject {
+        Subject::Document(kind) => check_document(alloc, kind, bytes),
+        Subject::BandwidthFile => check_file(alloc, bytes),
+    }
+}
+
+/// `ok`, where the input is one document of this kind, with nothing but blank lines before and after it.
+fn check_document(alloc: Global, kind: Kind, bytes: &Bytes) -> Result<Vec<u8>, Stop>
+    requires { length bytes.now < 2 ^ 61 }
+    ensures { Answered (ReadAnswers check_text kind (document_of kind bytes.now)) result }
 {
     match kind {
         Kind::Vote => check_one::<Vote>(alloc, kind, bytes),
@@ -30,10 +43,21 @@ pub fn check(alloc: Global, kind: Kind, bytes: &Bytes) -> Result<Vec<u8>, Stop>
     }
 }
 
-/// The canonical text of the document of this kind that the input is, with nothing but blank lines before and after it.
-pub fn show(alloc: Global, kind: Kind, bytes: &Bytes) -> Result<Vec<u8>, Stop>
+/// The canonical text of what is named, where the input is it.
+pub fn show(alloc: Global, subject: Subject, bytes: &Bytes) -> Result<Vec<u8>, Stop>
     requires { length bytes.now < 2 ^ 61 }
-    ensures { Answered (ShowAnswers kind bytes.now) result }
+    ensures { Answered (ShowAnswers subject bytes.now) result }
+{
+    match subject {
+        Subject::Document(kind) => show_document(alloc, kind, bytes),
+        Subject::BandwidthFile => show_file(alloc, bytes),
+    }
+}
+
+/// The canonical text of the document of this kind that the input is, with nothing but blank lines before and after it.
+fn show_document(alloc: Global, kind: Kind, bytes: &Bytes) -> Result<Vec<u8>, Stop>
+    requires { length bytes.now < 2 ^ 61 }
+    ensures { Answered (ReadAnswers canonical_text kind (document_of kind bytes.now)) result }
 {
     match kind {
         Kind::Vote => show_one::<Vote>(alloc, kind, bytes),

@@ -1,6 +1,7 @@
 //! The commands over one document: `check`, whether the input is one, and `show`, its canonical text.
 #![tactic(auto)]
 
+mod bandwidth;
 mod blanks;
 mod cert;
 mod commands;

@@ -22,7 +22,7 @@ use frame_terms::{FrameFault, FrameReason, ReadRefusal};
 use std::alloc::Global;
 
 /// What `check` says of a document that is one.
-const OK: &[u8] = b"ok\n";
+pub const OK: &[u8] = b"ok\n";
 
 /// A document of a kind, as the commands see it: how it is read, and how it is written.
 pub trait Document: Drop {

@@ -1,5 +1,6 @@
 -- The line that each status writes, and its number.
 use Rattle.std.specs.Prelude.{ℕ, List, [], ◌∷◌, codes}
+use Rattle.exit_status.specs.BandwidthLines.{bandwidth_number, bandwidth_parts}
 use Rattle.exit_status.specs.DocumentLines.{fault_number, fault_parts}
 use Rattle.exit_status.specs.Parts.{end, joined}
 use Rattle.exit_status.specs.VoteLines.{votes_number, votes_parts}
@@ -13,6 +14,7 @@ abbrev pub refusal_parts : Refusal → List (List ℕ)
 refusal_parts (refusal.Document why) = fault_parts why.kind why.fault.place why.fault.reason
 refusal_parts (refusal.Votes why) = votes_parts why
 refusal_parts refusal.Verifier = codes "verifier fault" ∷ end ∷ []
+refusal_parts (refusal.Bandwidth why) = bandwidth_parts why
 
 -- the parts of a status's line
 abbrev pub parts : Status → List (List ℕ)
@@ -35,6 +37,7 @@ abbrev pub refusal_number : Refusal → ℕ
 refusal_number (refusal.Document why) = fault_number why.fault.reason
 refusal_number (refusal.Votes why) = votes_number why
 refusal_number refusal.Verifier = 8
+refusal_number (refusal.Bandwidth why) = bandwidth_number why
 
 -- the number of a status
 abbrev pub number_of : Status → ℕ

@@ -1,6 +1,7 @@
 //! How a run ends: the statuses, the number of each, and the line that each writes.
 #![tactic(auto)]
 
+mod bandwidth_refusal;
 mod document_refusal;
 mod parts;
 mod status;
@@ -8,8 +9,9 @@ mod status_line;
 mod stop;
 mod vote_refusal;
 
+pub use bandwidth_refusal::BandwidthRefusal;
 pub use document_refusal::DocumentRefusal;
 pub use status::{Refusal, Status};
 pub use status_line::report;
-pub use stop::{Stop, of_kind};
+pub use stop::{Stop, of_file, of_kind};
 pub use vote_refusal::VoteListRefusal;

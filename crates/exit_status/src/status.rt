@@ -3,6 +3,7 @@ ghost use Rattle.std.specs.Prelude.{◌≡◌};
 ghost use Rattle.std.specs.Process as process;
 ghost use Rattle.exit_status.specs.Lines.{number_of, refusal_number};
 
+use crate::bandwidth_refusal::BandwidthRefusal;
 use crate::document_refusal::DocumentRefusal;
 use crate::vote_refusal::VoteListRefusal;
 use std::process::ExitCode;
@@ -16,6 +17,8 @@ pub enum Refusal {
     Votes(VoteListRefusal),
     /// The first verifier failed, and it is not known whether the votes are acceptable.
     Verifier,
+    /// The input gives no bandwidth file that counts.
+    Bandwidth(BandwidthRefusal),
 }
 
 /// How a run ends.
@@ -70,6 +73,7 @@ impl Refusal {
             Refusal::Document(refusal) => refusal.number(),
             Refusal::Votes(refusal) => refusal.number(),
             Refusal::Verifier => 8,
+            Refusal::Bandwidth(refusal) => refusal.number(),
         }
     }
 }

@@ -4,6 +4,7 @@ ghost use Rattle.exit_status.specs.Lines.{line_of, refusal_parts};
 ghost use Rattle.exit_status.specs.Parts.{joined};
 ghost use Rattle.exit_status.specs.Reports.{Reports};
 
+use crate::bandwidth_refusal::report_bandwidth;
 use crate::document_refusal::report_fault;
 use crate::parts::write_parts;
 use crate::status::{Refusal, Status};
@@ -40,5 +41,6 @@ fn report_refusal<E: Sink>(errors: &mut E, refusal: Refusal)
         ),
         Refusal::Votes(refusal) => report_votes(errors, refusal),
         Refusal::Verifier => write_parts(errors, &[b"verifier fault", b"\n"]),
+        Refusal::Bandwidth(refusal) => report_bandwidth(errors, refusal),
     }
 }

@@ -3,8 +3,10 @@ ghost use Rattle.std.specs.Prelude.{◌≡◌};
 ghost use Rattle.exit_status.specs.Stops as stops;
 ghost use Rattle.exit_status.specs.declared.stop.Stop.TheVariants.{Memory as NoMemory};
 
+use crate::bandwidth_refusal::BandwidthRefusal;
 use crate::document_refusal::DocumentRefusal;
 use crate::status::Refusal;
+use bandwidth_file::{BandFault, BandRefusal};
 use daemon_words::Kind;
 use dir_bytes::Memory;
 use frame_terms::ReadRefusal;
@@ -54,5 +56,19 @@ pub fn of_kind<D: Drop>(kind: Kind, read: Result<D, ReadRefusal>) -> Result<D, S
             Err(Stop::Refused(Refusal::Document(refusal)))
         }
         Err(ReadRefusal::Memory) => Err(Stop::Memory),
+    }
+}
+
+/// What was read of a bandwidth file, or why the command stops.
+pub fn of_file<D: Drop>(read: Result<D, BandRefusal>) -> Result<D, Stop>
+    ensures { result ≡ stops.of_file read }
+{
+    match read {
+        Ok(file) => Ok(file),
+        Err(BandRefusal::Fault { place, reason }) => {
+            let refusal = BandwidthRefusal::Fault(BandFault { place, reason });
+            Err(Stop::Refused(Refusal::Bandwidth(refusal)))
+        }
+        Err(BandRefusal::Memory) => Err(Stop::Memory),
     }
 }
