@@ -1,2 +1,1 @@
 pub mod Completeness
-pub mod Ending

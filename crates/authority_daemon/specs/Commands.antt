@@ -24,6 +24,28 @@ abbrev pub verifies_if : Option Command → Bool
 verifies_if None = false
 verifies_if (Some given) = verifies given
 
+-- whether a command has something signed, a line for each command
+abbrev pub signs : Command → Bool
+signs (command.Compute wanted) = false
+signs (command.Check kind) = false
+signs (command.Show kind) = false
+
+-- whether words that give this command, or none, have something signed
+abbrev pub signs_if : Option Command → Bool
+signs_if None = false
+signs_if (Some given) = signs given
+
+-- whether a command asks a clock, a line for each command
+abbrev pub asks_clock : Command → Bool
+asks_clock (command.Compute wanted) = false
+asks_clock (command.Check kind) = false
+asks_clock (command.Show kind) = false
+
+-- whether words that give this command, or none, ask a clock
+abbrev pub asks_clock_if : Option Command → Bool
+asks_clock_if None = false
+asks_clock_if (Some given) = asks_clock given
+
 -- the inputs that a command has to answer with a text, a line for each command
 abbrev pub Answerable : Rules → Command → List ℕ → Type 0
 Answerable rules (command.Compute wanted) bytes = CanCompute rules wanted bytes

@@ -1,2 +1,4 @@
 pub mod Commands
 pub mod Runs
+pub mod World
+pub mod Inside

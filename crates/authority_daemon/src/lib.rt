@@ -4,4 +4,4 @@
 mod program;
 
 pub use exit_status::{Refusal, Status};
-pub use program::{Outside, run};
+pub use program::{Outside, Stands, run};

@@ -6,9 +6,9 @@ ghost use Rattle.std.specs.Prelude.{◌<◌, vec_len, IfOk};
 
 use authority_daemon::{Outside, run};
 use daemon_words::{Keys, keys_of};
-use dir_bytes::{StdSink, StdSource};
+use dir_bytes::{StdSink, StdSource, SystemClock};
 use exit_status::{Status, report};
-use key_port::{ServiceKeys, TestKeys, UnixDial, Verifier};
+use key_port::{ServiceKeys, Signer, TestKeys, UnixDial, Verifier};
 use std::alloc::{AllocError, Global};
 use std::net::Net;
 use std::process::ExitCode;
@@ -17,7 +17,7 @@ use std::{env, io};
 /// Where the key service listens.
 const KEY_SERVICE: &str = "/run/dirauth-keys";
 
-/// How many workers there are, each with its verifier.
+/// How many workers there are, each with its verifier and its clock.
 const WORKERS: usize = 4;
 
 /// The words behind the program's name.
@@ -27,6 +27,16 @@ fn words(rt: &HostRuntime) -> io::Result<Vec<String>> {
         words.push(word)?;
     }
     Ok(words)
+}
+
+/// The system's clock, for each worker.
+fn clocks<'a>(rt: &'a HostRuntime) -> Result<Vec<SystemClock<&'a HostRuntime>>, AllocError> {
+    let mut clocks = Vec::new(rt.alloc());
+    clocks.push(SystemClock::new(rt))?;
+    clocks.push(SystemClock::new(rt))?;
+    clocks.push(SystemClock::new(rt))?;
+    clocks.push(SystemClock::new(rt))?;
+    Ok(clocks)
 }
 
 /// The test scheme, for each worker.
@@ -41,7 +51,12 @@ fn test_keys(alloc: Global) -> Result<Vec<TestKeys>, AllocError>
     Ok(verifiers)
 }
 
-/// The key service, for one worker. It is dialed when it is asked first.
+/// The test scheme, as a signer.
+fn test_signer(alloc: Global) -> TestKeys {
+    TestKeys::new(Vec::new(alloc))
+}
+
+/// The key service, for one worker or for signing. It is dialed when it is asked first.
 fn one_service<'a, N: Net>(
     alloc: Global,
     net: &'a N,
@@ -65,39 +80,43 @@ fn service_keys<'a, N: Net>(
     Ok(verifiers)
 }
 
-/// Runs the words with these verifiers over the real input, output and errors.
-fn run_with<V: Verifier + Drop>(
+/// Runs the words with these verifiers and this signer over the real input, output, errors and clock.
+fn run_with<V: Verifier + Drop, N: Signer + Drop>(
     rt: &HostRuntime,
     words: &[String],
     verifiers: Result<Vec<V>, AllocError>,
+    signer: Result<N, AllocError>,
 ) -> Status
     requires { IfOk verifiers (λ verifiers. 0 < vec_len verifiers) }
 {
-    let Ok(verifiers) = verifiers else {
+    let (Ok(verifiers), Ok(signer), Ok(clocks)) = (verifiers, signer, clocks(rt)) else {
         return want_of_memory(rt);
     };
     let mut outside = Outside {
         source: StdSource::new(rt.reader()),
         sink: StdSink::new(io::writer(rt)),
         errors: StdSink::new(rt.stderr()),
+        clocks,
         verifiers,
+        signer,
     };
     run(rt.alloc(), words, &mut outside)
 }
 
-/// Says that there was no memory for the words or the verifiers.
+/// Says that there was no memory for the words, the verifiers or the clocks.
 fn want_of_memory(rt: &HostRuntime) -> Status {
     let mut errors = StdSink::new(rt.stderr());
     report(&mut errors, Status::Memory);
     Status::Memory
 }
 
-/// Runs the words, with the verifiers that they choose.
+/// Runs the words, with the verifiers and the signer that they choose.
 fn run_words(rt: &HostRuntime, words: &[String]) -> Status {
+    let alloc = rt.alloc();
     let (keys, words) = keys_of(words);
     match keys {
-        Keys::Test => run_with(rt, words, test_keys(rt.alloc())),
-        Keys::Service => run_with(rt, words, service_keys(rt.alloc(), rt)),
+        Keys::Test => run_with(rt, words, test_keys(alloc), Ok(test_signer(alloc))),
+        Keys::Service => run_with(rt, words, service_keys(alloc, rt), one_service(alloc, rt)),
     }
 }
 

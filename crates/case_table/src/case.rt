@@ -13,8 +13,12 @@ pub struct Outer {
     pub writes: Vec<u64>,
     /// The writes to the errors sink that fail.
     pub errors: Vec<u64>,
+    /// The moments that the clock gives, in order; the last of them again and again, and 0 where there is none.
+    pub clock: Vec<u64>,
     /// The verifier's answers that fail.
     pub verifies: Vec<u64>,
+    /// The signer's answers that fail.
+    pub signs: Vec<u64>,
     /// How many bytes a write takes at most.
     pub piece: u64,
     /// How many bytes the sink has room for.
@@ -59,7 +63,9 @@ pub fn plain_case(alloc: Global, name: String) -> Case {
             reads: Vec::new(alloc),
             writes: Vec::new(alloc),
             errors: Vec::new(alloc),
+            clock: Vec::new(alloc),
             verifies: Vec::new(alloc),
+            signs: Vec::new(alloc),
             piece: 7,
             room: ROOM,
             errors_room: ROOM,

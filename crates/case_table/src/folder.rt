@@ -1,11 +1,12 @@
 // A case that stands in a folder.
 use crate::case::Case;
-use crate::texts::lines_of;
+use crate::texts::{lines_of, numbers_of};
 use anyhow::Result;
 use std::fs;
 use std::str::from_utf8;
 
-/// Takes the words, the input, the text, the line and the status of a case from the files of a folder.
+/// Takes the words, the input, the text, the line and the status of a case from the files of a folder, and the moments of its
+/// clock where there is a file of them.
 pub fn take_folder(rt: &HostRuntime, case: &mut Case, folder: &str) -> Result<()> {
     let alloc = rt.alloc();
     let file = |name: &str| {
@@ -17,5 +18,8 @@ pub fn take_folder(rt: &HostRuntime, case: &mut Case, folder: &str) -> Result<()
     case.text = file("stdout")?;
     case.line = file("stderr")?;
     case.status = from_utf8(&file("status")?)?.trim().parse::<u64>()?;
+    if let Ok(moments) = file("clock") {
+        case.outer.clock = numbers_of(alloc, from_utf8(&moments)?)?;
+    }
     Ok(())
 }

@@ -1,7 +1,7 @@
 // A run of a case.
 use crate::case::Case;
 use authority_daemon::{Outside, run};
-use dir_bytes::{MemorySink, MemorySource};
+use dir_bytes::{MemoryClock, MemorySink, MemorySource};
 use key_port::TestKeys;
 use std::alloc::{AllocError, Global};
 
@@ -15,6 +15,14 @@ fn sink(
     Ok(MemorySink::new(written, piece.max(1), failing))
 }
 
+fn clock(moments: Vec<u64>) -> Result<MemoryClock, AllocError> {
+    let mut moments = moments;
+    if moments.is_empty() {
+        moments.push(0)?;
+    }
+    Ok(MemoryClock::new(moments))
+}
+
 /// What a case gives that it is not to give; an empty text where it gives what it is to.
 pub fn difference(alloc: Global, case: Case) -> Result<String, AllocError> {
     let outer = case.outer;
@@ -22,7 +30,9 @@ pub fn difference(alloc: Global, case: Case) -> Result<String, AllocError> {
         source: MemorySource::new(case.input, outer.cuts, outer.reads),
         sink: sink(alloc, outer.room, outer.piece, outer.writes)?,
         errors: sink(alloc, outer.errors_room, outer.piece, outer.errors)?,
+        clocks: vec![in alloc; clock(outer.clock)?]?,
         verifiers: vec![in alloc; TestKeys::new(outer.verifies)]?,
+        signer: TestKeys::new(outer.signs),
     };
     let number = run(alloc, &case.words, &mut outside).number() as u64;
     let line = String::from_utf8_lossy(alloc, &outside.errors.written)?;

@@ -1,0 +1,30 @@
+-- What the private functions of this crate say.
+use Rattle.std.specs.Prelude.{◌≡◌, ℕ, List, drop, Result, Err, IfErr, false}
+use Rattle.std.specs.Global.{Vec}
+use Rattle.key_port.specs.Answers.{Rules}
+use Rattle.daemon_words.specs.declared.command.Command.{Command}
+use Rattle.exit_status.specs.declared.status.Refusal.TheVariants as refusal
+use Rattle.exit_status.specs.declared.stop.Stop.{Stop}
+use Rattle.exit_status.specs.declared.stop.Stop.TheVariants as stop
+use Rattle.exit_status.specs.Stops.{Answered}
+use Rattle.compute_command.specs.Answers.{IsOfDocuments}
+use Rattle.authority_daemon.specs.declared.program.Outside.{Outside}
+use Rattle.authority_daemon.specs.Commands.{Answers, asks_clock, signs, verifies}
+use Rattle.authority_daemon.specs.World.{Moment, TellsFaults}
+
+-- The source and the two sinks are as they were.
+pub record LeavesStreams {S K E C V N : Type 0} (old new : Outside S K E C V N) : Type 0 where
+  pub source : new.source ≡ old.source
+  pub sink : new.sink ≡ old.sink
+  pub errors : new.errors ≡ old.errors
+
+-- What a command answers to an input, and what it asks of what stands outside.
+pub record IsAnswer {S C V N : Type 0} (rules : Rules) (c : Command) (bytes : List ℕ) (old new : Moment S C V N)
+    (result : Result (Vec ℕ) Stop) : Type 0 where
+  pub answer : Answered (Answers rules c bytes) result
+  pub verifier : TellsFaults old.verifier_faults new.verifier_faults (result ≡ Err (stop.Refused refusal.Verifier))
+  pub others : drop 1 new.verifiers ≡ drop 1 old.verifiers
+  pub unasked : verifies c ≡ false → new.verifiers ≡ old.verifiers
+  pub unchecked : IfErr result (λ why. IsOfDocuments why → new.verifiers ≡ old.verifiers)
+  pub untimed : asks_clock c ≡ false → new.clocks ≡ old.clocks
+  pub unsigned : signs c ≡ false → new.signer ≡ old.signer
