@@ -50,7 +50,7 @@ other_one key other identity less same =
     subst (λ (bytes : List ℕ). bytes_eq other.0 bytes ≡ false) same
     (sym (ties_as_one other.0 key.0) ∙ ap is_eq less)
 
-none_later : (key identity : Fingerprint) (relays : List (Fingerprint × ℕ))
+pub none_later : (key identity : Fingerprint) (relays : List (Fingerprint × ℕ))
     → All (λ other. identity_order key other ≡ Less) (keys_of relays) → key.0 ≡ identity.0
     → bandwidth_in relays identity ≡ None
 none_later key identity [] later same = refl
