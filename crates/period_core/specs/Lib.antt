@@ -1,0 +1,10 @@
+pub mod Standing
+pub mod Viewing
+pub mod Starting
+pub mod Signing
+pub mod Rounds
+pub mod Judging
+pub mod Weighing
+pub mod Owning
+pub mod Publishes
+pub mod Views

@@ -1,0 +1,48 @@
+-- What is told of an offered signature, before anything is changed.
+use Rattle.std.specs.Prelude.{ℕ, ◌==◌, Bool, not, option_map, List, Option, Some, None, if◌then◌else◌}
+use Rattle.std.specs.Str.{bytes_eq}
+use Rattle.consensus_terms.specs.declared.flavour.Flavour.{Flavour}
+use Rattle.consensus_terms.specs.declared.flavour.Flavour.TheVariants.{Ns, Microdesc}
+use Rattle.period_terms.specs.declared.answer.SignIn.{SignIn}
+use Rattle.period_terms.specs.declared.answer.SignIn.TheVariants.{OtherPeriod, NotComputed, OtherDigest, Stranger}
+use Rattle.period_terms.specs.declared.answer.SignIn.TheVariants.{Have, Closed}
+use Rattle.period_terms.specs.declared.signature.OfferedSignature.{OfferedSignature}
+use Rattle.period_terms.specs.declared.state.State.{State}
+use Rattle.consensus_terms.specs.declared.signature.SignatureLine.{SignatureLine}
+use Rattle.period_terms.specs.declared.change.ChangeKind.TheVariants as kind
+use Rattle.period_terms.specs.SignIns.{keep_signature, with_line}
+use Rattle.period_terms.specs.States.{Outcome, unchanged, is_ended, has_key, digest_of, lines_of, has_line, change}
+use Rattle.period_terms.specs.States.{with_change}
+use Rattle.period_core.specs.declared.weighing.Weighed.{Weighed}
+use Rattle.period_core.specs.declared.weighing.Weighed.TheVariants.{Refused, Fits}
+
+-- how many bytes a digest of a flavour has
+abbrev pub digest_size : Flavour → ℕ
+digest_size Ns = 20
+digest_size Microdesc = 32
+
+-- what is told of a signature where what is computed has this digest
+abbrev pub weighed_over : State → OfferedSignature → Option (List ℕ) → Weighed
+weighed_over state signature None = Refused NotComputed
+weighed_over state signature (Some ours) =
+    if not (bytes_eq signature.digest ours) then Refused (OtherDigest ours)
+    else if not (has_key state.votes signature.authority signature.key) then Refused (Stranger signature.authority)
+    else if has_line (lines_of signature.flavour state) signature.authority then Refused Have
+    else if is_ended state.stage then Refused Closed
+    else Fits
+
+-- what is told of a signature
+abbrev pub weighed : State → OfferedSignature → Weighed
+weighed state signature =
+    if not (signature.valid_after == state.valid_after) then Refused (OtherPeriod state.valid_after)
+    else weighed_over state signature (option_map (digest_of signature.flavour) state.computed)
+
+-- the state with one more signature, over this digest
+abbrev pub with_signed : Flavour → SignatureLine → List ℕ → State → State
+with_signed flavour line digest state =
+    with_change (change kind.Signature (Some line.identity) state.valid_after digest) (with_line flavour line state)
+
+-- the outcome of what is told
+abbrev pub settled : State → OfferedSignature → Weighed → Outcome SignIn
+settled state signature (Refused answer) = unchanged state answer
+settled state signature Fits = keep_signature state signature

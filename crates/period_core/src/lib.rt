@@ -1,0 +1,23 @@
+//! An authority's period: votes are offered, the consensus is computed, signed and published (dir-spec, "Directory authority
+//! operation").
+#![tactic(auto)]
+
+mod advancing;
+mod documents;
+mod judging;
+mod log;
+mod made;
+mod next;
+mod offering;
+mod owning;
+mod publishing;
+mod reading;
+mod signing;
+mod signing_in;
+mod station;
+mod view;
+mod weighing;
+
+pub use made::Made;
+pub use signature_terms::{CheckedSig, PeriodView};
+pub use station::{StartFault, Station};
