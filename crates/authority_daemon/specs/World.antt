@@ -1,5 +1,5 @@
 -- What stands outside of the program, and what a whole run says of it.
-use Rattle.std.specs.Prelude.{◌≡◌, ℕ, ◌<◌, List, drop, Option, None, false}
+use Rattle.std.specs.Prelude.{◌≡◌, Some, ℕ, ◌<◌, List, drop, Option, None, false}
 use Rattle.dir_bytes.specs.Causes.{Rose}
 use Rattle.key_port.specs.Answers.{Rules}
 use Rattle.daemon_words.specs.declared.command.Command.{Command}
