@@ -1,6 +1,6 @@
 -- The entries that are made one after the other are those of the relays that have one: of relays in order, those of
 -- smaller identities stand before each.
-use Rattle.std.proofs.Common.{◌≡◌, ℕ, zero, suc, ◌<◌, Bool, true, false, List, [], ◌∷◌, ◌++◌, map, filter, get_or}
+use Rattle.std.proofs.Common.{◌≡◌, ℕ, Bool, true, false, List, [], ◌∷◌, ◌++◌, map, filter, get_or}
 use Rattle.std.proofs.Common.{Option, Some, None, refl, sym, ap, ap₂, ◌∙◌, arith, append_assoc}
 use Rattle.std.specs.Prelude.{All, AllPairs, not, ◌&&◌, ◌||◌, if◌then◌else◌}
 use Rattle.std.specs.List.{list_any}
@@ -19,7 +19,7 @@ use Rattle.flag_rules.specs.Rulings.{is_reject}
 use Rattle.vote_terms.specs.declared.entry.EntryFacts.{EntryFacts}
 use Rattle.vote_maker.specs.Listings.{JudgedRelay, entry_of_judged, goes_before, has_entry, made_entries, same_key}
 use Rattle.vote_maker.specs.Listings.{takes_key}
-use Rattle.vote_maker.specs.Private.{Keys, entries_from, is_free, is_listed, keys_after, with_key}
+use Rattle.vote_maker.specs.Private.{Keys, entries_from, is_free, is_listed, keys_after}
 
 -- ---- the keys of those before
 

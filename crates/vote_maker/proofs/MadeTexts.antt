@@ -13,7 +13,8 @@ use Rattle.flag_rules.specs.declared.relay.RelayFacts.{RelayFacts}
 use Rattle.flag_rules.specs.declared.ruling.Ruling.{Ruling}
 use Rattle.vote_terms.specs.declared.facts.VoteFacts.{VoteFacts}
 use Rattle.vote_maker.specs.Made.{Basis, made}
-use Rattle.vote_maker.specs.Making.{AsksForVote, AsksSigner, IsMade, IsTextOf, RefusesToMake, certificate_answer, vote_limit}
+use Rattle.vote_maker.specs.Making.{AsksForVote, AsksSigner, IsMade, IsTextOf, RefusesToMake, certificate_answer}
+use Rattle.vote_maker.specs.Making.{vote_limit}
 use Rattle.vote_maker.specs.Private.{IsMadeOf, IsSignedText, RefusesToSign}
 use Rattle.vote_maker.specs.declared.refusal.MakeRefusal.{MakeRefusal}
 use Rattle.vote_maker.specs.declared.refusal.MakeRefusal.TheVariants as refusal

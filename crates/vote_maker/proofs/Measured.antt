@@ -4,12 +4,12 @@ use Rattle.std.proofs.Common.{filter, find, Option, Some, None, refl, sym, ap, a
 use Rattle.std.specs.Prelude.{not, ◌&&◌, unwrap_or, if◌then◌else◌}
 use Rattle.std.specs.Option.{option_map}
 use Rattle.std.specs.Cmp.{IsStrictWeakOrder}
-use Rattle.std.specs.Cmp.Lexicographic.{slice_cmp, bytes_decides}
+use Rattle.std.specs.Cmp.Lexicographic.{slice_cmp}
 use Rattle.std.specs.Ordering.{nat_cmp, is_lt}
 use Rattle.std.specs.declared.cmp.Ordering.{Ordering}
 use Rattle.std.specs.declared.cmp.Ordering.TheVariants.{Less, Equal, Greater}
 use Rattle.std.specs.List.Sorted.{IsPartitionedBy, IsPartitionPoint, IsSortedBy, IsStableBy, ties}
-use Rattle.std.proofs.lemmas.Bool.{cases_lt, true≢false, false_from_ne_true, true_from_ne_false}
+use Rattle.std.proofs.lemmas.Bool.{cases_lt, true≢false, true_from_ne_false}
 use Rattle.std.proofs.lemmas.Cmp.{nat_list_cmp_total}
 use Rattle.std.proofs.lemmas.List.Sorted.{ranks_by, sorted_far}
 use Rattle.dir_values.proofs.Orders.{below-trans, below_or_same, same_text, apart, apart_back}
@@ -75,14 +75,16 @@ alike relays sorted stable identity =
     let lines : filter (is_of identity) sorted ≡ filter (is_of identity) relays =
     sym (filter_same (ties is_measure_before one) (is_of identity) sorted same) ∙ stable one
     ∙ filter_same (ties is_measure_before one) (is_of identity) relays same in
-    ap (λ (line : Option MeasuredRelay). unwrap_or (option_map (λ (relay : MeasuredRelay). relay.measured) line) unmeasured)
+    ap (λ (line : Option MeasuredRelay).
+    unwrap_or (option_map (λ (relay : MeasuredRelay). relay.measured) line) unmeasured)
     (find_is (is_of identity) sorted ∙ ap first lines ∙ sym (find_is (is_of identity) relays))
 
 pub ascend : (sorted : List MeasuredRelay) → IsSortedBy is_measure_before sorted → MeasuresAscend sorted
 ascend sorted up i j d lt within =
     let a = (get_or sorted i d).identity.0 in
     let b = (get_or sorted j d).identity.0 in
-    less_is_lt (slice_cmp nat_cmp b a) ∙ sorted_far is_measure_before weak_order sorted up i j d (omega (arith, lt)) within
+    less_is_lt (slice_cmp nat_cmp b a)
+    ∙ sorted_far is_measure_before weak_order sorted up i j d (omega (arith, lt)) within
 
 -- ---- by halves
 

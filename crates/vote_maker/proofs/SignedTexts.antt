@@ -1,5 +1,5 @@
 -- The text of a vote that was signed, and why one was not.
-use Rattle.std.proofs.Common.{◌≡◌, ℕ, ◌<◌, ◌≤◌, true, List, [], ◌∷◌, ◌++◌, length, refl, sym, ap, subst, ◌∙◌, append_assoc}
+use Rattle.std.proofs.Common.{◌≡◌, ℕ, ◌<◌, true, List, [], ◌∷◌, ◌++◌, length, refl, sym, ap, subst, ◌∙◌, append_assoc}
 use Rattle.std.proofs.Common.{Result, Ok, Err}
 use Rattle.std.specs.Prelude.{IfOk}
 use Rattle.item_terms.specs.Bytes.{line_feed, space}
@@ -51,12 +51,13 @@ module _ {N : Type 0} (gives : Relation) (steps : SignerSteps N) (facts : VoteFa
       → steps old kind.Signing key digest (sign.Signed signature) new
       → IsSigned gives steps facts bytes signature old new
   signed_by text key digest signature old new written its hash answer step =
-      let digest_is : digest ≡ made_digest facts bytes = hash ∙ ap (λ (l : List ℕ). sha1 l) written in
+      let made = made_digest facts bytes in
+      let digest_is : digest ≡ made = hash ∙ ap (λ (l : List ℕ). sha1 l) written in
       record {
-        given = subst (λ (k : List ℕ). gives kind.Signing k (made_digest facts bytes) signature ≡ true) its
+        given = subst (λ (k : List ℕ). gives kind.Signing k made signature ≡ true) its
             (subst (λ (d : List ℕ). gives kind.Signing key d signature ≡ true) digest_is answer.0);
         short = answer.1;
-        asked = subst (λ (k : List ℕ). steps old kind.Signing k (made_digest facts bytes) (sign.Signed signature) new) its
+        asked = subst (λ (k : List ℕ). steps old kind.Signing k made (sign.Signed signature) new) its
             (subst (λ (d : List ℕ). steps old kind.Signing key d (sign.Signed signature) new) digest_is step);
       }
 

@@ -1,6 +1,6 @@
 -- What a vote says that an authority makes (dir-spec, "Vote and consensus status document formats"; "Voting
 -- timeline").
-use Rattle.std.specs.Prelude.{ℕ, ◌+◌, ◌*◌, List, [], ◌∷◌, Some, None, codes}
+use Rattle.std.specs.Prelude.{ℕ, List, [], ◌∷◌, Some, None, codes}
 use Rattle.sha1.specs.Sha1.{sha1}
 use Rattle.dir_values.specs.declared.algorithm.Algorithm.TheVariants.{Sha1}
 use Rattle.authority_certs.specs.declared.cert.Cert.{Cert}

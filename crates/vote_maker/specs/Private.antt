@@ -1,5 +1,5 @@
 -- What the private functions of this crate say.
-use Rattle.std.specs.Prelude.{◌≡◌, ◌⊎◌, ℕ, ◌≤◌, ◌<◌, Bool, true, false, not, ◌&&◌, List, [], ◌∷◌, ◌++◌}
+use Rattle.std.specs.Prelude.{◌≡◌, ◌⊎◌, ℕ, ◌<◌, Bool, true, false, not, ◌&&◌, List, [], ◌∷◌, ◌++◌}
 use Rattle.std.specs.Prelude.{length, AllPairs}
 use Rattle.std.specs.Prelude.{Option, Some, None, if◌then◌else◌}
 use Rattle.std.specs.FinSet as set

@@ -1,4 +1,4 @@
-use Rattle.std.proofs.Common.{◌≡◌, ℕ, List, length, sym, ap, ap₂, ◌∙◌}
+use Rattle.std.proofs.Common.{◌≡◌, List, length, sym, ap, ap₂, ◌∙◌}
 use Rattle.flag_rules.specs.Flags.{flags_of}
 use Rattle.flag_rules.specs.Relays.{ruled_relays}
 use Rattle.flag_rules.specs.declared.relay.RelayFacts.{RelayFacts}

@@ -1,4 +1,4 @@
-use Rattle.std.proofs.Common.{rules, ◌≡◌, ℕ, ◌<◌, ◌≤◌, ◌++◌, length, arith, ◌∙◌}
+use Rattle.std.proofs.Common.{rules, ◌≡◌, ◌<◌, ◌≤◌, ◌++◌, length, arith, ◌∙◌}
 use Rattle.std.specs.FinSet as set
 use Rattle.flag_rules.specs.Relays.{ruled_relays}
 use Rattle.vote_maker.specs.Listings.{judged_relays}

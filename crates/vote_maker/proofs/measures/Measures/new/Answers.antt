@@ -20,4 +20,5 @@ returns c =
     let stable : IsStableBy is_measure_before relays sorted =
     c.in_ok-sort_by.ensures.stable is_measure_before weak_order (answers_always _ _ _ (λ f a r q k. search rules)) in
     let same : relays ≡ c.args.relays.now = search rules in
-    alike c.args.relays.now sorted (subst (λ (l : List MeasuredRelay). IsStableBy is_measure_before l sorted) same stable)
+    alike c.args.relays.now sorted
+    (subst (λ (l : List MeasuredRelay). IsStableBy is_measure_before l sorted) same stable)
