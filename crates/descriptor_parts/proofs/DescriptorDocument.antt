@@ -6,16 +6,15 @@ use Rattle.frame_terms.specs.declared.document.Group.{Group}
 use Rattle.frame_terms.specs.declared.document.Taken.{Taken}
 use Rattle.frame_terms.specs.declared.fault.ReadRefusal.{ReadRefusal}
 use Rattle.frame_terms.specs.declared.keyword.Keyword.{Keyword}
+use Rattle.frame_terms.specs.declared.keyword.Keyword.TheVariants as the
 use Rattle.frame_values.specs.declared.values.Value.{Value}
-use Rattle.table_laws.specs.OneSection.{IsOneSection}
-use Rattle.table_laws.proofs.OneDocument.{one_section_is_all}
-use Rattle.kind_laws.proofs.SoundKinds.{kinds_are_sound}
 use Rattle.descriptor_frame.specs.Tables.{descriptor_tables}
 use Rattle.descriptor_frame.specs.declared.said.DescriptorValue.{DescriptorValue}
 use Rattle.descriptor_doc.specs.Descriptors.{descriptor_in}
 use Rattle.descriptor_doc.specs.Heads.{kept_of, kept_with, none_kept}
 use Rattle.descriptor_doc.specs.Reading.{descriptor_of, max_descriptor, with_descriptor}
 use Rattle.descriptor_doc.specs.declared.descriptor.Descriptor.{Descriptor}
+use Rattle.descriptor_parts.proofs.OneSection.{IsOneSection, one_section_is_all}
 
 abbrev pub Said : Type 0
 Said = Value DescriptorValue
@@ -32,11 +31,11 @@ of_section taken used = record { groups = group tt taken ∷ []; used = used }
 
 -- the last item of the section
 abbrev pub last_keyword : Keyword
-last_keyword = kinds_are_sound.one_descriptor.last
+last_keyword = the.RouterSignature
 
 -- the items are those of a descriptor's section
 abbrev pub AreItems : List Item → List DescriptorTaken → ℕ → Type 0
-AreItems items taken used = IsOneSection descriptor_tables last_keyword items taken used
+AreItems items taken used = IsOneSection items taken used
 
 -- what the bytes say, of which this document was read
 abbrev pub says_of : List ℕ → Result DescriptorDocument ReadRefusal → Result (Descriptor × ℕ) ReadRefusal
@@ -60,7 +59,7 @@ pub are_items : (length_ : ℕ) (bytes : List ℕ) (taken : List DescriptorTaken
 are_items length_ bytes taken used is =
     let items = (items_of max_descriptor bytes).items in
     let all =
-    one_section_is_all descriptor_tables kinds_are_sound.descriptors kinds_are_sound.one_descriptor length_
+    one_section_is_all length_
     (items_of max_descriptor bytes) (of_section taken used) is in
     let same_taken : all.0 ≡ taken = sym (ap (λ (d : DescriptorDocument). taken_in d.groups) all.2) in
     let same_used : all.1 ≡ used = sym (ap (λ (d : DescriptorDocument). d.used) all.2) in
@@ -85,7 +84,7 @@ is_read bytes d used is =
     by (Err refusal) e is = absurd (cc is)
     by (Ok document) e is =
         let all =
-        one_section_is_all descriptor_tables kinds_are_sound.descriptors kinds_are_sound.one_descriptor (length bytes)
+        one_section_is_all (length bytes)
         (items_of max_descriptor bytes) document e in
         let found : says_of bytes (Ok (of_section all.0 all.1)) ≡ Ok (d, used) =
         sym (ap (λ (o : DescriptorDocument). says_of bytes (Ok o)) all.2) ∙ is in

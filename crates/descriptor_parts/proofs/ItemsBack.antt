@@ -13,12 +13,12 @@ use Rattle.frame_terms.specs.declared.fault.FrameFault.{FrameFault}
 use Rattle.frame_values.specs.Faults.{at_place}
 use Rattle.table_laws.specs.Counts.{IsCount, times}
 use Rattle.table_laws.specs.Items.{IsItemOf}
-use Rattle.table_laws.specs.OneSection.{AreInside, IsRegarded}
 use Rattle.table_laws.specs.Passing.{IsPassedIn}
 use Rattle.descriptor_frame.specs.Lines.{value_at}
 use Rattle.descriptor_frame.specs.Tables.{descriptor_tables}
 use Rattle.descriptor_frame.specs.declared.said.DescriptorKind.{DescriptorKind}
 use Rattle.part_laws.specs.Moved.{moved}
+use Rattle.descriptor_parts.proofs.OneSection.{AreInside, IsRegarded}
 use Rattle.descriptor_parts.proofs.DescriptorDocument.{AreItems, DescriptorTaken, Said, last_keyword}
 use Rattle.descriptor_parts.proofs.MovedFields.{moved_result, moved_said, moved_taken}
 use Rattle.descriptor_parts.proofs.MovedSaid.{value_moved}
@@ -92,10 +92,10 @@ record IsRegardedBack (n : ℕ) (remembered : Unit {0}) (item : Item) (one : Des
     (next : Unit {0}) : Type 0 where
   one_ : DescriptorTaken
   same_ : moved_taken n one_ ≡ one
-  is : IsRegarded descriptor_tables remembered item one_ next
+  is : IsRegarded remembered item one_ next
 
 regarded_back : (n : ℕ) (remembered : Unit {0}) (item : Item) (one : DescriptorTaken) (next : Unit {0})
-    → IsRegarded descriptor_tables remembered (moved n item) one next → IsRegardedBack n remembered item one next
+    → IsRegarded remembered (moved n item) one next → IsRegardedBack n remembered item one next
 regarded_back n remembered item one next is =
     let back = item_back n remembered item one is.said in
     record { one_ = back.one_; same_ = back.same_; is = record { said = back.is; regarded = refl; note = is.note } }
@@ -107,23 +107,23 @@ passed_back n item (inr is) = absurd (cc is.ignored)
 
 -- ---- the items between
 
-record AreInsideBack (n : ℕ) (last : Keyword) (remembered : Unit {0}) (items : List Item)
+record AreInsideBack (n : ℕ) (remembered : Unit {0}) (items : List Item)
     (taken : List DescriptorTaken) (after : Unit {0}) : Type 0 where
   taken_ : List DescriptorTaken
   same_ : map (moved_taken n) taken_ ≡ taken
-  are : AreInside descriptor_tables last remembered items taken_ after
+  are : AreInside remembered items taken_ after
 
-inside_back : (n : ℕ) (last : Keyword) (remembered : Unit {0}) (items : List Item) (taken : List DescriptorTaken)
-    (after : Unit {0}) → AreInside descriptor_tables last remembered (map (moved n) items) taken after
-    → AreInsideBack n last remembered items taken after
-inside_back n last remembered [] taken after are =
+inside_back : (n : ℕ) (remembered : Unit {0}) (items : List Item) (taken : List DescriptorTaken)
+    (after : Unit {0}) → AreInside remembered (map (moved n) items) taken after
+    → AreInsideBack n remembered items taken after
+inside_back n remembered [] taken after are =
     record { taken_ = []; same_ = sym are.0; are = (refl, are.1) }
-inside_back n last remembered (item ∷ items) taken after (inl are) =
-    let more = inside_back n last remembered items taken after are.1 in
+inside_back n remembered (item ∷ items) taken after (inl are) =
+    let more = inside_back n remembered items taken after are.1 in
     record { taken_ = more.taken_; same_ = more.same_; are = inl (passed_back n item are.0, more.are) }
-inside_back n last remembered (item ∷ items) taken after (inr are) =
+inside_back n remembered (item ∷ items) taken after (inr are) =
     let one = regarded_back n remembered item are.0 are.2 are.4 in
-    let more = inside_back n last are.2 items are.1 after are.6 in
+    let more = inside_back n are.2 items are.1 after are.6 in
     let keyword = ap (λ (o : DescriptorTaken). o.keyword) one.same_ in
     record {
       taken_ = one.one_ ∷ more.taken_;
@@ -134,7 +134,7 @@ inside_back n last remembered (item ∷ items) taken after (inr are) =
         are.2,
         refl,
         one.is,
-        ap (λ (k : Keyword). same last k) keyword ∙ are.5,
+        ap (λ (k : Keyword). same the.RouterSignature k) keyword ∙ are.5,
         more.are,
       );
     }
@@ -222,12 +222,12 @@ section_back n items taken used are =
     item_back n descriptor_tables.start first.first_ are.first_one
     (subst (λ (i : Item). IsOf descriptor_tables.start i are.first_one) (sym first.first_is) are.opens) in
     let inside =
-    inside_back n last_keyword are.with_first middle.front_ are.between are.before_last
-    (subst (λ (l : List Item). AreInside descriptor_tables last_keyword are.with_first l are.between are.before_last)
+    inside_back n are.with_first middle.front_ are.between are.before_last
+    (subst (λ (l : List Item). AreInside are.with_first l are.between are.before_last)
     (sym middle.front_is) are.inside) in
     let last_one =
     regarded_back n are.before_last last.first_ are.last_one are.with_last
-    (subst (λ (i : Item). IsRegarded descriptor_tables are.before_last i are.last_one are.with_last)
+    (subst (λ (i : Item). IsRegarded are.before_last i are.last_one are.with_last)
     (sym last.first_is) are.ends) in
     let all = first_one.one_ ∷ (inside.taken_ ++ last_one.one_ ∷ []) in
     let same_all : map (moved_taken n) all ≡ taken =

@@ -16,14 +16,13 @@ use Rattle.frame_values.specs.Signatures.{has_words, object_if}
 use Rattle.frame_values.specs.Values.{item_at}
 use Rattle.frame_values.specs.declared.values.Value.TheVariants as value
 use Rattle.frame_laws.proofs.KnownWords.{same-sym, same-through}
-use Rattle.table_laws.specs.OneSection.{AreInside}
 use Rattle.table_laws.proofs.Openers.{row_of-one, row_of-same}
-use Rattle.kind_laws.proofs.SoundKinds.{kinds_are_sound}
 use Rattle.descriptor_frame.specs.Lines.{value_at}
 use Rattle.descriptor_frame.specs.Tables.{descriptor_tables, rows}
 use Rattle.descriptor_frame.specs.declared.said.DescriptorKind.{DescriptorKind}
 use Rattle.descriptor_frame.specs.declared.said.DescriptorKind.TheVariants as kind
 use Rattle.part_laws.specs.Parts.{EndWithObjects}
+use Rattle.descriptor_parts.proofs.OneSection.{AreInside}
 use Rattle.descriptor_parts.proofs.DescriptorDocument.{AreItems, DescriptorTaken, Said, last_keyword}
 
 -- ---- descriptors end with their last item's object
@@ -71,11 +70,7 @@ descriptors_end = record {
 
 -- the last keyword is that of the signature
 last_is : last_keyword ≡ the.RouterSignature
-last_is = ap keyword_or (sym kinds_are_sound.one_descriptor.ends)
-  where
-    keyword_or : Option Keyword → Keyword
-    keyword_or None = the.RouterSignature
-    keyword_or (Some keyword) = keyword
+last_is = refl
 
 -- the last item has an object
 pub last_object : (items : List Item) (taken : List DescriptorTaken) (used : ℕ) (are : AreItems items taken used)
@@ -109,7 +104,7 @@ unfolding same
 router_apart = refl
 
 passed : (remembered : Unit {0}) (items : List Item) (taken : List DescriptorTaken) (after : Unit {0})
-    (one : DescriptorTaken) → AreInside descriptor_tables last_keyword remembered items taken after
+    (one : DescriptorTaken) → AreInside remembered items taken after
     → same one.keyword the.RouterSignature ≡ true
     → item_at (taken ++ one ∷ []) the.RouterSignature ≡ Some one
 passed remembered [] taken after one are last =

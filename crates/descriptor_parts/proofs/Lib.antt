@@ -1,3 +1,4 @@
+pub mod OneSection
 pub mod DescriptorDocument
 pub mod FaultsBack
 pub mod LinesBack

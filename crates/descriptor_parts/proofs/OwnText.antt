@@ -17,10 +17,9 @@ use Rattle.part_laws.proofs.LastLines.{last_lines}
 use Rattle.part_laws.proofs.LinesTogether.{sizes_all}
 use Rattle.part_laws.proofs.OwnLines.{hold}
 use Rattle.part_laws.proofs.SoundLines.{some_lines, within_all}
-use Rattle.table_laws.proofs.OneSection.{one_section_is_read}
-use Rattle.kind_laws.proofs.SoundKinds.{kinds_are_sound}
 use Rattle.descriptor_frame.specs.Tables.{descriptor_tables}
 use Rattle.descriptor_doc.specs.Reading.{max_descriptor}
+use Rattle.descriptor_parts.proofs.OneSection.{one_section_is_read}
 use Rattle.descriptor_parts.proofs.DescriptorDocument.{AreItems, DescriptorTaken, of_section}
 use Rattle.descriptor_parts.proofs.ItemsBack.{section_back}
 use Rattle.descriptor_parts.proofs.LastItem.{last_object}
@@ -140,7 +139,7 @@ module _ (part : List ℕ) (taken : List DescriptorTaken) (used : ℕ) (size_ : 
         same_taken = section.same_taken;
         whole = omega (arith, same_used, size_, left);
         read =
-            one_section_is_read descriptor_tables kinds_are_sound.one_descriptor (length text)
+            one_section_is_read (length text)
             (items_of max_descriptor text) section.taken_ section.used_ own_are;
         items = own_are;
         begins = omega (arith, place, stands);
