@@ -1,0 +1,6 @@
+pub mod PoliciesRead
+pub mod PortsRead
+pub mod WordsRead
+pub mod KeysRead
+pub mod ItemsSay
+pub mod DescriptorValues
