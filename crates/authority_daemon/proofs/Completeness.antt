@@ -21,7 +21,7 @@ not_refused rules (command.Check named) bytes why can answer = absurd (document.
 not_refused rules (command.Show named) bytes why can answer = absurd (document.show_not_refused named bytes why can answer)
 
 module _ {S C V N : Type 0} (rules : Rules) (given : Option Command) (old new : Moment S C V N) where
-  refused : Refusal → Status
+  abbrev refused : Refusal → Status
   refused why = status.Refused why
 
   -- A status that meets the clauses of a run is 'done', or 'no memory'.
