@@ -1,0 +1,3 @@
+pub mod StationReads
+pub mod StationStands
+pub mod StationKept

@@ -1,0 +1,222 @@
+-- What is read of a station input is in range.
+use Rattle.std.proofs.Common.{◌≡◌, ℕ, true, List, [], ◌∷◌, length, Option, Some, None, refl, sym, subst}
+use Rattle.std.proofs.Common.{Result, Ok, Err, arith, inl, inr}
+use Rattle.std.specs.Prelude.{All, IfSome, is_some, option_map}
+use Rattle.std.proofs.lemmas.List.Elements.{All-head, All-tail}
+use Rattle.base64.specs.GeneralPurpose.{IsBytes}
+use Rattle.item_terms.specs.Items.{Item, items_of}
+use Rattle.dirdoc_grammar.specs.Writing.{IsLineRest}
+use Rattle.frame_terms.specs.Documents.{Document, document_of, finish, group}
+use Rattle.frame_terms.specs.Keywords.{same}
+use Rattle.frame_terms.specs.Rows.{row}
+use Rattle.frame_terms.specs.declared.fault.ReadRefusal.{ReadRefusal}
+use Rattle.frame_terms.specs.declared.keyword.Keyword.TheVariants as the
+use Rattle.frame_terms.specs.declared.row.Count.TheVariants.{One, Optional}
+use Rattle.frame_values.specs.Parts.{part}
+use Rattle.frame_values.specs.Values.{item_at, own_of_value, text_if}
+use Rattle.frame_values.specs.declared.found.Span.{Span}
+use Rattle.frame_values.specs.declared.values.Value.{Value}
+use Rattle.frame_values.specs.declared.values.Value.TheVariants as value
+use Rattle.list_laws.specs.Ranges.{AreProtocolsInRange, AreVersionsInRange}
+use Rattle.list_lines.specs.Listed.{params_in, protocols_in, versions_in}
+use Rattle.authority_certs.specs.Certs.{cert_in}
+use Rattle.authority_certs.specs.Heads.{head_of, no_head}
+use Rattle.authority_certs.specs.declared.head.CertHead.{CertHead}
+use Rattle.certificate_laws.specs.Again.{SaysInRange}
+use Rattle.table_laws.specs.Counts.{RowsStand}
+use Rattle.table_laws.specs.Items.{AreItemsIn}
+use Rattle.table_laws.proofs.Counting.{stand_as_often}
+use Rattle.table_laws.proofs.Taking.{are_said}
+use Rattle.vote_laws.specs.Again.{AreListsInRange, AreVoteParams}
+use Rattle.range_laws.proofs.CertRanges.{TextIs, has_bytes, section_says, text_ranged, twenty_zeros}
+use Rattle.range_laws.proofs.LineReads.{IsSourceIn}
+use Rattle.range_laws.proofs.ReadLists.{params_ranged, protocols_ranged, versions_ranged}
+use Rattle.range_laws.proofs.Saying.{EachSound, all_sound, each_stands}
+use Rattle.range_laws.proofs.VoteReads.{AreFew}
+use Rattle.station_frame.specs.Tables.{station_tables}
+use Rattle.station_frame.specs.declared.frame.StationKind.TheVariants as kind
+use Rattle.station_frame.specs.declared.frame.StationSection.{StationSection}
+use Rattle.station_frame.specs.declared.frame.StationSection.TheVariants as its
+use Rattle.station_frame.specs.declared.said.StationValue.{StationValue}
+use Rattle.station_frame.specs.declared.said.StationValue.TheVariants as own
+use Rattle.station_input.specs.Kept.{kept_with, none_kept}
+use Rattle.station_input.specs.Lists.{lists_in, vote_lists}
+use Rattle.station_input.specs.Reading.{max_station, with_facts}
+use Rattle.station_input.specs.Saying.{measured_in, source_in, source_of_value}
+use Rattle.station_laws.proofs.KeptLines.{AreSections, facts_in, groups_are, same_facts, sections_are}
+use Rattle.station_laws.proofs.NamedOnce.{StationGroup}
+use Rattle.station_ranges.specs.Ranges.{HasKeyBytes, IsMeasuredInRange, IsStationInRange, StationsReadAreInRange}
+use Rattle.station_ranges.proofs.StationReads.{SourceIs, params_say, rest_says, source_says}
+use Rattle.station_ranges.proofs.StationStands.{EachStationStands, StationTaken, certificates, item_says}
+use Rattle.station_ranges.proofs.StationStands.{measured_ranged}
+use Rattle.station_ranges.proofs.StationStands.{own_there}
+
+-- ---- lists
+
+made_if : {A : Type 0} (P : List ℕ → Type 0) (Q : A → Type 0) (of : List ℕ → A) (text : Option (List ℕ))
+    → IfSome text P
+    → ((t : List ℕ) → P t → Q (of t)) → IfSome (option_map of text) Q
+made_if P Q of None is made = tt
+made_if P Q of (Some text) is made = made text is
+
+any_text : (text : Option (List ℕ)) → IfSome text (λ t. Unit {0})
+any_text None = tt
+any_text (Some text) = tt
+
+params_few : (text : List ℕ) → AreFew 1024 text → AreVoteParams (params_in text)
+params_few text few =
+    let are = params_ranged text in record { count = omega (arith, few, are.1); each = are.0 }
+
+versions_at : (bytes : List ℕ) (span : Option Span)
+    → IfSome (option_map versions_in (option_map (part bytes) span)) AreVersionsInRange
+versions_at bytes span =
+    let text = option_map (part bytes) span in
+    made_if (λ t. Unit {0}) AreVersionsInRange versions_in text (any_text text) (λ t is. versions_ranged t)
+
+protocols_at : (bytes : List ℕ) (span : Option Span)
+    → IfSome (option_map protocols_in (option_map (part bytes) span)) AreProtocolsInRange
+protocols_at bytes span =
+    let text = option_map (part bytes) span in
+    made_if (λ t. Unit {0}) AreProtocolsInRange protocols_in text (any_text text) (λ t is. protocols_ranged t)
+
+-- ---- the station's section
+
+-- what items of it say
+record SectionSays (bytes : List ℕ) (taken : List StationTaken) : Type 0 where
+  source : IsSourceIn bytes (source_in (item_at taken the.Own))
+  contact : IfSome (option_map (part bytes) (text_if (item_at taken the.Contact))) IsLineRest
+  params : IfSome (option_map (part bytes) (text_if (item_at taken the.Params))) (AreFew 1024)
+  measured : All IsMeasuredInRange (measured_in taken)
+
+source_ranged : (bytes : List ℕ) (one : Option StationTaken) → is_some one ≡ true
+    → IfSome one (λ o. SourceIs bytes o.value) → IsSourceIn bytes (source_in one)
+source_ranged bytes None some is = absurd (cc (some))
+source_ranged bytes (Some one) some is = by one.value is
+  where
+    by : (v : Value StationValue) → SourceIs bytes v → IsSourceIn bytes (source_of_value (own_of_value v))
+    by (value.Own (own.Source source)) it = it
+    by _ it = absurd it
+
+section_ranged : (bytes : List ℕ) (taken : List StationTaken) → EachStationStands bytes its.Station taken
+    → RowsStand station_tables its.Station taken → SectionSays bytes taken
+unfolding same
+section_ranged bytes taken each counts = record {
+  source = source_ranged bytes (item_at taken the.Own) (own_there taken counts)
+      (item_says bytes (SourceIs bytes) taken the.Own (row the.Own One kind.Source) refl
+      (λ v says. source_says says) each);
+  contact = text_ranged IsLineRest bytes (item_at taken the.Contact)
+      (item_says bytes (TextIs IsLineRest bytes) taken the.Contact (row the.Contact Optional kind.Rest) refl
+      (λ v says. rest_says says) each);
+  params = text_ranged (AreFew 1024) bytes (item_at taken the.Params)
+      (item_says bytes (TextIs (AreFew 1024) bytes) taken the.Params (row the.Params Optional kind.Params) refl
+      (λ v says. params_say says) each);
+  measured = measured_ranged bytes its.Station taken each;
+}
+
+lists_ranged : (bytes : List ℕ) (taken : List StationTaken)
+    → IfSome (option_map (part bytes) (text_if (item_at taken the.Params))) (AreFew 1024)
+    → AreListsInRange (vote_lists bytes (lists_in taken))
+lists_ranged bytes taken few = record {
+  client_versions = versions_at bytes (text_if (item_at taken the.ClientVersions));
+  server_versions = versions_at bytes (text_if (item_at taken the.ServerVersions));
+  recommended_client_protocols = protocols_at bytes (text_if (item_at taken the.RecommendedClientProtocols));
+  recommended_relay_protocols = protocols_at bytes (text_if (item_at taken the.RecommendedRelayProtocols));
+  required_client_protocols = protocols_at bytes (text_if (item_at taken the.RequiredClientProtocols));
+  required_relay_protocols = protocols_at bytes (text_if (item_at taken the.RequiredRelayProtocols));
+  params = made_if (AreFew 1024) AreVoteParams params_in (option_map (part bytes) (text_if
+      (item_at taken the.Params))) few
+      params_few;
+}
+
+-- ---- all that is read
+
+keys_of : (bytes : List ℕ) (head : CertHead) → IsBytes bytes → HasKeyBytes (cert_in bytes head)
+keys_of bytes head are =
+    let keys = has_bytes bytes head are in
+    record {
+      identity_key = keys.identity_key;
+      signing_key = keys.signing_key;
+      crosscert = keys.crosscert;
+      certification = keys.certification;
+    }
+
+-- of a certificate that was not read too
+none_says : (bytes : List ℕ) → SaysInRange (cert_in bytes no_head)
+none_says bytes =
+    record { address = tt; fingerprint = twenty_zeros; published = omega arith; expires = omega arith }
+
+abbrev AreFrom : List Item → StationGroup → Type 0
+AreFrom items g = AreItemsIn station_tables g.section items g.taken
+
+abbrev CountsOf : StationGroup → Type 0
+CountsOf g = RowsStand station_tables g.section g.taken
+
+facts_ranged : (bytes : List ℕ) (items : List Item) (groups : List StationGroup) (taken : List StationTaken)
+    → IsBytes bytes → EachSound bytes items → AreSections groups taken → All (AreFrom items) groups
+    → All CountsOf groups
+    → IsStationInRange (facts_in bytes groups)
+facts_ranged bytes items groups taken are sound (inl is) from counts =
+    let one : List StationGroup = group its.Station taken ∷ [] in
+    let here = All-head (AreFrom items) (group its.Station taken) []
+    (subst (λ (l : List StationGroup). All (AreFrom items) l) is from) in
+    let often = All-head CountsOf (group its.Station taken) []
+    (subst (λ (l : List StationGroup). All CountsOf l) is counts) in
+    let says = section_ranged bytes taken
+    (each_stands station_tables bytes its.Station items taken sound here) often in
+    subst (λ (l : List StationGroup). IsStationInRange (facts_in bytes l)) (sym is) (record {
+      nickname = says.source.nickname;
+      identity = says.source.identity;
+      address = says.source.address;
+      ip = says.source.ip;
+      dir_port = says.source.dir_port;
+      or_port = says.source.or_port;
+      contact = says.contact;
+      lists = lists_ranged bytes taken says.params;
+      measured = says.measured;
+      certificate = none_says bytes;
+      keys = keys_of bytes no_head are;
+    })
+facts_ranged bytes items groups taken are sound (inr (inside, is)) from counts =
+    let first : StationGroup = group its.Certificate inside in
+    let second : StationGroup = group its.Station taken in
+    let all_from = subst (λ (l : List StationGroup). All (AreFrom items) l) is from in
+    let all_counts = subst (λ (l : List StationGroup). All CountsOf l) is counts in
+    let there = All-head (AreFrom items) first (second ∷ []) all_from in
+    let here = All-head (AreFrom items) second [] (All-tail (AreFrom items) first (second ∷ []) all_from) in
+    let often = All-head CountsOf second [] (All-tail CountsOf first (second ∷ []) all_counts) in
+    let says = section_ranged bytes taken
+    (each_stands station_tables bytes its.Station items taken sound here) often in
+    let certificate : SaysInRange (cert_in bytes (head_of inside)) =
+    section_says station_tables its.Certificate kind.Certificate certificates bytes inside
+    (each_stands station_tables bytes its.Certificate items inside sound there) in
+    subst (λ (l : List StationGroup). IsStationInRange (facts_in bytes l)) (sym is) (record {
+      nickname = says.source.nickname;
+      identity = says.source.identity;
+      address = says.source.address;
+      ip = says.source.ip;
+      dir_port = says.source.dir_port;
+      or_port = says.source.or_port;
+      contact = says.contact;
+      lists = lists_ranged bytes taken says.params;
+      measured = says.measured;
+      certificate = certificate;
+      keys = keys_of bytes (head_of inside) are;
+    })
+
+-- ---- the law
+
+pub station_in_range : StationsReadAreInRange
+station_in_range bytes facts used are is =
+    by (document_of station_tables (length bytes) (items_of max_station bytes)) refl is
+  where
+    by : (read : Result (Document StationSection (Value StationValue)) ReadRefusal)
+        → document_of station_tables (length bytes) (items_of max_station bytes) ≡ read
+        → with_facts bytes (finish kept_with none_kept read) ≡ Ok (facts, used) → IsStationInRange facts
+    by (Err refusal) got e = absurd (cc (e))
+    by (Ok document) got e =
+        let contents = items_of max_station bytes in
+        let has = sections_are bytes document got in
+        subst IsStationInRange (same_facts (facts_in bytes document.groups) facts document.used used e)
+        (facts_ranged bytes contents.items document.groups has.part.whole.taken are (all_sound 0 max_station bytes)
+        (groups_are document has) (are_said station_tables (length bytes) contents document got)
+        (stand_as_often station_tables (length bytes) contents document got))
