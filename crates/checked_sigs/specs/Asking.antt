@@ -12,7 +12,8 @@ use Rattle.detached_doc.specs.declared.detached.DetachedLine.{DetachedLine}
 use Rattle.detached_sigs.specs.declared.key.SignerKey.{SignerKey}
 use Rattle.detached_sigs.specs.Signers.{is_line_of}
 use Rattle.period_terms.specs.declared.signature.OfferedSignature.{OfferedSignature}
-use Rattle.checked_sigs.specs.declared.view.PeriodView.{PeriodView}
+use Rattle.signature_terms.specs.Offered.{offered}
+use Rattle.signature_terms.specs.declared.view.PeriodView.{PeriodView}
 
 -- the flavour of these names of a flavour and an algorithm, where both are known: ns, which is not named, with SHA-1,
 -- and microdesc with SHA-256
@@ -44,24 +45,12 @@ digest_over d Microdesc = micro_digest d.additional
 abbrev pub key_of : List SignerKey → SignatureLine → Option SignerKey
 key_of keys line = find (λ (key : SignerKey). is_line_of key line) keys
 
--- a line as it is offered to a station: for a period, over a digest of a flavour, by a key
-abbrev pub offer_of : ℕ → Flavour → List ℕ → List ℕ → SignatureLine → OfferedSignature
-offer_of valid_after flavour digest key line = record {
-  authority = line.identity;
-  key = key;
-  key_digest = line.key_digest;
-  flavour = flavour;
-  valid_after = valid_after;
-  digest = digest;
-  signature = line.signature;
-}
-
 -- a line as it is offered, where its flavour, its digest and its key are known
 abbrev pub offered_by : PeriodView → Detached → DetachedLine → Option OfferedSignature
 offered_by view d line =
     option_and_then (λ (flavour : Flavour).
     option_and_then (λ (digest : List ℕ).
-    option_map (λ (key : SignerKey). offer_of d.valid_after flavour digest key.key line.line)
+    option_map (λ (key : SignerKey). offered d.valid_after flavour digest key.key line.line)
     (key_of view.keys line.line))
     (digest_over d flavour))
     (flavour_of line)

@@ -5,10 +5,7 @@
 mod checking;
 mod over;
 mod report;
-mod signature;
-mod view;
 
 pub use checking::check_signatures;
 pub use report::{SigRefusal, SigReport};
-pub use signature::CheckedSig;
-pub use view::PeriodView;
+pub use signature_terms::{CheckedSig, PeriodView};

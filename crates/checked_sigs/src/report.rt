@@ -1,8 +1,8 @@
 // What comes of checking detached signatures.
-use crate::signature::CheckedSig;
 use dir_bytes::Seq;
 use frame_terms::FrameFault;
 use key_port::Verifier;
+use signature_terms::CheckedSig;
 
 /// What came of each line of detached signatures.
 #[derive(Drop)]
