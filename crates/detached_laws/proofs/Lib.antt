@@ -1,0 +1,9 @@
+pub mod DetachedLines
+pub mod DetachedOrder
+pub mod DetachedRows
+pub mod DetachedSaid
+pub mod ReadItems
+pub mod DigestsSay
+pub mod LinesSay
+pub mod DetachedSays
+pub mod DetachedAgain
