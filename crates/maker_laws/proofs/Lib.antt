@@ -1,0 +1,12 @@
+pub mod RestWords
+pub mod ThirtyTwo
+pub mod ObjectFits
+pub mod RulingLaws
+pub mod EntryRanges
+pub mod MadeEntries
+pub mod MadeFacts
+pub mod MadeLimits
+pub mod ShortTexts
+pub mod ShortEntries
+pub mod ShortPreamble
+pub mod MadeRead

@@ -1,0 +1,137 @@
+-- The entries that are made of descriptors that are in range are in range.
+use Rattle.std.proofs.Common.{◌≡◌, ℕ, ◌≤◌, Bool, true, false, List, [], ◌∷◌, length, map, filter, get_or}
+use Rattle.std.proofs.Common.{Option, Some, None, refl, sym, ◌∙◌, arith}
+use Rattle.std.specs.Prelude.{All, AllPairs}
+use Rattle.std.specs.Prelude.{not, ◌||◌, if◌then◌else◌}
+use Rattle.std.specs.List.{list_any}
+use Rattle.std.proofs.lemmas.Bool.{and_from, and_parts, false≢true, not-true}
+use Rattle.std.proofs.lemmas.List.Elements.{All-cons, All-filter, All-head, All-map, All-nil, All-tail, filter_passes}
+use Rattle.std.proofs.lemmas.List.Kept.{AllPairs-filter}
+use Rattle.std.proofs.lemmas.Slice.Eq.{bytes_eq-Decides}
+use Rattle.dir_values.specs.Digests.{identity_below}
+use Rattle.dir_values.proofs.Orders.{AllPairs-cons, AllPairs-head, AllPairs-nil, AllPairs-tail}
+use Rattle.ed_certs.specs.declared.certificate.EdCert.{EdCert}
+use Rattle.relay_entries.specs.declared.said.EdOpinion.TheVariants as opinion
+use Rattle.descriptor_doc.specs.declared.descriptor.Descriptor.{Descriptor}
+use Rattle.flag_rules.specs.Rulings.{is_reject}
+use Rattle.flag_rules.specs.declared.flags.Flags.{Flags}
+use Rattle.flag_rules.specs.declared.relay.RuledRelay.{RuledRelay}
+use Rattle.vote_pool.specs.Pools.{DescriptorsAscend, most_relays}
+use Rattle.vote_terms.specs.declared.entry.EntryFacts.{EntryFacts}
+use Rattle.vote_laws.specs.Again.{AreEntriesInRange, DifferInKey, IsEntryInRange}
+use Rattle.vote_maker.specs.Entries.{opinion_of}
+use Rattle.vote_maker.specs.Listings.{JudgedRelay, entry_of_judged, goes_before, has_entry, judged_relays}
+use Rattle.vote_maker.specs.Listings.{made_entries}
+use Rattle.vote_maker.specs.Listings.{listed_relays, same_key}
+use Rattle.range_laws.proofs.EntryTexts.{HasRests}
+use Rattle.range_laws.proofs.KeptEntries.{count_map}
+use Rattle.maker_laws.proofs.EntryRanges.{IsJudgedInRange, IsBelow, judged_ascend, judged_few, entry_ranged, entry_rests}
+
+-- ---- no two of one key
+
+none_any : {X : Type 0} (p : X → Bool) (xs : List X) → list_any p xs ≡ false → All (λ x. p x ≡ false) xs
+none_any p [] is = All-nil (λ x. p x ≡ false)
+none_any {X} p (x ∷ xs) is = by (λ found. none_any p xs found) (p x) refl is
+  where
+    by : (list_any p xs ≡ false → All (λ y. p y ≡ false) xs) → (t : Bool) → p x ≡ t → (t || list_any p xs) ≡ false
+        → All (λ y. p y ≡ false) (x ∷ xs)
+    by again true e found = absurd (cc (found))
+    by again false e found = All-cons (λ y. p y ≡ false) x xs e (again found)
+
+key_same : (x y : Option EdCert) (key : List ℕ) → opinion_of x ≡ opinion.Key key → opinion_of y ≡ opinion.Key key
+    → same_key x y ≡ true
+key_same None y key first second = absurd (cc (first))
+key_same (Some c) None key first second = absurd (cc (second))
+key_same (Some c) (Some d) key first second =
+    let one : c.signer ≡ key = cc in
+    let other : d.signer ≡ key = cc in
+    (bytes_eq-Decides c.signer d.signer).1 (one ∙ sym other)
+
+module _ (relays : List JudgedRelay) where
+  abbrev Has : JudgedRelay → Type 0
+  Has one = has_entry relays one ≡ true
+
+  -- it goes before none that has an entry
+  abbrev Yields : JudgedRelay → Type 0
+  Yields other = (one : JudgedRelay) → has_entry relays one ≡ true → goes_before other one ≡ false
+
+  all_yield : All Yields relays
+  all_yield k d lt one has =
+      let none : list_any (λ (other : JudgedRelay). goes_before other one) relays ≡ false =
+      not-true _ (and_parts (not (is_reject one.ruled.ruling)) _ has).1 in
+      none_any (λ (other : JudgedRelay). goes_before other one) relays none k d lt
+
+  two_apart : (a b : JudgedRelay) → IsBelow a b → Yields a → Has a → Has b
+      → DifferInKey (entry_of_judged a) (entry_of_judged b)
+  two_apart a b below yields has_a has_b key first second =
+      let kept = (and_parts (not (is_reject a.ruled.ruling)) _ has_a).0 in
+      let same = key_same a.descriptor.identity_ed25519 b.descriptor.identity_ed25519 key first second in
+      let before : goes_before a b ≡ true = and_from _ _ below (and_from _ _ kept same) in
+      false≢true (sym (yields b has_b) ∙ before)
+
+  abbrev IsApart : JudgedRelay → JudgedRelay → Type 0
+  IsApart a b = DifferInKey (entry_of_judged a) (entry_of_judged b)
+
+  all_apart : (list : List JudgedRelay) → AllPairs IsBelow list → All Yields list → All Has list
+      → AllPairs IsApart list
+  all_apart [] below yield_ have = AllPairs-nil IsApart
+  all_apart (a ∷ list) below yield_ have =
+      AllPairs-cons IsApart a list
+      (λ k d lt. two_apart a (get_or list k d) (AllPairs-head IsBelow a list below k d lt)
+      (All-head Yields a list yield_) (All-head Has a list have) (All-tail Has a list have k d lt))
+      (all_apart list (AllPairs-tail IsBelow a list below) (All-tail Yields a list yield_) (All-tail Has a list have))
+
+  listed_apart : AllPairs IsBelow relays → AllPairs IsApart (listed_relays relays)
+  listed_apart below =
+      all_apart (listed_relays relays) (AllPairs-filter IsBelow (has_entry relays) relays below)
+      (All-filter (has_entry relays) Yields relays all_yield) (filter_passes (has_entry relays) relays)
+
+-- ---- all of them
+
+all_pairs_map : {X Y : Type 0} (R : Y → Y → Type 0) (f : X → Y) (xs : List X) → AllPairs (λ a b. R (f a) (f b)) xs
+    → AllPairs R (map f xs)
+all_pairs_map R f [] pairs = AllPairs-nil R
+all_pairs_map R f (x ∷ xs) pairs =
+    AllPairs-cons R (f x) (map f xs) (All-map (R (f x)) f xs (AllPairs-head (λ a b. R (f a) (f b)) x xs pairs))
+    (all_pairs_map R f xs (AllPairs-tail (λ a b. R (f a) (f b)) x xs pairs))
+
+pub few_pass : {X : Type 0} (p : X → Bool) (xs : List X) → length (filter p xs) ≤ length xs
+few_pass p [] = omega arith
+few_pass {X} p (x ∷ xs) = by (p x) (few_pass p xs)
+  where
+    by : (t : Bool) → length (filter p xs) ≤ length xs
+        → length (if t then x ∷ filter p xs else filter p xs) ≤ length (x ∷ xs)
+    by true more = omega (arith, more)
+    by false more = omega (arith, more)
+
+-- the entries of relays of a pool
+pub entries_ranged : (ds : List Descriptor) (ruled : List RuledRelay) (flags : List Flags) → DescriptorsAscend ds
+    → length ds ≤ most_relays → All IsJudgedInRange (judged_relays ds ruled flags)
+    → AreEntriesInRange (made_entries (judged_relays ds ruled flags))
+entries_ranged ds ruled flags up few all =
+    let relays = judged_relays ds ruled flags in
+    let listed = listed_relays relays in
+    let below = judged_ascend ds ruled flags up in
+    record {
+      count = omega (
+        arith,
+        few,
+        judged_few ds ruled flags,
+        few_pass (has_entry relays) relays,
+        count_map entry_of_judged listed,
+      );
+      each = All-map IsEntryInRange entry_of_judged listed
+          (λ k d lt. entry_ranged (get_or listed k d)
+          (All-filter (has_entry relays) IsJudgedInRange relays all k d lt));
+      ascending = all_pairs_map (λ (a b : EntryFacts). identity_below a.identity b.identity
+          ≡ true) entry_of_judged listed
+          (AllPairs-filter IsBelow (has_entry relays) relays below);
+      keys = all_pairs_map DifferInKey entry_of_judged listed (listed_apart relays below);
+    }
+
+-- the rests of their lines
+pub entries_rests : (relays : List JudgedRelay) → All IsJudgedInRange relays → All HasRests (made_entries relays)
+entries_rests relays all =
+    let listed = listed_relays relays in
+    All-map HasRests entry_of_judged listed
+    (λ k d lt. entry_rests (get_or listed k d) (All-filter (has_entry relays) IsJudgedInRange relays all k d lt))

@@ -1,0 +1,163 @@
+-- What is made of what is in range says what can be read, and its items may be written.
+use Rattle.std.proofs.Common.{◌≡◌, ℕ, ◌≤◌, List, [], ◌∷◌, ◌++◌, refl, subst}
+use Rattle.std.proofs.Common.{arith}
+use Rattle.std.specs.Prelude.{All}
+use Rattle.std.proofs.lemmas.List.Elements.{All-append, All-cons, All-head, All-nil, All-tail}
+use Rattle.std.proofs.lemmas.List.Sums.{AllPass-from_list_all}
+use Rattle.dir_values.specs.FlagSets.{Ascend, as_set}
+use Rattle.dir_values.specs.FlagSets.{is_name}
+use Rattle.dir_values.proofs.Flags.{Ascend-as_set}
+use Rattle.dirdoc_laws.specs.Written.{IsItem}
+use Rattle.authority_certs.specs.Texts.{cert_items}
+use Rattle.computed_laws.proofs.Digests.{twenty}
+use Rattle.descriptor_ranges.specs.Ranges.{IsDescriptorInRange}
+use Rattle.flag_rules.specs.Flags.{flags_of}
+use Rattle.flag_rules.specs.Relays.{ruled_relays}
+use Rattle.flag_rules.specs.declared.flags.Flags.{Flags}
+use Rattle.flag_rules.specs.declared.relay.RuledRelay.{RuledRelay}
+use Rattle.flag_rules.specs.declared.ruling.Ruling.{Ruling}
+use Rattle.station_ranges.specs.Ranges.{IsStationInRange}
+use Rattle.vote_terms.specs.declared.facts.VoteFacts.{VoteFacts}
+use Rattle.vote_text.specs.Entries.{entries_items}
+use Rattle.vote_text.specs.Texts.{authority_items, footer_items, preamble_items}
+use Rattle.vote_laws.specs.Again.{AreEntriesInRange, AreFlags, AreMethods, HasValuesInRange, IsSignatureInRange}
+use Rattle.range_laws.proofs.EntryTexts.{HasRests}
+use Rattle.range_laws.proofs.VoteTexts.{SaysWhole, vote_may}
+use Rattle.vote_maker.specs.Entries.{made_methods}
+use Rattle.vote_maker.specs.Listings.{judged_relays}
+use Rattle.vote_maker.specs.Made.{Basis, made_flags, relays_in}
+use Rattle.maker_laws.specs.Given.{IsBasis}
+use Rattle.maker_laws.specs.ReadAsMade.{IsMadeInRangeButForLimits, IsSigning, signed_facts}
+use Rattle.maker_laws.proofs.EntryRanges.{IsJudgedInRange, judged_ranged}
+use Rattle.maker_laws.proofs.MadeEntries.{entries_ranged, entries_rests}
+
+-- ---- what is the same in every made vote
+
+abbrev Is32 : ℕ → Type 0
+Is32 n = n ≤ 4294967295
+
+methods_ranged : AreMethods made_methods
+methods_ranged = record {
+  count = omega arith;
+  each = All-cons Is32 32 (33 ∷ []) (omega arith) (All-cons Is32 33 [] (omega arith) (All-nil Is32));
+}
+
+are_set : as_set made_flags ≡ made_flags
+are_set = refl
+
+flags_ranged : AreFlags made_flags
+flags_ranged = record {
+  count = omega arith;
+  ascend = subst Ascend are_set (Ascend-as_set made_flags);
+  each = AllPass-from_list_all is_name made_flags refl;
+}
+
+-- ---- parts of a list
+
+front_of : {X : Type 0} (P : X → Type 0) (xs ys : List X) → All P (xs ++ ys) → All P xs
+front_of P [] ys all = All-nil P
+front_of P (x ∷ xs) ys all =
+    All-cons P x xs (All-head P x (xs ++ ys) all) (front_of P xs ys (All-tail P x (xs ++ ys) all))
+
+back_of : {X : Type 0} (P : X → Type 0) (xs ys : List X) → All P (xs ++ ys) → All P ys
+back_of P [] ys all = all
+back_of P (x ∷ xs) ys all = back_of P xs ys (All-tail P x (xs ++ ys) all)
+
+-- of a vote's items those before its certificate and those behind it
+before_and_behind : (facts : VoteFacts) → HasValuesInRange facts → SaysWhole facts → IsMadeInRangeButForLimits facts
+before_and_behind facts values says =
+    let p = preamble_items facts in
+    let a = authority_items facts in
+    let c = cert_items facts.certificate in
+    let e = entries_items facts.entries in
+    let f = footer_items facts.signature in
+    let all : All IsItem (p ++ a ++ c ++ e ++ f) = vote_may facts says in
+    let first = front_of IsItem (p ++ a ++ c ++ e) f all in
+    record {
+      values = values;
+      before = front_of IsItem (p ++ a) c (front_of IsItem (p ++ a ++ c) e first);
+      behind = All-append IsItem e f (back_of IsItem (p ++ a ++ c) e first) (back_of IsItem (p ++ a ++ c ++ e) f all);
+    }
+
+-- ---- what is made
+
+module _ (its : Basis) (rulings : List Ruling) (signature : List ℕ) (basis : IsBasis its)
+    (signing : IsSigning its rulings signature) (station : IsStationInRange its.station)
+    (descriptors : All IsDescriptorInRange its.descriptors) where
+  abbrev facts : VoteFacts
+  facts = signed_facts its rulings signature
+
+  abbrev ruled : List RuledRelay
+  ruled = ruled_relays (relays_in its) rulings
+
+  abbrev flags : List Flags
+  flags = flags_of its.moment ruled
+
+  judged : All IsJudgedInRange (judged_relays its.descriptors ruled flags)
+  judged = judged_ranged its.station.measured its.descriptors rulings flags station.measured descriptors
+
+  entries : AreEntriesInRange facts.entries
+  entries = entries_ranged its.descriptors ruled flags basis.ascend basis.few judged
+
+  rests : All HasRests facts.entries
+  rests = entries_rests (judged_relays its.descriptors ruled flags) judged
+
+  signed : IsSignatureInRange facts.signature
+  signed = record {
+    identity = station.certificate.fingerprint;
+    key_digest =
+        twenty its.station.certificate.signing_key;
+  }
+
+  values : HasValuesInRange facts
+  values =
+      let until = basis.until in
+      let short = basis.schedule.short in
+      let delays = basis.schedule.delays in
+      record {
+        methods = methods_ranged;
+        published = basis.moment;
+        valid_after = omega (arith, until);
+        fresh_until = omega (arith, until);
+        valid_until = until;
+        vote_seconds = omega (arith, short, delays);
+        dist_seconds = omega (arith, short, delays);
+        known_flags = flags_ranged;
+        lists = station.lists;
+        nickname = station.nickname;
+        identity = station.identity;
+        address = station.address;
+        ip = station.ip;
+        dir_port = station.dir_port;
+        or_port = station.or_port;
+        random_previous = tt;
+        random_current = tt;
+        entries = entries;
+        signature = signed;
+      }
+
+  says : SaysWhole facts
+  says = record {
+    methods = methods_ranged;
+    known_flags = flags_ranged;
+    flag_thresholds = tt;
+    lists = station.lists;
+    source = record { nickname = station.nickname; identity = station.identity; address = station.address };
+    contact = station.contact;
+    random_previous = tt;
+    random_current = tt;
+    certificate = station.certificate;
+    keys = record {
+      identity_key = station.keys.identity_key;
+      signing_key = station.keys.signing_key;
+      crosscert = station.keys.crosscert;
+      certification = station.keys.certification;
+    };
+    entries = entries.each;
+    rests = rests;
+    signature = signed;
+    signed = signing.bytes;
+  }
+
+  pub made_ranged : IsMadeInRangeButForLimits facts
+  made_ranged = before_and_behind facts values says

@@ -1,0 +1,157 @@
+-- A made vote is read as what it was made to say.
+use Rattle.std.proofs.Common.{ℕ, List, [], ◌∷◌, ◌++◌, Option, Some, None, refl}
+use Rattle.std.specs.Prelude.{All, codes, map, option_map}
+use Rattle.dir_bytes.specs.FieldTexts.{moment_text}
+use Rattle.dir_values.specs.FlagSets.{set_text}
+use Rattle.dir_values.specs.Numbers.{numbers_text}
+use Rattle.list_values.specs.Params.{params_text}
+use Rattle.list_values.specs.Protocols.{protocols_text}
+use Rattle.list_values.specs.VersionLists.{versions_text}
+use Rattle.list_values.specs.declared.named.Named.{Named}
+use Rattle.random_lines.specs.Values.{random_text}
+use Rattle.relay_entries.specs.Texts.{bandwidths_text, ed_text}
+use Rattle.frame_values.specs.Parts.{moment_of}
+use Rattle.std.proofs.lemmas.List.Elements.{All-append, All-cons, All-nil, All-weaker}
+use Rattle.dirdoc_grammar.specs.Writing.{NewItem}
+use Rattle.frame_terms.specs.declared.keyword.Keyword.{Keyword}
+use Rattle.frame_terms.specs.declared.keyword.Keyword.TheVariants as the
+use Rattle.frame_values.specs.Items.{bare, item_if}
+use Rattle.descriptor_doc.specs.declared.descriptor.Descriptor.{Descriptor}
+use Rattle.descriptor_ranges.specs.Ranges.{DescriptorsReadAreInRange, IsDescriptorInRange}
+use Rattle.flag_rules.specs.Flags.{flags_of}
+use Rattle.flag_rules.specs.Relays.{ruled_relays}
+use Rattle.made_laws.proofs.MadeAgain.{made_again}
+use Rattle.station_certs.proofs.GivenCert.{certificates_are_given}
+use Rattle.station_ranges.specs.Ranges.{IsStationInRange}
+use Rattle.station_ranges.proofs.StationKept.{station_in_range}
+use Rattle.vote_terms.specs.declared.entry.EntryFacts.{EntryFacts}
+use Rattle.vote_terms.specs.declared.facts.VoteFacts.{VoteFacts}
+use Rattle.vote_text.specs.Entries.{entries_items, entry_items, items_each, line_of, micro_line}
+use Rattle.vote_text.specs.Lists.{param_items, protocol_items, recommended_items, required_items, version_items}
+use Rattle.vote_text.specs.Texts.{authority_items, delays_text, flag_items, kind_items, preamble_items, random_items}
+use Rattle.vote_text.specs.Texts.{source_text, time_items}
+use Rattle.vote_maker.specs.Listings.{judged_relays}
+use Rattle.vote_maker.specs.Made.{Basis, relays_in}
+use Rattle.maker_laws.specs.Given.{IsBasis, IsDescriptor}
+use Rattle.maker_laws.specs.ReadAsMade.{MadeAreInRange, MadeVotesReadAsMade, signed_facts}
+use Rattle.maker_laws.proofs.EntryRanges.{judged_ranged}
+use Rattle.maker_laws.proofs.MadeFacts.{made_ranged}
+use Rattle.maker_laws.proofs.MadeLimits.{HasNone, made_in_range}
+use Rattle.maker_laws.proofs.ShortEntries.{made_short}
+use Rattle.maker_laws.proofs.ShortPreamble.{before_short}
+
+-- ---- what was read
+
+station_ranged : (its : Basis) → IsBasis its → IsStationInRange its.station
+station_ranged its basis =
+    let read = basis.station in station_in_range read.input its.station read.used read.bytes read.read
+
+descriptor_ranged : DescriptorsReadAreInRange → (d : Descriptor) → IsDescriptor d → IsDescriptorInRange d
+descriptor_ranged law d is = law is.input d is.used is.bytes is.read
+
+descriptors_ranged : DescriptorsReadAreInRange → (its : Basis) → IsBasis its → All IsDescriptorInRange its.descriptors
+descriptors_ranged law its basis =
+    All-weaker IsDescriptor IsDescriptorInRange (descriptor_ranged law) its.descriptors basis.descriptors
+
+-- as descriptors are that are read
+pub are_in_range : DescriptorsReadAreInRange → MadeAreInRange
+are_in_range law its rulings signature basis signing =
+    made_ranged its rulings signature basis signing (station_ranged its basis) (descriptors_ranged law its basis)
+
+-- ---- items without objects
+
+-- none of them has one
+record AreNone (items : List NewItem) : Type 0 where
+  each : All HasNone items
+
+none_of : AreNone []
+none_of = record { each = All-nil HasNone }
+
+bare_none : (keyword : Keyword) (rest : List ℕ) → AreNone (bare keyword rest ∷ [])
+bare_none keyword rest = record { each = All-cons HasNone (bare keyword rest) [] refl (All-nil HasNone) }
+
+none_if : (keyword : Keyword) (rest : Option (List ℕ)) → AreNone (item_if keyword rest)
+none_if keyword None = none_of
+none_if keyword (Some rest) = bare_none keyword rest
+
+infixl 10 ◌&◌
+◌&◌ : {front back : List NewItem} → AreNone front → AreNone back → AreNone (front ++ back)
+◌&◌ {front} {back} first second = record { each = All-append HasNone front back first.each second.each }
+
+none_each : (keyword : Keyword) (rests : List (List ℕ)) → AreNone (items_each keyword rests)
+none_each keyword [] = none_of
+none_each keyword (rest ∷ rests) = bare_none keyword rest & none_each keyword rests
+
+entry_none : (entry : EntryFacts) → AreNone (entry_items entry)
+entry_none entry =
+    bare_none the.R (line_of entry) & none_each the.A entry.addresses & bare_none the.S (set_text entry.flags)
+    & none_if the.V entry.version & none_if the.Pr entry.protocols
+    & none_if the.W (option_map bandwidths_text entry.bandwidths) & none_if the.P entry.policy
+    & none_each the.M (map micro_line entry.micros) & none_if the.Id (ed_text entry.ed)
+
+entries_none : (entries : List EntryFacts) → AreNone (entries_items entries)
+entries_none [] = none_of
+entries_none (entry ∷ entries) = entry_none entry & entries_none entries
+
+versions_none : (keyword : Keyword) (versions : Option (List (List ℕ)))
+    → AreNone (item_if keyword (option_map versions_text versions))
+versions_none keyword versions = none_if keyword (option_map versions_text versions)
+
+protocols_none : (keyword : Keyword) (protocols : Option (List (Named (List ℕ))))
+    → AreNone (item_if keyword (option_map protocols_text protocols))
+protocols_none keyword protocols = none_if keyword (option_map protocols_text protocols)
+
+preamble_none : (facts : VoteFacts) → AreNone (preamble_items facts)
+preamble_none facts =
+    let lists = facts.lists in
+    let kinds : AreNone (kind_items facts) =
+    bare_none the.NetworkStatusVersion (codes "3") & bare_none the.VoteStatus (codes "vote")
+    & none_if the.ConsensusMethods (option_map numbers_text facts.methods) in
+    let times : AreNone (time_items facts) =
+    bare_none the.Published (moment_text (moment_of facts.published))
+    & bare_none the.ValidAfter (moment_text (moment_of facts.valid_after))
+    & bare_none the.FreshUntil (moment_text (moment_of facts.fresh_until))
+    & bare_none the.ValidUntil (moment_text (moment_of facts.valid_until))
+    & bare_none the.VotingDelay (delays_text facts) in
+    let versions : AreNone (version_items lists) =
+    versions_none the.ClientVersions lists.client_versions & versions_none the.ServerVersions lists.server_versions in
+    let flags : AreNone (flag_items facts) =
+    bare_none the.KnownFlags (set_text facts.known_flags) & none_if the.FlagThresholds facts.flag_thresholds in
+    let recommended : AreNone (recommended_items lists) =
+    protocols_none the.RecommendedClientProtocols lists.recommended_client_protocols
+    & protocols_none the.RecommendedRelayProtocols lists.recommended_relay_protocols in
+    let required : AreNone (required_items lists) =
+    protocols_none the.RequiredClientProtocols lists.required_client_protocols
+    & protocols_none the.RequiredRelayProtocols lists.required_relay_protocols in
+    let protocols : AreNone (protocol_items lists) = recommended & required in
+    let params : AreNone (param_items lists.params) = none_if the.Params (option_map params_text lists.params) in
+    kinds & times & versions & flags & protocols & params
+
+before_none : (facts : VoteFacts) → All HasNone (preamble_items facts ++ authority_items facts)
+before_none facts =
+    let randoms : AreNone (random_items facts) =
+    none_if the.SharedRandPreviousValue (option_map random_text facts.random_previous)
+    & none_if the.SharedRandCurrentValue (option_map random_text facts.random_current) in
+    let authority : AreNone (authority_items facts) =
+    bare_none the.DirSource (source_text facts) & (none_if the.Contact facts.contact & randoms) in
+    (preamble_none facts & authority).each
+
+-- ---- the law
+
+pub read_as_made : DescriptorsReadAreInRange → MadeVotesReadAsMade
+read_as_made law front its rulings signature rest few basis signing limits =
+    let facts = signed_facts its rulings signature in
+    let station = station_ranged its basis in
+    let descriptors = descriptors_ranged law its basis in
+    let may = made_ranged its rulings signature basis signing station descriptors in
+    let ruled = ruled_relays (relays_in its) rulings in
+    let relays = judged_relays its.descriptors ruled (flags_of its.moment ruled) in
+    let judged =
+    judged_ranged its.station.measured its.descriptors rulings
+    (flags_of its.moment ruled) station.measured descriptors in
+    let read = basis.station in
+    let given = certificates_are_given read.input its.station read.used read.read in
+    made_again front facts its.station.certificate_bytes rest few given
+    (made_in_range facts its.station.certificate_bytes signing.short may limits.fits
+    (before_short its rulings signature may.values limits.lines) (made_short relays judged)
+    (before_none facts) (entries_none facts.entries).each)

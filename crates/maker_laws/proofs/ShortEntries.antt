@@ -1,0 +1,81 @@
+-- No line of an entry that is made of a descriptor in range is longer than a line may be.
+use Rattle.std.proofs.Common.{ℕ, List, [], ◌∷◌, ◌++◌}
+use Rattle.std.proofs.Common.{map, Option, Some, None, arith}
+use Rattle.std.specs.Prelude.{All, IfSome, option_map, take}
+use Rattle.std.proofs.lemmas.List.Elements.{All-append, All-cons, All-filter, All-head, All-nil, All-tail}
+use Rattle.dir_values.specs.FlagSets.{set_text}
+use Rattle.dirdoc_grammar.specs.Writing.{NewItem}
+use Rattle.frame_terms.specs.declared.keyword.Keyword.{Keyword}
+use Rattle.frame_terms.specs.declared.keyword.Keyword.TheVariants as the
+use Rattle.frame_values.specs.Items.{bare, item_if}
+use Rattle.exit_summary.proofs.SummaryLaws as summary
+use Rattle.relay_entries.specs.Texts.{bandwidths_text, ed_text}
+use Rattle.descriptor_ranges.specs.Ranges.{IsShortAddress}
+use Rattle.vote_pool.specs.Summaries.{micro_text_of}
+use Rattle.vote_text.specs.Entries.{entries_items, entry_items, items_each, line_of}
+use Rattle.vote_text.specs.Entries.{micro_line}
+use Rattle.vote_maker.specs.Entries.{micro_of_text}
+use Rattle.vote_maker.specs.Listings.{JudgedRelay, entry_of_judged, has_entry, listed_relays, made_entries}
+use Rattle.maker_laws.specs.ReadAsMade.{HasShortLine}
+use Rattle.maker_laws.proofs.EntryRanges.{IsJudgedInRange, entry_ranged}
+use Rattle.maker_laws.proofs.MadeLimits.{line_short}
+use Rattle.maker_laws.proofs.ShortTexts.{relay_short, names_short, IsMillion, platform_short, rest_short, bandwidths_short, key_short, micro_short}
+
+-- ---- its items
+
+-- none of the lines is too long
+pub record AreShortLines (items : List NewItem) : Type 0 where
+  pub each : All HasShortLine items
+
+pub no_lines : AreShortLines []
+no_lines = record { each = All-nil HasShortLine }
+
+pub one_line : (keyword : Keyword) (rest : List ℕ) → IsMillion rest → AreShortLines (bare keyword rest ∷ [])
+one_line keyword rest few =
+    record { each = All-cons HasShortLine (bare keyword rest) [] (line_short keyword rest few) (All-nil HasShortLine) }
+
+pub line_if : (keyword : Keyword) (rest : Option (List ℕ)) → IfSome rest IsMillion → AreShortLines (item_if keyword rest)
+line_if keyword None few = no_lines
+line_if keyword (Some rest) few = one_line keyword rest few
+
+addresses_short : (addresses : List (List ℕ)) → All IsShortAddress addresses
+    → AreShortLines (items_each the.A (take 1 addresses))
+addresses_short [] all = no_lines
+addresses_short (text ∷ rest) all =
+    one_line the.A text (omega (arith, (All-head IsShortAddress text rest all).short))
+
+infixl 10 ◌&◌
+pub ◌&◌ : {front back : List NewItem} → AreShortLines front → AreShortLines back → AreShortLines (front ++ back)
+◌&◌ {front} {back} first second = record { each = All-append HasShortLine front back first.each second.each }
+
+policy_short : (one : JudgedRelay) → IfSome (entry_of_judged one).policy IsMillion
+policy_short one = omega (arith, summary.short one.descriptor.policy)
+
+entry_short : (one : JudgedRelay) → IsJudgedInRange one → AreShortLines (entry_items (entry_of_judged one))
+entry_short one is =
+    let entry = entry_of_judged one in
+    let in_range = entry_ranged one is in
+    let d = is.descriptor in
+    let micro = micro_of_text (micro_text_of one.descriptor) in
+    one_line the.R (line_of entry) (relay_short entry in_range.relay)
+    & addresses_short one.descriptor.or_addresses d.or_addresses
+    & one_line the.S (set_text entry.flags) (names_short one.flags)
+    & line_if the.V entry.version (platform_short one.descriptor.platform d.platform)
+    & line_if the.Pr entry.protocols (rest_short one.descriptor.proto d.proto)
+    & line_if the.W (option_map bandwidths_text entry.bandwidths) (bandwidths_short entry.bandwidths in_range.bandwidths)
+    & line_if the.P entry.policy (policy_short one)
+    & one_line the.M (micro_line micro) (micro_short (micro_text_of one.descriptor))
+    & line_if the.Id (ed_text entry.ed) (key_short entry.ed in_range.ed)
+
+entries_short : (relays : List JudgedRelay) → All IsJudgedInRange relays
+    → AreShortLines (entries_items (map entry_of_judged relays))
+entries_short [] all = no_lines
+entries_short (one ∷ relays) all =
+    entry_short one (All-head IsJudgedInRange one relays all)
+    & entries_short relays (All-tail IsJudgedInRange one relays all)
+
+-- the lines of made entries
+pub made_short : (relays : List JudgedRelay) → All IsJudgedInRange relays
+    → All HasShortLine (entries_items (made_entries relays))
+made_short relays all =
+    (entries_short (listed_relays relays) (All-filter (has_entry relays) IsJudgedInRange relays all)).each

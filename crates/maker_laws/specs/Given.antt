@@ -1,0 +1,38 @@
+-- Of what a vote may be made: what was read of a station input and of descriptors, at moments within the calendar.
+use Rattle.std.specs.Prelude.{◌≡◌, ℕ, ◌≤◌, List, length, All, Ok}
+use Rattle.base64.specs.GeneralPurpose.{IsBytes}
+use Rattle.dir_bytes.specs.Causes.{last_moment}
+use Rattle.descriptor_doc.specs.Reading.{descriptor_of}
+use Rattle.descriptor_doc.specs.declared.descriptor.Descriptor.{Descriptor}
+use Rattle.station_input.specs.Reading.{station_of}
+use Rattle.station_input.specs.declared.facts.StationFacts.{StationFacts}
+use Rattle.vote_pool.specs.Pools.{DescriptorsAscend, most_relays}
+use Rattle.vote_schedule.specs.Moments.{valid_until}
+use Rattle.vote_schedule.specs.Schedules.{IsSchedule}
+use Rattle.vote_maker.specs.Made.{Basis, schedule_in}
+
+-- What a station is given was read of an input.
+pub record IsStation (station : StationFacts) : Type 0 where
+  pub input : List ℕ
+  pub bytes : IsBytes input
+  pub used : ℕ
+  pub read : station_of input ≡ Ok (station, used)
+
+-- What a descriptor says was read of an input, which it begins.
+pub record IsDescriptor (d : Descriptor) : Type 0 where
+  pub input : List ℕ
+  pub bytes : IsBytes input
+  pub used : ℕ
+  pub read : descriptor_of input ≡ Ok (d, used)
+
+-- The station is one that was read and has a schedule; the descriptors are those of a pool, each of which was read;
+-- the
+-- moment of the vote, and that until which the consensus is to be valid, are moments.
+pub record IsBasis (its : Basis) : Type 0 where
+  pub station : IsStation its.station
+  pub schedule : IsSchedule (schedule_in its.station)
+  pub until : valid_until (schedule_in its.station) its.valid_after ≤ last_moment
+  pub moment : its.moment ≤ last_moment
+  pub ascend : DescriptorsAscend its.descriptors
+  pub few : length its.descriptors ≤ most_relays
+  pub descriptors : All IsDescriptor its.descriptors
