@@ -1,5 +1,5 @@
 -- What a run ends with whose text was written, whole or in part.
-use Rattle.std.proofs.Common.{◌≡◌, ℕ, ◌<◌, List, length, take, Option, Some, None, Ok, subst, ◌∙◌}
+use Rattle.std.proofs.Common.{◌≡◌, ℕ, ◌<◌, ◌≤◌, Bool, true, false, List, [], length, take, Option, Some, None, Ok, subst, ◌∙◌}
 use Rattle.std.specs.Global.{Vec}
 use Rattle.std.specs.Io.KnownBytes.{Appends}
 use Rattle.dir_bytes.specs.Streams.{ReadsAll}
@@ -7,7 +7,8 @@ use Rattle.key_port.specs.Answers.{Rules}
 use Rattle.daemon_words.specs.declared.command.Command.{Command}
 use Rattle.exit_status.specs.declared.status.Status.TheVariants as status
 use Rattle.authority_daemon.specs.Commands.{Answers}
-use Rattle.authority_daemon.specs.Runs.{Ends, Told}
+use Rattle.std.specs.Bool.{OnTrue}
+use Rattle.authority_daemon.specs.Runs.{Ends, HasEnded, Told, input_limit, reads_input}
 
 -- the command answered this text to the input
 answered : (rules : Rules) (given : Option Command) (command c : Command) (input lent text : List ℕ)
@@ -47,3 +48,20 @@ failed rules given command (Some input) after limit bytes lent text sent count o
       subst (λ (t : List ℕ). count < length t) all short,
       subst (λ (t : List ℕ). Appends old new (take count t)) all appends,
     )
+
+-- where it holds it holds on a condition
+on_true : (b : Bool) (P : Type 0) → P → OnTrue b P
+on_true true P p = p
+on_true false P p = tt
+
+-- an input that was read whole is within the limit
+pub is_within : (left after : Option (List ℕ)) (bytes : Vec ℕ) → ReadsAll left after input_limit (Ok bytes)
+    → (c : Command) → Told left (λ input. OnTrue (reads_input c) (length input ≤ input_limit))
+is_within None after bytes reads c = tt
+is_within (Some input) after bytes reads c = on_true (reads_input c) (length input ≤ input_limit) reads.2
+
+-- and has ended
+pub has_ended : (left after : Option (List ℕ)) (bytes : Vec ℕ) → ReadsAll left after input_limit (Ok bytes)
+    → (c : Command) → OnTrue (reads_input c) (HasEnded left after)
+has_ended None after bytes reads c = on_true (reads_input c) (Unit {0}) tt
+has_ended (Some input) after bytes reads c = on_true (reads_input c) (after ≡ Some []) reads.1

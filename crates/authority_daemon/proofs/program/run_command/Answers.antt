@@ -3,7 +3,7 @@ use Rattle.std.specs.Io.KnownBytes.{Appends}
 use Rattle.std.specs.Prelude.{take}
 use Rattle.key_port.specs.Answers.{rules as rules_of}
 use Rattle.daemon_words.specs.Words as grammar
-use Rattle.authority_daemon.proofs.Ending.{done, failed}
+use Rattle.authority_daemon.proofs.Ending.{done, failed, has_ended, is_within}
 use Rattle.authority_daemon.proofs.program.run_command.Goals as goal
 
 pub returns-in-Done-clause-run : goal.returns-in-Done-clause-run
@@ -21,8 +21,8 @@ returns-in-Done-clause-run g c =
           (subst (λ (old : Option (List ℕ)). Appends old (g.K.Sink.written c.write_all.new.sink) c.deref.result.now)
           same c.in-Done.ensures.0);
       written = search rules;
-      limit = search rules;
-      read = search rules;
+      limit = λ c1 names. is_within _ _ c.in-Ok.bytes c.in-Ok.ensures.whole c1;
+      read = λ c1 names. has_ended _ _ c.in-Ok.bytes c.in-Ok.ensures.whole c1;
       stops = search rules;
       unread = search rules;
       source = search rules;
@@ -51,8 +51,8 @@ returns-in-Ok-answer-clause-run g c =
           (take c.in-Failed.sent c.deref.result.now)) same c.in-Failed.ensures.0)
           c.in-Failed.ensures.1;
       written = search rules;
-      limit = search rules;
-      read = search rules;
+      limit = λ c1 names. is_within _ _ c.in-Ok.bytes c.in-Ok.ensures.whole c1;
+      read = λ c1 names. has_ended _ _ c.in-Ok.bytes c.in-Ok.ensures.whole c1;
       stops = search rules;
       unread = search rules;
       source = search rules;
