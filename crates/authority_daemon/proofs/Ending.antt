@@ -60,8 +60,8 @@ pub is_within : (left after : Option (List ℕ)) (bytes : Vec ℕ) → ReadsAll 
 is_within None after bytes reads c = tt
 is_within (Some input) after bytes reads c = on_true (reads_input c) (length input ≤ input_limit) reads.2
 
--- and has ended
-pub has_ended : (left after : Option (List ℕ)) (bytes : Vec ℕ) → ReadsAll left after input_limit (Ok bytes)
-    → (c : Command) → OnTrue (reads_input c) (HasEnded left after)
-has_ended None after bytes reads c = on_true (reads_input c) (Unit {0}) tt
-has_ended (Some input) after bytes reads c = on_true (reads_input c) (after ≡ Some []) reads.1
+-- and has ended, where the source is then left as it was
+pub has_ended : (left after now : Option (List ℕ)) (bytes : Vec ℕ) → now ≡ after → ReadsAll left after input_limit (Ok bytes)
+    → (c : Command) → OnTrue (reads_input c) (HasEnded left now)
+has_ended None after now bytes same reads c = on_true (reads_input c) (Unit {0}) tt
+has_ended (Some input) after now bytes same reads c = on_true (reads_input c) (now ≡ Some []) (same ∙ reads.1)

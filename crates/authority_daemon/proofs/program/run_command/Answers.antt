@@ -10,6 +10,7 @@ pub returns-in-Done-clause-run : goal.returns-in-Done-clause-run
 returns-in-Done-clause-run g c =
     let is : Some c.in-Ok-Some.command ≡ grammar.command_of c.args.words.now = search rules in
     let same = ap g.K.Sink.written c.in-Ok-answer.ensures.streams.sink in
+    let kept = ap g.S.Source.left c.in-Ok-answer.ensures.streams.source in
     record {
       words = search rules;
       ends =
@@ -22,7 +23,7 @@ returns-in-Done-clause-run g c =
           same c.in-Done.ensures.0);
       written = search rules;
       limit = λ c1 names. is_within _ _ c.in-Ok.bytes c.in-Ok.ensures.whole c1;
-      read = λ c1 names. has_ended _ _ c.in-Ok.bytes c.in-Ok.ensures.whole c1;
+      read = λ c1 names. has_ended _ _ _ c.in-Ok.bytes kept c.in-Ok.ensures.whole c1;
       stops = search rules;
       unread = search rules;
       source = search rules;
@@ -39,6 +40,7 @@ pub returns-in-Ok-answer-clause-run : goal.returns-in-Ok-answer-clause-run
 returns-in-Ok-answer-clause-run g c =
     let is : Some c.in-Ok-Some.command ≡ grammar.command_of c.args.words.now = search rules in
     let same = ap g.K.Sink.written c.in-Ok-answer.ensures.streams.sink in
+    let kept = ap g.S.Source.left c.in-Ok-answer.ensures.streams.source in
     record {
       words = search rules;
       ends =
@@ -52,7 +54,7 @@ returns-in-Ok-answer-clause-run g c =
           c.in-Failed.ensures.1;
       written = search rules;
       limit = λ c1 names. is_within _ _ c.in-Ok.bytes c.in-Ok.ensures.whole c1;
-      read = λ c1 names. has_ended _ _ c.in-Ok.bytes c.in-Ok.ensures.whole c1;
+      read = λ c1 names. has_ended _ _ _ c.in-Ok.bytes kept c.in-Ok.ensures.whole c1;
       stops = search rules;
       unread = search rules;
       source = search rules;
