@@ -21,9 +21,10 @@ fn word_of(answer: Keep) -> Word {
         Keep::Kept => Word::Kept,
         Keep::Replaced => Word::Replaced,
         Keep::Have => Word::Have,
-        Keep::Older { held } => Word::Older {
-            held: held.digest.0,
-        },
+        Keep::Older { held } => {
+            let digest = held.digest.0;
+            Word::Older { held: digest }
+        }
         _ => Word::Other,
     }
 }
