@@ -3,6 +3,7 @@ use crate::texts::{
     EMPTY, EXPIRED, LASTS, NO_CERTIFICATE, NO_ED_SIGNATURE, OTHER_ED_SIGNATURE, OTHER_FINGERPRINT,
     OTHER_MASTER_KEY, PLAIN, SIGNED, WHOLE,
 };
+use bytes::Bytes;
 use descriptor_doc::{DescriptorRefusal, check, read};
 use key_port::TestKeys;
 use std::alloc::Global;
@@ -43,13 +44,13 @@ pub(crate) fn text_of(which: Which) -> &'static [u8] {
 // Why the descriptor of a text does not hold, where the call of the verifier with this number fails, and how often it failed.
 fn refusal(
     alloc: Global,
-    text: &[u8],
+    text: &'static [u8],
     failing: u64,
 ) -> Result<(Option<DescriptorRefusal>, u64), Fail> {
     if text.len() > 100_000 {
         return Err(Fail::new("a long text"));
     }
-    let (descriptor, _) = read(alloc, text)?;
+    let (descriptor, _) = read(alloc, &Bytes::from(text))?;
     let mut keys = TestKeys::new([failing].to_vec(alloc)?);
     let answer = check(descriptor, &mut keys).err();
     Ok((answer, keys.faults()))

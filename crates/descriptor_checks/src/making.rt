@@ -1,5 +1,6 @@
 // Microdescriptors that are made of descriptors.
 use crate::texts::PLAIN;
+use bytes::Bytes;
 use descriptor_doc::read;
 use dir_bytes::read_hex;
 use exit_summary::summary;
@@ -59,11 +60,11 @@ id ed25519 kZ2goXUuismypQfg1OXWAOgCGZmuORh6IhpfyN3VS7A\n\
 ";
 
 // The text of the microdescriptor of a relay with this server descriptor.
-fn made(alloc: Global, text: &[u8]) -> Result<Vec<u8>, Fail> {
+fn made(alloc: Global, text: &'static [u8]) -> Result<Vec<u8>, Fail> {
     if text.len() > 100_000 {
         return Err(Fail::new("a long text"));
     }
-    let (descriptor, _) = read(alloc, text)?;
+    let (descriptor, _) = read(alloc, &Bytes::from(text))?;
     let ports = summary(alloc, descriptor.policy.items())?;
     let micro = make(alloc, &descriptor, &ports)?;
     Ok(write(alloc, &micro)?)

@@ -1,5 +1,6 @@
 // Descriptors from outside in a pool.
 use crate::holding::{Which, text_of};
+use bytes::Bytes;
 use descriptor_doc::{check, read};
 use key_port::TestKeys;
 use std::alloc::Global;
@@ -29,11 +30,11 @@ fn word_of(answer: Keep) -> Word {
     }
 }
 
-fn entry_of(alloc: Global, text: &[u8]) -> Result<PoolEntry<TestKeys>, Fail> {
+fn entry_of(alloc: Global, text: &'static [u8]) -> Result<PoolEntry<TestKeys>, Fail> {
     if text.len() > 100_000 {
         return Err(Fail::new("a long text"));
     }
-    let (descriptor, _) = read(alloc, text)?;
+    let (descriptor, _) = read(alloc, &Bytes::from(text))?;
     let mut keys = TestKeys::new(Vec::new(alloc));
     let Ok(checked) = check(descriptor, &mut keys) else {
         return Err(Fail::new("one that does not hold"));

@@ -1,5 +1,6 @@
 // What a descriptor says of its relay and its keys.
 use crate::texts::SIGNED;
+use bytes::Bytes;
 use descriptor_doc::{Descriptor, read};
 use dir_bytes::{BadField, read_base64, read_hex};
 use frame_terms::ReadRefusal;
@@ -45,7 +46,7 @@ fn read_followed(alloc: Global, text: &[u8]) -> Result<Said, ReadRefusal> {
     if bytes.len() > 100_000 {
         return Err(ReadRefusal::Memory);
     }
-    let (descriptor, _) = read(alloc, &bytes)?;
+    let (descriptor, _) = read(alloc, &Bytes::from_vec(bytes)?)?;
     Ok(said_by(&descriptor))
 }
 

@@ -1,5 +1,5 @@
 -- The descriptor that is read.
-use Rattle.std.proofs.Common.{◌≡◌, ℕ, List, length, Ok, Result, sym, ap, ◌∙◌}
+use Rattle.std.proofs.Common.{◌≡◌, ℕ, List, length, Ok, Result, sym, ap, subst, ◌∙◌}
 use Rattle.item_terms.specs.Items.{Contents, items_of}
 use Rattle.frame_terms.specs.declared.fault.ReadRefusal.{ReadRefusal}
 use Rattle.frame_terms.specs.Documents.{document_of, finish}
@@ -16,7 +16,7 @@ kept_from start items bytes = finish kept_with start (document_of descriptor_tab
 abbrev ok_of : Descriptor → ℕ → Result (Descriptor × ℕ) ReadRefusal
 ok_of descriptor used = Ok (descriptor, used)
 
-pub reads : (bytes : List ℕ) (start kept : Kept) (items : Contents) (used : ℕ) (descriptor : Descriptor)
+reads : (bytes : List ℕ) (start kept : Kept) (items : Contents) (used : ℕ) (descriptor : Descriptor)
     → items ≡ items_of max_descriptor bytes → start ≡ none_kept
     → finish kept_with start (document_of descriptor_tables (length bytes) items) ≡ Ok (kept, used)
     → descriptor ≡ descriptor_in bytes kept → descriptor_of bytes ≡ Ok (descriptor, used)
@@ -26,3 +26,14 @@ reads bytes start kept items used descriptor e f g h =
     ∙ g in
     ap (λ (r : Result (Kept × ℕ) ReadRefusal). with_descriptor bytes r) found
     ∙ ap (λ (d : Descriptor). ok_of d used) (sym h)
+
+-- the same where the items were read of a text that is the bytes
+pub reads_shared : (bytes text : List ℕ) (start kept : Kept) (items : Contents) (used : ℕ) (descriptor : Descriptor)
+    → text ≡ bytes → items ≡ items_of max_descriptor text → start ≡ none_kept
+    → finish kept_with start (document_of descriptor_tables (length text) items) ≡ Ok (kept, used)
+    → descriptor ≡ descriptor_in bytes kept → descriptor_of bytes ≡ Ok (descriptor, used)
+reads_shared bytes text start kept items used descriptor same e f g h =
+    let here : descriptor ≡ descriptor_in text kept =
+    subst (λ (b : List ℕ). descriptor ≡ descriptor_in b kept) (sym same) h in
+    subst (λ (b : List ℕ). descriptor_of b ≡ ok_of descriptor used) same
+    (reads text start kept items used descriptor e f g here)

@@ -1,4 +1,5 @@
 // What a server descriptor says.
+use bytes::Bytes;
 use descriptor_frame::BandwidthLine;
 use dir_bytes::{Seq, Text};
 use dir_values::{Digest1, Digest2, Fingerprint, PortSummary};
@@ -80,6 +81,6 @@ pub struct Descriptor {
     pub identity: Fingerprint,
     /// The SHA-1 of the text from the first item through the line `router-signature` with its NL.
     pub digest: Digest1,
-    /// The bytes that were read, from the first item through the last object.
-    pub text: Text,
+    /// The bytes that were read, from the first item through the last object, shared with the input.
+    pub text: Bytes,
 }

@@ -1,5 +1,6 @@
 // What a descriptor says of which something was kept, in values of its own.
 ghost use Rattle.std.specs.Prelude.{◌≡◌, ◌<◌, ◌≤◌, ◌^◌, ◌++◌, IfOk, length, map, option_map, option_and_then};
+ghost use Rattle.std.specs.Prelude.{slice_range};
 ghost use Rattle.std.specs.List.{position_or_len};
 ghost use Rattle.sha2.specs.Sha256.{sha256};
 ghost use Rattle.item_terms.specs.Words.{words_of};
@@ -9,6 +10,7 @@ ghost use Rattle.descriptor_doc.specs.Descriptors as descriptors;
 use crate::descriptor::{Descriptor, EdSignature, Router};
 use crate::head::Head;
 use crate::kept::Kept;
+use bytes::Bytes;
 use descriptor_frame::RouterLine;
 use dir_bytes::{Memory, Seq, Text};
 use dir_values::{Arguments, Digest1, Digest2, Fingerprint, PortSummary, ValueRefusal};
@@ -191,41 +193,65 @@ fn ed_signature_of(bytes: &[u8], head: &Head) -> Option<EdSignature>
     }
 }
 
-/// What the descriptor says of which this was kept, in the bytes of its document.
+/// The part of some bytes from one place to another, shared with them; places past their end name what there is.
 ///
 /// # Errors
 /// `Memory` is want of memory.
-pub(crate) fn descriptor_of(alloc: Global, bytes: &[u8], kept: Kept) -> Result<Descriptor, Memory>
+fn shared_between(bytes: &Bytes, start: u64, end: u64) -> Result<Bytes, Memory>
+    ensures { IfOk result (λ part. part ≡ slice_range bytes.now start end) }
+{
+    let len = bytes.len();
+    let from = if start < len as u64 {
+        start as usize
+    } else {
+        len
+    };
+    let rest = len - from;
+    let wanted = end.saturating_sub(start);
+    let count = if wanted < rest as u64 {
+        wanted as usize
+    } else {
+        rest
+    };
+    Ok(bytes.slice(from..from + count)?)
+}
+
+/// What the descriptor says of which this was kept, in the bytes of its document, which it shares.
+///
+/// # Errors
+/// `Memory` is want of memory.
+pub(crate) fn descriptor_of(alloc: Global, bytes: &Bytes, kept: Kept) -> Result<Descriptor, Memory>
     requires { length bytes.now < 2 ^ 62 }
     ensures { IfOk result (λ descriptor. descriptor ≡ descriptors.descriptor_in bytes.now kept) }
 {
     let head = kept.head;
-    let signing_key = decode_part(alloc, bytes, head.signing_key)?;
+    let text = bytes.as_slice();
+    let signing_key = decode_part(alloc, text, head.signing_key)?;
     let identity = Fingerprint(Sha1::digest(signing_key.as_bytes()));
     Ok(Descriptor {
-        router: router_of(alloc, bytes, &head.router)?,
-        identity_ed25519: certificate_of(alloc, bytes, head.identity_ed25519)?,
+        router: router_of(alloc, text, &head.router)?,
+        identity_ed25519: certificate_of(alloc, text, head.identity_ed25519)?,
         master_key_ed25519: head.master_key_ed25519,
-        platform: copy_part_if(alloc, bytes, head.platform)?,
+        platform: copy_part_if(alloc, text, head.platform)?,
         published: moment(head.published),
         fingerprint: head.fingerprint,
         uptime: head.uptime,
         bandwidth: head.bandwidth,
         hibernating: head.hibernating,
-        onion_key: decode_if(alloc, bytes, head.onion_key)?,
+        onion_key: decode_if(alloc, text, head.onion_key)?,
         signing_key,
         ntor_onion_key: head.ntor_onion_key,
-        or_addresses: texts_of(alloc, bytes, kept.addresses.as_slice())?,
+        or_addresses: texts_of(alloc, text, kept.addresses.as_slice())?,
         policy: kept.policy,
-        ipv6_policy: ports_if(alloc, bytes, head.ipv6_policy)?,
-        family: words_if(alloc, bytes, head.family)?,
+        ipv6_policy: ports_if(alloc, text, head.ipv6_policy)?,
+        family: words_if(alloc, text, head.family)?,
         tunnelled_dir_server: head.tunnelled_dir_server,
-        proto: copy_part_if(alloc, bytes, head.proto)?,
-        contact: copy_part_if(alloc, bytes, head.contact)?,
-        router_sig_ed25519: ed_signature_of(bytes, &head),
-        router_signature: decode_part(alloc, bytes, head.router_signature)?,
+        proto: copy_part_if(alloc, text, head.proto)?,
+        contact: copy_part_if(alloc, text, head.contact)?,
+        router_sig_ed25519: ed_signature_of(text, &head),
+        router_signature: decode_part(alloc, text, head.router_signature)?,
         identity,
-        digest: Digest1(Sha1::digest(between(bytes, head.begin, head.signed_end))),
-        text: Text::copy_of(alloc, between(bytes, head.begin, head.end))?,
+        digest: Digest1(Sha1::digest(between(text, head.begin, head.signed_end))),
+        text: shared_between(bytes, head.begin, head.end)?,
     })
 }

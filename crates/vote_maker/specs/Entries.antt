@@ -6,6 +6,7 @@ use Rattle.item_terms.specs.Bytes.{space}
 use Rattle.item_terms.specs.Words.{words_of}
 use Rattle.dir_values.specs.Ports.{summary_text}
 use Rattle.exit_summary.specs.Summaries.{summary_of}
+use Rattle.dir_values.specs.declared.digest.Digest2.{Digest2}
 use Rattle.ed_certs.specs.declared.certificate.EdCert.{EdCert}
 use Rattle.descriptor_doc.specs.declared.descriptor.Descriptor.{Descriptor}
 use Rattle.relay_entries.specs.declared.said.Bandwidths.{Bandwidths}
@@ -38,9 +39,13 @@ abbrev pub opinion_of : Option EdCert → EdOpinion
 opinion_of None = opinion.None
 opinion_of (Some certificate) = opinion.Key certificate.signer
 
--- the `m` line of a relay with this microdescriptor: its SHA-256 under those methods
+-- the `m` line of a relay whose microdescriptor has this digest, under those methods
+abbrev pub micro_of_digest : Digest2 → MicroFacts
+micro_of_digest digest = record { methods = made_methods; digest = digest }
+
+-- the `m` line of a relay with this microdescriptor: its SHA-256
 abbrev pub micro_of_text : List ℕ → MicroFacts
-micro_of_text text = record { methods = made_methods; digest = record { 0 = sha256 text } }
+micro_of_text text = micro_of_digest (record { 0 = sha256 text })
 
 -- the `w` line: what the relay says, and what was measured, where that was
 abbrev pub made_bandwidths : RelayFacts → Bandwidths

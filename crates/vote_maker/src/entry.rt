@@ -11,7 +11,6 @@ use dir_values::{Digest2, PortSummary};
 use flag_rules::{Flags, RelayFacts};
 use key_port::Verifier;
 use relay_entries::{Bandwidths, EdOpinion};
-use sha2::{Digest, Sha256};
 use std::alloc::Global;
 use vote_pool::PoolEntry;
 use vote_terms::{EntryFacts, MicroFacts};
@@ -49,14 +48,14 @@ fn policy_text(alloc: Global, summary: &PortSummary) -> Result<Text, Memory>
     Ok(Text::new(text))
 }
 
-/// The `m` line of a relay with this microdescriptor.
-fn micro_lines(alloc: Global, micro: &[u8]) -> Result<Seq<MicroFacts>, Memory>
-    ensures { IfOk result (λ lines. lines ≡ entries.micro_of_text micro.now ∷ []) }
+/// The `m` line of a relay whose microdescriptor has this digest.
+fn micro_lines(alloc: Global, digest: &Digest2) -> Result<Seq<MicroFacts>, Memory>
+    ensures { IfOk result (λ lines. lines ≡ entries.micro_of_digest digest.now ∷ []) }
 {
     let mut lines = Vec::with_capacity(alloc, 1)?;
     lines.push(MicroFacts {
         methods: made_methods(alloc)?,
-        digest: Digest2(Sha256::digest(micro)),
+        digest: *digest,
     })?;
     Ok(Seq::new(lines))
 }
@@ -108,7 +107,7 @@ pub(crate) fn made_entry<V: Verifier>(
         protocols: copy_if(alloc, &descriptor.proto)?,
         bandwidths: Some(bandwidths_of(known)),
         policy: Some(policy_text(alloc, entry.summary())?),
-        micros: micro_lines(alloc, entry.micro())?,
+        micros: micro_lines(alloc, entry.micro_digest())?,
         ed: opinion_of(&descriptor.identity_ed25519),
     })
 }

@@ -5,12 +5,12 @@ ghost use Rattle.key_port.specs.Answers.{rules};
 ghost use Rattle.descriptor_doc.specs.Checks.{IsVerified};
 ghost use Rattle.descriptor_doc.specs.Reading.{IsRead};
 ghost use Rattle.vote_pool.specs.Ranks.{rank_of_descriptor};
-ghost use Rattle.vote_pool.specs.Summaries.{micro_text_of};
+ghost use Rattle.vote_pool.specs.Summaries.{micro_digest_of, micro_text_of};
 
 use crate::rank::DescriptorRank;
 use descriptor_doc::{CheckedDescriptor, Descriptor};
 use dir_bytes::Text;
-use dir_values::{Fingerprint, PortSummary};
+use dir_values::{Digest2, Fingerprint, PortSummary};
 use key_port::Verifier;
 use std::marker::Model;
 
@@ -20,10 +20,11 @@ pub(crate) struct Prepared<V: Verifier> {
     pub(crate) descriptor: CheckedDescriptor<V>,
     pub(crate) summary: PortSummary,
     pub(crate) micro: Text,
+    pub(crate) micro_digest: Digest2,
 }
 
-/// A relay's descriptor, which holds under a verifier, with the summary of its exit policy and the text of its
-/// microdescriptor. Contracts see it as the descriptor. To move it is to move a pointer.
+/// A relay's descriptor, which holds under a verifier, with the summary of its exit policy, and the text and the digest of
+/// its microdescriptor. Contracts see it as the descriptor. To move it is to move a pointer.
 #[derive(Drop)]
 pub struct PoolEntry<V: Verifier> {
     prepared: Box<Prepared<V>>,
@@ -37,7 +38,8 @@ impl<V: Verifier> Model for PoolEntry<V> {
 
     ghost view = { λ e. e.prepared.value.descriptor };
 
-    ghost invariant = { λ e. IsPrepared e.prepared.value.descriptor e.prepared.value.summary e.prepared.value.micro };
+    ghost invariant = { λ e. IsPrepared e.prepared.value.descriptor e.prepared.value.summary e.prepared.value.micro
+        e.prepared.value.micro_digest };
 }
 
 impl<V: Verifier> PoolEntry<V> {
@@ -45,6 +47,7 @@ impl<V: Verifier> PoolEntry<V> {
     pub(crate) fn new(prepared: Box<Prepared<V>>) -> PoolEntry<V>
         requires summary { prepared.value.summary ≡ summary_of prepared.value.descriptor.policy }
         requires micro { prepared.value.micro ≡ micro_text_of prepared.value.descriptor }
+        requires digest { prepared.value.micro_digest ≡ micro_digest_of prepared.value.descriptor }
         ensures { result ≡ prepared.value.descriptor }
     {
         PoolEntry { prepared }
@@ -71,6 +74,13 @@ impl<V: Verifier> PoolEntry<V> {
         ensures { result.now ≡ micro_text_of self.now }
     {
         self.prepared.micro.as_bytes()
+    }
+
+    /// The digest of its microdescriptor, as votes and requests name it: the SHA-256 of the text.
+    pub fn micro_digest(&self) -> &Digest2
+        ensures { result.now ≡ micro_digest_of self.now }
+    {
+        &self.prepared.micro_digest
     }
 
     /// The relay's identity.

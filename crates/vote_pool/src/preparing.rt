@@ -8,7 +8,7 @@ use dir_bytes::{Memory, Text};
 use dir_values::PortSummary;
 use exit_summary::summary;
 use key_port::Verifier;
-use micro_desc::{make, write};
+use micro_desc::{digest, make, write};
 use std::alloc::Global;
 
 /// The text of the microdescriptor of a descriptor and a summary of its exit policy.
@@ -22,7 +22,7 @@ fn micro_text(alloc: Global, descriptor: &Descriptor, ports: &PortSummary) -> Re
     Ok(Text::new(write(alloc, &micro)?))
 }
 
-/// A descriptor that was checked, with the summary of its exit policy and the text of its microdescriptor.
+/// A descriptor that was checked, with the summary of its exit policy, and the text and the digest of its microdescriptor.
 ///
 /// # Errors
 /// `Memory` is want of memory.
@@ -34,12 +34,14 @@ pub fn prepare<V: Verifier>(
 {
     let summary = summary(alloc, checked.descriptor().policy.items())?;
     let micro = micro_text(alloc, checked.descriptor(), &summary)?;
+    let micro_digest = digest(micro.as_bytes());
     let prepared = Box::new(
         alloc,
         Prepared {
             descriptor: checked,
             summary,
             micro,
+            micro_digest,
         },
     )?;
     Ok(PoolEntry::new(prepared))
