@@ -70,13 +70,21 @@ pub put_len : (old new : List (Fingerprint × ℕ)) (row : Row) (was : Option �
 put_len old new row was was_is longer =
     longer ∙ ap (λ (o : Option ℕ). length old + (if is_some o then 0 else 1)) (was_is ∙ found_is old row.identity)
 
+-- two tests in either order
+either_order : (a b : Bool) → (a && b) ≡ (b && a)
+either_order true true = refl
+either_order true false = refl
+either_order false true = refl
+either_order false false = refl
+
 -- whether a row is one too many
 pub many_is : (rows : List Row) (place : ℕ) (row : Row) (relays : List (Fingerprint × ℕ)) (over : Bool) → HasRows rows relays → over ≡ is_over relays row.identity
     → many_fault rows place row ≡ (if over then Some (at place reason.TooMany) else None)
 many_is rows place row relays over has is =
     ap₂ (λ (o : Option ℕ) (n : ℕ). if is_none o && (n == max_relays) then Some (at place reason.TooMany) else None)
     (sym (has.bandwidths row.identity)) (sym has.count)
-    ∙ ap (λ (b : Bool). if b then Some (at place reason.TooMany) else None) (sym is)
+    ∙ ap (λ (b : Bool). if b then Some (at place reason.TooMany) else None)
+    (either_order (is_none (bandwidth_in relays row.identity)) (length relays == max_relays) ∙ sym is)
 
 -- what is known of rows and their identities, once one more row was put in
 pub has_one_more : (rows : List Row) (row : Row) (old new : List (Fingerprint × ℕ)) → HasRows rows old → HasRow old row new

@@ -45,7 +45,7 @@ one_if_new relays identity = if is_some (bandwidth_in relays identity) then 0 el
 
 -- whether there would be too many identities with one more, and this is one more
 abbrev pub is_over : List (Fingerprint × ℕ) → Fingerprint → Bool
-is_over relays identity = is_none (bandwidth_in relays identity) && (length relays == max_relays)
+is_over relays identity = (length relays == max_relays) && is_none (bandwidth_in relays identity)
 
 -- the time that was read, where the first line was
 abbrev pub time_if : Section → ℕ → List ℕ

@@ -148,11 +148,11 @@ fn put_row(relays: &mut Relays, place: u64, row: Row) -> Result<(), BandRefusal>
     Ok(())
 }
 
-/// Whether there would be too many identities with one more, and this is one more.
+/// Whether there would be too many identities with one more, and this is one more. It is looked up where it matters alone.
 fn is_over(relays: &Relays, identity: &Fingerprint) -> bool
     ensures { result ≡ lending.is_over relays.now identity.now }
 {
-    relays.get(identity).is_none() && relays.len() == MAX_RELAYS
+    relays.len() == MAX_RELAYS && relays.get(identity).is_none()
 }
 
 /// What a line of a section says.

@@ -1,5 +1,5 @@
 // The measured bandwidths of relays by their identities.
-ghost use Rattle.std.specs.Prelude.{◌≡◌, ◌==◌, ◌+◌, ◌++◌, length, [], OnOk};
+ghost use Rattle.std.specs.Prelude.{◌≡◌, ◌==◌, ◌+◌, ◌++◌, length, [], IfOk, OnOk};
 ghost use Rattle.std.specs.List.{flat_map};
 ghost use Rattle.bandwidth_file.specs.Relays as its;
 ghost use Rattle.bandwidth_file.specs.Texts.{relay_text};
@@ -69,6 +69,20 @@ impl Relays {
     {
         self.map.insert(row.identity, row.bandwidth)?;
         Ok(())
+    }
+
+    /// The identities and their bandwidths, in ascending order.
+    ///
+    /// # Errors
+    /// `Memory` is want of memory.
+    pub fn rows(&self, alloc: Global) -> Result<Vec<(Fingerprint, u32)>, Memory>
+        ensures { IfOk result (λ rows. rows.items ≡ self.now) }
+    {
+        let mut rows = Vec::new(alloc);
+        for (identity, bandwidth) in &self.map {
+            rows.push((*identity, *bandwidth))?;
+        }
+        Ok(rows)
     }
 
     /// Appends a line for each relay, ascending by identity.
