@@ -25,7 +25,8 @@ use Rattle.vote_maker.specs.Listings.{made_entries}
 use Rattle.vote_maker.specs.Listings.{listed_relays, same_key}
 use Rattle.range_laws.proofs.EntryTexts.{HasRests}
 use Rattle.range_laws.proofs.KeptEntries.{count_map}
-use Rattle.maker_laws.proofs.EntryRanges.{IsJudgedInRange, IsBelow, judged_ascend, judged_few, entry_ranged, entry_rests}
+use Rattle.maker_laws.proofs.EntryRanges.{IsBelow, IsJudgedInRange, entry_ranged, entry_rests, judged_ascend}
+use Rattle.maker_laws.proofs.EntryRanges.{judged_few}
 
 -- ---- no two of one key
 

@@ -30,7 +30,8 @@ use Rattle.vote_laws.specs.Again.{IsSignatureInRange}
 use Rattle.made_laws.specs.Made.{IsMadeInRange}
 use Rattle.made_laws.proofs.MadeTexts.{before_same, before_text, behind_same, behind_text, text_parts}
 use Rattle.range_laws.proofs.CertRead.{items_writable}
-use Rattle.maker_laws.specs.ReadAsMade.{HasShortLine, IsMadeInRangeButForLimits}
+use Rattle.station_lines.specs.Lines.{HasShortLine}
+use Rattle.maker_laws.specs.ReadAsMade.{IsMadeInRangeButForLimits}
 use Rattle.maker_laws.proofs.ObjectFits.{object_fits}
 
 -- ---- lines

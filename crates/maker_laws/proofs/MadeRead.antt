@@ -20,8 +20,11 @@ use Rattle.descriptor_doc.specs.declared.descriptor.Descriptor.{Descriptor}
 use Rattle.descriptor_ranges.specs.Ranges.{DescriptorsReadAreInRange, IsDescriptorInRange}
 use Rattle.flag_rules.specs.Flags.{flags_of}
 use Rattle.flag_rules.specs.Relays.{ruled_relays}
+use Rattle.flag_rules.specs.declared.ruling.Ruling.{Ruling}
 use Rattle.made_laws.proofs.MadeAgain.{made_again}
 use Rattle.station_certs.proofs.GivenCert.{certificates_are_given}
+use Rattle.station_lines.specs.Lines.{HasShortLines}
+use Rattle.station_lines.proofs.GivenLines.{given_short}
 use Rattle.station_ranges.specs.Ranges.{IsStationInRange}
 use Rattle.station_ranges.proofs.StationKept.{station_in_range}
 use Rattle.vote_terms.specs.declared.entry.EntryFacts.{EntryFacts}
@@ -138,8 +141,25 @@ before_none facts =
 
 -- ---- the law
 
+-- the lines of what a station is given are short
+made_lines : (its : Basis) (rulings : List Ruling) (signature : List ℕ) → IsBasis its
+    → HasShortLines (signed_facts its rulings signature)
+made_lines its rulings signature basis =
+    let read = basis.station in
+    given_short read.input its.station read.used (signed_facts its rulings signature) read.read
+    (record {
+      nickname = refl;
+      identity = refl;
+      address = refl;
+      ip = refl;
+      dir_port = refl;
+      or_port = refl;
+      contact = refl;
+      lists = refl;
+    })
+
 pub read_as_made : DescriptorsReadAreInRange → MadeVotesReadAsMade
-read_as_made law front its rulings signature rest few basis signing limits =
+read_as_made law front its rulings signature rest few basis signing fits =
     let facts = signed_facts its rulings signature in
     let station = station_ranged its basis in
     let descriptors = descriptors_ranged law its basis in
@@ -152,6 +172,6 @@ read_as_made law front its rulings signature rest few basis signing limits =
     let read = basis.station in
     let given = certificates_are_given read.input its.station read.used read.read in
     made_again front facts its.station.certificate_bytes rest few given
-    (made_in_range facts its.station.certificate_bytes signing.short may limits.fits
-    (before_short its rulings signature may.values limits.lines) (made_short relays judged)
+    (made_in_range facts its.station.certificate_bytes signing.short may fits
+    (before_short its rulings signature may.values (made_lines its rulings signature basis)) (made_short relays judged)
     (before_none facts) (entries_none facts.entries).each)

@@ -16,10 +16,11 @@ use Rattle.vote_text.specs.Entries.{entries_items, entry_items, items_each, line
 use Rattle.vote_text.specs.Entries.{micro_line}
 use Rattle.vote_maker.specs.Entries.{micro_of_text}
 use Rattle.vote_maker.specs.Listings.{JudgedRelay, entry_of_judged, has_entry, listed_relays, made_entries}
-use Rattle.maker_laws.specs.ReadAsMade.{HasShortLine}
+use Rattle.station_lines.specs.Lines.{HasShortLine}
 use Rattle.maker_laws.proofs.EntryRanges.{IsJudgedInRange, entry_ranged}
 use Rattle.maker_laws.proofs.MadeLimits.{line_short}
-use Rattle.maker_laws.proofs.ShortTexts.{relay_short, names_short, IsMillion, platform_short, rest_short, bandwidths_short, key_short, micro_short}
+use Rattle.maker_laws.proofs.ShortTexts.{IsMillion, bandwidths_short, key_short, micro_short, names_short}
+use Rattle.maker_laws.proofs.ShortTexts.{platform_short, relay_short, rest_short}
 
 -- ---- its items
 
@@ -34,7 +35,8 @@ pub one_line : (keyword : Keyword) (rest : List ℕ) → IsMillion rest → AreS
 one_line keyword rest few =
     record { each = All-cons HasShortLine (bare keyword rest) [] (line_short keyword rest few) (All-nil HasShortLine) }
 
-pub line_if : (keyword : Keyword) (rest : Option (List ℕ)) → IfSome rest IsMillion → AreShortLines (item_if keyword rest)
+pub line_if : (keyword : Keyword) (rest : Option (List ℕ)) → IfSome rest IsMillion
+    → AreShortLines (item_if keyword rest)
 line_if keyword None few = no_lines
 line_if keyword (Some rest) few = one_line keyword rest few
 
@@ -62,7 +64,8 @@ entry_short one is =
     & one_line the.S (set_text entry.flags) (names_short one.flags)
     & line_if the.V entry.version (platform_short one.descriptor.platform d.platform)
     & line_if the.Pr entry.protocols (rest_short one.descriptor.proto d.proto)
-    & line_if the.W (option_map bandwidths_text entry.bandwidths) (bandwidths_short entry.bandwidths in_range.bandwidths)
+    & line_if the.W (option_map bandwidths_text entry.bandwidths)
+    (bandwidths_short entry.bandwidths in_range.bandwidths)
     & line_if the.P entry.policy (policy_short one)
     & one_line the.M (micro_line micro) (micro_short (micro_text_of one.descriptor))
     & line_if the.Id (ed_text entry.ed) (key_short entry.ed in_range.ed)

@@ -99,8 +99,8 @@ nickname_short name is =
     let both = leb-true (length name) 19 (and_parts (nat_le 1 (length name)) (nat_le (length name) 19) is).1 in
     omega (arith, both)
 
-pub relay_short : (entry : EntryFacts) → IsRelayInRange entry.nickname entry.identity entry.digest entry.ip entry.or_port
-    entry.dir_port → length (line_of entry) ≤ 1000000
+pub relay_short : (entry : EntryFacts)
+    → IsRelayInRange entry.nickname entry.identity entry.digest entry.ip entry.or_port entry.dir_port → length (line_of entry) ≤ 1000000
 relay_short entry are =
     let m = moment_of entry.published in
     let P : List ℕ → Type 0 = IsAtMost 65536 in

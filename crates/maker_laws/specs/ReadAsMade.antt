@@ -1,19 +1,14 @@
 -- A vote that was made is read as what it was made to say (dir-spec, "Vote and consensus status document formats").
 use Rattle.std.specs.Prelude.{◌≡◌, ℕ, ◌+◌, ◌≤◌, ◌<◌, ◌^◌, List, ◌++◌, length, All, Ok}
 use Rattle.base64.specs.GeneralPurpose.{IsBytes}
-use Rattle.item_terms.specs.Faults.{max_line}
-use Rattle.dirdoc_grammar.specs.Writing.{NewItem, keyword_text}
 use Rattle.dirdoc_laws.specs.Written.{IsItem}
-use Rattle.frame_terms.specs.declared.keyword.Keyword.TheVariants as the
-use Rattle.frame_values.specs.Items.{bare, item_if}
 use Rattle.key_port.specs.Signing.{signature_limit}
 use Rattle.flag_rules.specs.declared.ruling.Ruling.{Ruling}
 use Rattle.vote_terms.specs.Votes.{ReadVote}
 use Rattle.vote_terms.specs.declared.facts.VoteFacts.{VoteFacts}
 use Rattle.vote_text.specs.Entries.{entries_items}
 use Rattle.vote_text.specs.Made.{made_text}
-use Rattle.vote_text.specs.Lists.{param_items, protocol_items, version_items}
-use Rattle.vote_text.specs.Texts.{authority_items, footer_items, preamble_items, source_text}
+use Rattle.vote_text.specs.Texts.{authority_items, footer_items, preamble_items}
 use Rattle.vote_doc.specs.Reading.{max_vote, vote_from}
 use Rattle.vote_laws.specs.Again.{HasValuesInRange}
 use Rattle.made_laws.specs.Made.{IsMadeVote}
@@ -47,30 +42,12 @@ abbrev pub MadeAreInRange : Type 0
 MadeAreInRange = (its : Basis) (rulings : List Ruling) (signature : List ℕ) → IsBasis its
     → IsSigning its rulings signature → IsMadeInRangeButForLimits (signed_facts its rulings signature)
 
--- the line of an item is no longer than a line may be
-abbrev pub HasShortLine : NewItem → Type 0
-HasShortLine item = length (keyword_text item) + 1 ≤ max_line
-
--- The lines of the vote's lists, of who its authority is and of its contact are no longer than a line may be.
-pub record HasShortLines (facts : VoteFacts) : Type 0 where
-  pub versions : All HasShortLine (version_items facts.lists)
-  pub protocols : All HasShortLine (protocol_items facts.lists)
-  pub params : All HasShortLine (param_items facts.lists.params)
-  pub source : HasShortLine (bare the.DirSource (source_text facts))
-  pub contact : All HasShortLine (item_if the.Contact facts.contact)
-
--- These lines are such, and the whole is no longer than a vote may be.
-pub record IsMadeWithinLimits (facts : VoteFacts) (bytes : List ℕ) : Type 0 where
-  pub lines : HasShortLines facts
-  pub fits : length (made_text facts bytes) ≤ max_vote
-
--- Within these limits the text is read as what is made, whatever stands before it, of fewer than 2 ^ 62 bytes, and
--- behind
--- it, and has the bytes of the station's certificate.
+-- Where the text is no longer than a vote may be, it is read as what is made, whatever stands before it, of fewer than
+-- 2 ^ 62 bytes, and behind it, and has the bytes of the station's certificate.
 abbrev pub MadeVotesReadAsMade : Type 0
 MadeVotesReadAsMade = (front : List ℕ) (its : Basis) (rulings : List Ruling) (signature rest : List ℕ)
     → length front < 2 ^ 62 → IsBasis its → IsSigning its rulings signature
-    → IsMadeWithinLimits (signed_facts its rulings signature) its.station.certificate_bytes
+    → length (signed_made_text its rulings signature) ≤ max_vote
     → (vote : ReadVote)
     × (vote_from (length front) (front ++ (signed_made_text its rulings signature ++ rest))
     ≡ Ok (vote, length front + length (signed_made_text its rulings signature)))

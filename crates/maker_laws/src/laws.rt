@@ -7,8 +7,8 @@ pub fn made_are_in_range()
     ensures { MadeAreInRange }
 {}
 
-/// A law: within limits the text is read as what is made, whatever stands before and behind it, and has the bytes of the
-/// station's certificate.
+/// A law: a text that is no longer than a vote may be is read as what is made, whatever stands before and behind it, and has
+/// the bytes of the station's certificate.
 pub fn made_votes_read_as_made()
     ensures { MadeVotesReadAsMade }
 {}

@@ -1,0 +1,4 @@
+pub mod ItemLines
+pub mod StandingLines
+pub mod OwnLine
+pub mod GivenLines
