@@ -1,0 +1,20 @@
+-- What a pool becomes by the descriptors that are kept one by one.
+use Rattle.std.specs.Prelude.{◌≡◌, true, List, [], ◌∷◌, Option, Some, None, if◌then◌else◌}
+use Rattle.descriptor_doc.specs.declared.descriptor.Descriptor.{Descriptor}
+use Rattle.vote_pool.specs.declared.answers.Keep.{Keep}
+use Rattle.vote_pool.specs.Pools.{Pooled, answer_to, is_change, pool_after}
+
+-- the pool after descriptors
+abbrev pub stock_after : Pooled → List Descriptor → Pooled
+stock_after pool [] = pool
+stock_after pool (descriptor ∷ descriptors) = stock_after (pool_after pool descriptor) descriptors
+
+-- Descriptors that may have been kept one after the other from a pool on: each changed it.
+abbrev pub AreKept : Pooled → List Descriptor → Type 0
+AreKept pool [] = Unit {0}
+AreKept pool (descriptor ∷ descriptors) =
+    (is_change (answer_to pool descriptor) ≡ true) × AreKept (pool_after pool descriptor) descriptors
+
+-- a descriptor that was answered so, where that changed the pool
+abbrev pub kept_if : Descriptor → Keep → Option Descriptor
+kept_if descriptor answer = if is_change answer then Some descriptor else None
