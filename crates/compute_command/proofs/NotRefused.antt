@@ -54,3 +54,5 @@ not_refused rules wanted bytes (refusal.Votes (list.TooFew count roster)) can a 
     absurd (false≢true (cc (a.read, can.read, a.count_is, a.roster_is, a.few, can.enough)))
 not_refused rules wanted bytes refusal.Verifier can a = refl
 not_refused rules wanted bytes (refusal.Bandwidth why) can a = absurd a
+not_refused rules wanted bytes (refusal.Station why) can a = absurd a
+not_refused rules wanted bytes refusal.Signer can a = absurd a

@@ -26,6 +26,10 @@ compute =
 abbrev pub of_kind : List ℕ → App
 of_kind name = with_rule (new_app name) (needed_word (codes "kind"))
 
+-- the command `make-vote`, which takes no more words
+abbrev pub make_vote : App
+make_vote = new_app (codes "make-vote")
+
 -- the program before its commands: the words do not begin with its name, a command must stand there, and no words ask for help
 abbrev pub program : App
 program = let plain = new_app (codes "authority_daemon") in record plain {
@@ -35,7 +39,8 @@ program = let plain = new_app (codes "authority_daemon") in record plain {
 -- the program with its commands
 abbrev pub command_line : App
 command_line =
-    with_subcommand (with_subcommand (with_subcommand program compute.top) (of_kind (codes "check")).top) (of_kind (codes "show")).top
+    with_subcommand (with_subcommand (with_subcommand (with_subcommand program compute.top) (of_kind (codes "check")).top)
+    (of_kind (codes "show")).top) make_vote.top
 
 -- what is wrong with the words: nothing, where they are of this command line
 unfoldable pub faults : List (String Global) → Kinds

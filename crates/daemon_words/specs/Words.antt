@@ -78,7 +78,8 @@ command_named name options =
     if bytes_eq name (codes "compute") then compute_in options
     else (if bytes_eq name (codes "check") then option_map command.Check (subject_in options)
     else (if bytes_eq name (codes "show") then option_map command.Show (subject_in options)
-    else None))
+    else (if bytes_eq name (codes "make-vote") then Some command.MakeVote
+    else None)))
 
 -- the command that was named, if nothing is wrong with the words
 abbrev pub command_read : Kinds → Option (Text × List Row) → Option Command

@@ -67,6 +67,8 @@ pub enum Command {
     Check(Subject),
     /// Reads what is named, and writes its canonical text.
     Show(Subject),
+    /// Reads what a station is given, and writes its signed vote.
+    MakeVote,
 }
 
 /// The command that the words give, without the program's name in front, or nothing where they are not of the grammar.
@@ -94,6 +96,7 @@ fn command_named(
         "compute" => compute_with(alloc, options),
         "check" => Ok(subject_in(options).map(Command::Check)),
         "show" => Ok(subject_in(options).map(Command::Show)),
+        "make-vote" => Ok(Some(Command::MakeVote)),
         _ => Ok(None),
     }
 }

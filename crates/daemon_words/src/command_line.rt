@@ -32,6 +32,7 @@ fn command_line<'a>(alloc: Global) -> Result<Command<'a>, AllocError>
     let compute = compute(alloc)?;
     let check = of_kind(alloc, "check")?;
     let show = of_kind(alloc, "show")?;
+    let make_vote = make_vote(alloc);
     Command::new(alloc, "authority_daemon")
         .no_binary_name(true)
         .disable_help_flag(true)
@@ -39,7 +40,8 @@ fn command_line<'a>(alloc: Global) -> Result<Command<'a>, AllocError>
         .subcommand_required(true)
         .subcommand(compute)?
         .subcommand(check)?
-        .subcommand(show)
+        .subcommand(show)?
+        .subcommand(make_vote)
 }
 
 /// The command `compute` with its options.
@@ -59,6 +61,14 @@ fn of_kind<'a>(alloc: Global, name: &'a str) -> Result<Command<'a>, AllocError>
     ensures local { IfOk result (λ command. (out-Command command).has_globals ≡ false) }
 {
     Command::new(alloc, name).arg(needed_word(alloc, "kind"))
+}
+
+/// The command `make-vote`, which takes no more words.
+fn make_vote<'a>(alloc: Global) -> Command<'a>
+    ensures app { app_of result ≡ command_line.make_vote }
+    ensures local { (out-Command result).has_globals ≡ false }
+{
+    Command::new(alloc, "make-vote")
 }
 
 /// A word that must stand once, by itself.

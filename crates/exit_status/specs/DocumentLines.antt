@@ -19,36 +19,36 @@ document_limit kind.Descriptor = codes "descriptor 65536"
 document_limit kind.Micro = codes "microdescriptor 65536"
 document_limit kind.Detached = codes "detached 1048576"
 
--- what is wrong with a line or an object of a document of a kind; a limit with its number
-abbrev pub doc_text : Kind → DocReason → List ℕ
-doc_text kind doc.Keyword = codes "keyword"
-doc_text kind doc.Nul = codes "nul"
-doc_text kind doc.Unterminated = codes "unterminated"
-doc_text kind doc.ObjectWords = codes "object words"
-doc_text kind doc.ObjectBase64 = codes "object base64"
-doc_text kind doc.ObjectEnd = codes "object end"
-doc_text kind doc.LineTooLong = codes "line 1048576"
-doc_text kind doc.DocumentTooLong = document_limit kind
-doc_text kind doc.ObjectTooLong = codes "object 65536"
+-- what is wrong with a line or an object of a document that has this limit; a limit with its number
+abbrev pub doc_text : List ℕ → DocReason → List ℕ
+doc_text limit doc.Keyword = codes "keyword"
+doc_text limit doc.Nul = codes "nul"
+doc_text limit doc.Unterminated = codes "unterminated"
+doc_text limit doc.ObjectWords = codes "object words"
+doc_text limit doc.ObjectBase64 = codes "object base64"
+doc_text limit doc.ObjectEnd = codes "object end"
+doc_text limit doc.LineTooLong = codes "line 1048576"
+doc_text limit doc.DocumentTooLong = limit
+doc_text limit doc.ObjectTooLong = codes "object 65536"
 
 -- the same as the parts of a line, with the place of what is no limit
-abbrev pub doc_parts : Kind → ℕ → DocReason → List (List ℕ)
-doc_parts kind place doc.LineTooLong = codes "limit " ∷ doc_text kind doc.LineTooLong ∷ end ∷ []
-doc_parts kind place doc.DocumentTooLong = codes "limit " ∷ doc_text kind doc.DocumentTooLong ∷ end ∷ []
-doc_parts kind place doc.ObjectTooLong = codes "limit " ∷ doc_text kind doc.ObjectTooLong ∷ end ∷ []
-doc_parts kind place other = at_place place (doc_text kind other) []
+abbrev pub doc_parts : List ℕ → ℕ → DocReason → List (List ℕ)
+doc_parts limit place doc.LineTooLong = codes "limit " ∷ doc_text limit doc.LineTooLong ∷ end ∷ []
+doc_parts limit place doc.DocumentTooLong = codes "limit " ∷ doc_text limit doc.DocumentTooLong ∷ end ∷ []
+doc_parts limit place doc.ObjectTooLong = codes "limit " ∷ doc_text limit doc.ObjectTooLong ∷ end ∷ []
+doc_parts limit place other = at_place place (doc_text limit other) []
 
--- what is wrong with an item of a document of a kind
-abbrev pub fault_parts : Kind → ℕ → FrameReason → List (List ℕ)
-fault_parts kind place (reason.Doc other) = doc_parts kind place other
-fault_parts kind place (reason.Missing keyword) = at_place place (codes "missing ") (text_of keyword)
-fault_parts kind place (reason.Twice keyword) = at_place place (codes "twice ") (text_of keyword)
-fault_parts kind place reason.Order = at_place place (codes "order") []
-fault_parts kind place (reason.TooMany limit) =
-    codes "limit " ∷ limit_name limit ∷ codes " " ∷ decimal (limit_number limit) ∷ end ∷ []
-fault_parts kind place reason.Value = at_place place (codes "value") []
-fault_parts kind place reason.Unsorted = at_place place (codes "unsorted") []
-fault_parts kind place reason.DuplicateEd = at_place place (codes "duplicate ed25519") []
+-- what is wrong with an item of a document that has this limit
+abbrev pub fault_parts : List ℕ → ℕ → FrameReason → List (List ℕ)
+fault_parts limit place (reason.Doc other) = doc_parts limit place other
+fault_parts limit place (reason.Missing keyword) = at_place place (codes "missing ") (text_of keyword)
+fault_parts limit place (reason.Twice keyword) = at_place place (codes "twice ") (text_of keyword)
+fault_parts limit place reason.Order = at_place place (codes "order") []
+fault_parts limit place (reason.TooMany what) =
+    codes "limit " ∷ limit_name what ∷ codes " " ∷ decimal (limit_number what) ∷ end ∷ []
+fault_parts limit place reason.Value = at_place place (codes "value") []
+fault_parts limit place reason.Unsorted = at_place place (codes "unsorted") []
+fault_parts limit place reason.DuplicateEd = at_place place (codes "duplicate ed25519") []
 
 -- ---- numbers
 

@@ -1,8 +1,9 @@
 -- The line that each status writes, and its number.
 use Rattle.std.specs.Prelude.{ℕ, List, [], ◌∷◌, codes}
 use Rattle.exit_status.specs.BandwidthLines.{bandwidth_number, bandwidth_parts}
-use Rattle.exit_status.specs.DocumentLines.{fault_number, fault_parts}
+use Rattle.exit_status.specs.DocumentLines.{document_limit, fault_number, fault_parts}
 use Rattle.exit_status.specs.Parts.{end, joined}
+use Rattle.exit_status.specs.StationLines.{station_number, station_parts}
 use Rattle.exit_status.specs.VoteLines.{votes_number, votes_parts}
 use Rattle.exit_status.specs.declared.status.Refusal.{Refusal}
 use Rattle.exit_status.specs.declared.status.Refusal.TheVariants as refusal
@@ -11,10 +12,12 @@ use Rattle.exit_status.specs.declared.status.Status.TheVariants as status
 
 -- the parts of a refusal's line: a line for each family of commands
 abbrev pub refusal_parts : Refusal → List (List ℕ)
-refusal_parts (refusal.Document why) = fault_parts why.kind why.fault.place why.fault.reason
+refusal_parts (refusal.Document why) = fault_parts (document_limit why.kind) why.fault.place why.fault.reason
 refusal_parts (refusal.Votes why) = votes_parts why
+refusal_parts (refusal.Station why) = station_parts why
 refusal_parts refusal.Verifier = codes "verifier fault" ∷ end ∷ []
 refusal_parts (refusal.Bandwidth why) = bandwidth_parts why
+refusal_parts refusal.Signer = codes "signer fault" ∷ end ∷ []
 
 -- the parts of a status's line
 abbrev pub parts : Status → List (List ℕ)
@@ -36,8 +39,10 @@ line_of given = joined (parts given)
 abbrev pub refusal_number : Refusal → ℕ
 refusal_number (refusal.Document why) = fault_number why.fault.reason
 refusal_number (refusal.Votes why) = votes_number why
+refusal_number (refusal.Station why) = station_number why
 refusal_number refusal.Verifier = 8
 refusal_number (refusal.Bandwidth why) = bandwidth_number why
+refusal_number refusal.Signer = 10
 
 -- the number of a status
 abbrev pub number_of : Status → ℕ

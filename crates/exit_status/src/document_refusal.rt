@@ -29,7 +29,7 @@ impl DocumentRefusal {
 }
 
 /// 9 where the fault is a limit, and else 5.
-fn fault_number(reason: FrameReason) -> u8
+pub(crate) fn fault_number(reason: FrameReason) -> u8
     ensures { result ≡ lines.fault_number reason }
 {
     match reason {
@@ -48,7 +48,7 @@ fn fault_number(reason: FrameReason) -> u8
 }
 
 /// The limit of a document of a kind, with its number.
-fn document_limit(kind: Kind) -> &'static [u8]
+pub(crate) fn document_limit(kind: Kind) -> &'static [u8]
     ensures { result.now ≡ lines.document_limit kind }
 {
     match kind {
@@ -61,9 +61,9 @@ fn document_limit(kind: Kind) -> &'static [u8]
     }
 }
 
-/// What a line says of a fault of a document of a kind.
-fn doc_text(kind: Kind, reason: DocReason) -> &'static [u8]
-    ensures { result.now ≡ lines.doc_text kind reason }
+/// What a line says of a fault of a document that has this limit.
+fn doc_text(limit: &'static [u8], reason: DocReason) -> &'static [u8]
+    ensures { result.now ≡ lines.doc_text limit.now reason }
 {
     match reason {
         DocReason::Keyword => b"keyword",
@@ -73,43 +73,43 @@ fn doc_text(kind: Kind, reason: DocReason) -> &'static [u8]
         DocReason::ObjectBase64 => b"object base64",
         DocReason::ObjectEnd => b"object end",
         DocReason::LineTooLong => b"line 1048576",
-        DocReason::DocumentTooLong => document_limit(kind),
+        DocReason::DocumentTooLong => limit,
         DocReason::ObjectTooLong => b"object 65536",
     }
 }
 
-/// Writes what is wrong with a line or an object of a document of a kind.
-fn report_doc<E: Sink>(errors: &mut E, kind: Kind, place: u64, reason: DocReason)
+/// Writes what is wrong with a line or an object of a document that has this limit.
+fn report_doc<E: Sink>(errors: &mut E, limit: &'static [u8], place: u64, reason: DocReason)
     ensures { Reports (E.written errors.old) (E.written errors.new) (E.faults errors.old) (E.faults errors.new)
-        (joined (lines.doc_parts kind place reason)) }
+        (joined (lines.doc_parts limit.now place reason)) }
 {
     match reason {
         DocReason::LineTooLong | DocReason::DocumentTooLong | DocReason::ObjectTooLong => {
-            write_parts(errors, &[b"limit ", doc_text(kind, reason), b"\n"])
+            write_parts(errors, &[b"limit ", doc_text(limit, reason), b"\n"])
         }
-        _ => report_at(errors, place, doc_text(kind, reason), b""),
+        _ => report_at(errors, place, doc_text(limit, reason), b""),
     }
 }
 
-/// Writes what is wrong with a document of a kind.
-pub fn report_fault<E: Sink>(errors: &mut E, kind: Kind, place: u64, reason: FrameReason)
+/// Writes what is wrong with a document that has this limit.
+pub fn report_fault<E: Sink>(errors: &mut E, limit: &'static [u8], place: u64, reason: FrameReason)
     ensures { Reports (E.written errors.old) (E.written errors.new) (E.faults errors.old) (E.faults errors.new)
-        (joined (lines.fault_parts kind place reason)) }
+        (joined (lines.fault_parts limit.now place reason)) }
 {
     match reason {
-        FrameReason::Doc(reason) => report_doc(errors, kind, place, reason),
+        FrameReason::Doc(reason) => report_doc(errors, limit, place, reason),
         FrameReason::Missing(keyword) => report_at(errors, place, b"missing ", keyword.text()),
         FrameReason::Twice(keyword) => report_at(errors, place, b"twice ", keyword.text()),
         FrameReason::Order => report_at(errors, place, b"order", b""),
         FrameReason::Value => report_at(errors, place, b"value", b""),
         FrameReason::Unsorted => report_at(errors, place, b"unsorted", b""),
         FrameReason::DuplicateEd => report_at(errors, place, b"duplicate ed25519", b""),
-        FrameReason::TooMany(limit) => {
+        FrameReason::TooMany(what) => {
             let mut most = itoa::Buffer::new();
-            let most = most.format(limit.number());
+            let most = most.format(what.number());
             write_parts(
                 errors,
-                &[b"limit ", limit.name(), b" ", most.as_bytes(), b"\n"],
+                &[b"limit ", what.name(), b" ", most.as_bytes(), b"\n"],
             )
         }
     }

@@ -5,6 +5,7 @@ ghost use Rattle.exit_status.specs.Lines.{number_of, refusal_number};
 
 use crate::bandwidth_refusal::BandwidthRefusal;
 use crate::document_refusal::DocumentRefusal;
+use crate::station_refusal::StationRefusal;
 use crate::vote_refusal::VoteListRefusal;
 use std::process::ExitCode;
 
@@ -15,10 +16,14 @@ pub enum Refusal {
     Document(DocumentRefusal),
     /// The votes that the input is give no consensus.
     Votes(VoteListRefusal),
-    /// The first verifier failed, and it is not known whether the votes are acceptable.
+    /// No vote is made of what a station is given.
+    Station(StationRefusal),
+    /// The first verifier failed, and it is not known whether what it was asked of holds.
     Verifier,
     /// The input gives no bandwidth file that counts.
     Bandwidth(BandwidthRefusal),
+    /// The signer failed.
+    Signer,
 }
 
 /// How a run ends.
@@ -72,8 +77,10 @@ impl Refusal {
         match self {
             Refusal::Document(refusal) => refusal.number(),
             Refusal::Votes(refusal) => refusal.number(),
+            Refusal::Station(refusal) => refusal.number(),
             Refusal::Verifier => 8,
             Refusal::Bandwidth(refusal) => refusal.number(),
+            Refusal::Signer => 10,
         }
     }
 }

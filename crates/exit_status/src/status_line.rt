@@ -5,8 +5,9 @@ ghost use Rattle.exit_status.specs.Parts.{joined};
 ghost use Rattle.exit_status.specs.Reports.{Reports};
 
 use crate::bandwidth_refusal::report_bandwidth;
-use crate::document_refusal::report_fault;
+use crate::document_refusal::{document_limit, report_fault};
 use crate::parts::write_parts;
+use crate::station_refusal::report_station;
 use crate::status::{Refusal, Status};
 use crate::vote_refusal::report_votes;
 use dir_bytes::Sink;
@@ -35,12 +36,14 @@ fn report_refusal<E: Sink>(errors: &mut E, refusal: Refusal)
     match refusal {
         Refusal::Document(refusal) => report_fault(
             errors,
-            refusal.kind,
+            document_limit(refusal.kind),
             refusal.fault.place,
             refusal.fault.reason,
         ),
         Refusal::Votes(refusal) => report_votes(errors, refusal),
+        Refusal::Station(refusal) => report_station(errors, refusal),
         Refusal::Verifier => write_parts(errors, &[b"verifier fault", b"\n"]),
         Refusal::Bandwidth(refusal) => report_bandwidth(errors, refusal),
+        Refusal::Signer => write_parts(errors, &[b"signer fault", b"\n"]),
     }
 }
