@@ -1,0 +1,129 @@
+// The descriptors behind what a station is given, checked and kept one by one.
+ghost use Rattle.std.specs.Prelude.{◌≡◌, ◌≤◌, ◌<◌, ◌^◌, Err, IfOk, length};
+ghost use Rattle.dir_bytes.specs.Causes.{Rose};
+ghost use Rattle.key_port.specs.Answers.{rules};
+ghost use Rattle.descriptor_doc.specs.Reading.{IsRead};
+ghost use Rattle.station_commands.specs.Descriptors as descriptors;
+ghost use Rattle.station_commands.specs.Reads as reads;
+
+use crate::told::{descriptor_refused, station_refused};
+use bytes::Bytes;
+use daemon_words::Kind;
+use descriptor_doc::{Descriptor, check, read};
+use dirdoc_grammar::Items;
+use exit_status::{Refusal, StationWord, Stop, of_kind};
+use frame_terms::{FrameFault, ReadRefusal};
+use key_port::Verifier;
+use std::alloc::Global;
+use vote_pool::{Keep, Pool, PoolEntry, prepare};
+
+/// More bytes than an input has.
+const NO_LIMIT: u64 = 2_305_843_009_213_693_952;
+
+/// Whether only blank lines follow a place.
+fn ends_at(bytes: &Bytes, place: usize) -> bool
+    requires within { place ≤ length bytes.now }
+    requires short { length bytes.now < 2 ^ 61 }
+    ensures { result ≡ descriptors.ends_at place bytes.now }
+{
+    matches!(
+        Items::starting_at(bytes, place as u64, NO_LIMIT).next(),
+        Ok(None)
+    )
+}
+
+/// A refusal of what stands from a place on, by its place in the input.
+fn from_place(place: usize, refusal: ReadRefusal) -> ReadRefusal
+    ensures { result ≡ descriptors.refusal_from place refusal }
+{
+    match refusal {
+        ReadRefusal::Frame(fault) => ReadRefusal::Frame(FrameFault {
+            place: (place as u64).saturating_add(fault.place),
+            reason: fault.reason,
+        }),
+        ReadRefusal::Memory => ReadRefusal::Memory,
+    }
+}
+
+/// The descriptor that stands in the input from a place on, and the place behind it. It shares the input's bytes.
+///
+/// # Errors
+/// `Frame` is the first fault of what stands there, with its place in the input. `Memory` is want of memory.
+fn read_at(alloc: Global, bytes: &Bytes, place: usize) -> Result<(Descriptor, usize), ReadRefusal>
+    requires within { place ≤ length bytes.now }
+    requires short { length bytes.now < 2 ^ 61 }
+    ensures reads { reads.ReadsAt place bytes.now result }
+    ensures read { IfOk result (λ found. IsRead found.0) }
+{
+    let rest = bytes.slice(place..)?;
+    match read(alloc, &rest) {
+        Ok((descriptor, used)) => Ok((descriptor, place + used)),
+        Err(refusal) => Err(from_place(place, refusal)),
+    }
+}
+
+/// What is kept of the descriptor with this number, which stands in the input from a place on, and the place behind it.
+fn entry_at<V: Verifier>(
+    alloc: Global,
+    bytes: &Bytes,
+    place: usize,
+    number: u64,
+    verifier: &mut V,
+) -> Result<(PoolEntry<V>, usize), Stop>
+    requires within { place ≤ length bytes.now }
+    requires short { length bytes.now < 2 ^ 61 }
+    ensures gives { reads.GivesEntry (rules V.may_accept V.may_refuse) place number bytes.now result }
+    ensures fault { result ≡ Err (Stop.Refused Refusal.Verifier) → Rose (V.faults verifier.old) (V.faults verifier.new) }
+    ensures faults { V.faults verifier.old ≤ V.faults verifier.new }
+    ensures told { V.faults verifier.old < V.faults verifier.new → result ≡ Err (Stop.Refused Refusal.Verifier) }
+{
+    let (descriptor, after) = of_kind(Kind::Descriptor, read_at(alloc, bytes, place))?;
+    match check(descriptor, verifier) {
+        Ok(checked) => Ok((prepare(alloc, checked)?, after)),
+        Err(refusal) => Err(descriptor_refused(number, refusal)),
+    }
+}
+
+/// The pool of the descriptors that stand in the input from a place on: each is read, checked and kept in turn.
+///
+/// # Errors
+/// `Refused` by the first that applies: the first fault of a descriptor, or the first that does not hold, with its number from
+/// 1, or `Verifier` where the verifier's count of faults rose; and behind all of them `Pool`, where one of them found the pool
+/// full. `Memory` is want of memory.
+pub fn pool_of<V: Verifier>(
+    alloc: Global,
+    bytes: &Bytes,
+    start: usize,
+    verifier: &mut V,
+) -> Result<Pool<V>, Stop>
+    requires within { start ≤ length bytes.now }
+    requires short { length bytes.now < 2 ^ 61 }
+    ensures gives { descriptors.GivesPool (rules V.may_accept V.may_refuse) start bytes.now result }
+    ensures fault { result ≡ Err (Stop.Refused Refusal.Verifier) → Rose (V.faults verifier.old) (V.faults verifier.new) }
+    ensures faults { V.faults verifier.old ≤ V.faults verifier.new }
+    ensures told { V.faults verifier.old < V.faults verifier.new → result ≡ Err (Stop.Refused Refusal.Verifier) }
+{
+    let mut pool = Pool::new(alloc)?;
+    let mut place = start;
+    let mut number = 0;
+    let mut full = false;
+    'descriptors: while !ends_at(bytes, place) {
+        number += 1;
+        let (entry, after) = entry_at(alloc, bytes, place, number, verifier)?;
+        let found_full = keep(&mut pool, entry);
+        full = full || found_full;
+        place = after;
+    }
+    if full {
+        return Err(station_refused(StationWord::Pool));
+    }
+    Ok(pool)
+}
+
+/// Keeps a descriptor, and says whether it found the pool full.
+fn keep<V: Verifier>(pool: &mut Pool<V>, entry: PoolEntry<V>) -> bool
+    ensures full { result ≡ descriptors.is_full pool.old entry }
+    ensures pool { pool.new ≡ descriptors.kept pool.old entry }
+{
+    matches!(pool.keep(entry), Keep::PoolFull)
+}
