@@ -1,56 +1,93 @@
--- What a run ends with whose text was written, whole or in part.
-use Rattle.std.proofs.Common.{◌≡◌, ℕ, ◌<◌, ◌≤◌, Bool, true, false, List, [], length, take, Option, Some, None, Ok, subst, ◌∙◌}
+-- What a run ends with whose text was written, whole or in part, or whose command refused the input.
+use Rattle.std.proofs.Common.{◌≡◌, ℕ, ◌<◌, ◌≤◌, Bool, true, false, List, [], length, take, Option, Some, None}
+use Rattle.std.proofs.Common.{Result, Ok, Err, ap, subst, ◌∙◌}
 use Rattle.std.specs.Global.{Vec}
 use Rattle.std.specs.Io.KnownBytes.{Appends}
 use Rattle.dir_bytes.specs.Streams.{ReadsAll}
-use Rattle.key_port.specs.Answers.{Rules}
 use Rattle.daemon_words.specs.declared.command.Command.{Command}
+use Rattle.exit_status.specs.declared.status.Refusal.{Refusal}
 use Rattle.exit_status.specs.declared.status.Status.TheVariants as status
-use Rattle.authority_daemon.specs.Commands.{Answers}
+use Rattle.exit_status.specs.declared.stop.Stop.{Stop}
+use Rattle.exit_status.specs.declared.stop.Stop.TheVariants as stop
 use Rattle.std.specs.Bool.{OnTrue}
 use Rattle.authority_daemon.specs.Runs.{Ends, HasEnded, Told, input_limit, reads_input}
+use Rattle.authority_daemon.specs.Commands.{May}
+use Rattle.authority_daemon.specs.Inside.{IsAnswer}
+use Rattle.authority_daemon.specs.World.{Moment, TellsFaults}
 
--- the command answered this text to the input
-answered : (rules : Rules) (given : Option Command) (command c : Command) (input lent text : List ℕ)
-    → Some command ≡ given → given ≡ Some c → lent ≡ input → Answers rules command lent (Ok text)
-    → Answers rules c input (Ok text)
-answered rules given command c input lent text is names same answers =
+-- a refusal, as what a command returns
+abbrev as_stop : Refusal → Result (Vec ℕ) Stop
+as_stop why = Err (stop.Refused why)
+
+-- the command answered this to the input
+answered : (answers : Command → List ℕ → Result (List ℕ) Refusal → Type 0) (given : Option Command)
+    (command c : Command) (input lent : List ℕ) (answer : Result (List ℕ) Refusal)
+    → Some command ≡ given → given ≡ Some c → lent ≡ input → answers command lent answer
+    → answers c input answer
+answered answers given command c input lent answer is names same told =
     let one : command ≡ c = cc (is, names) in
-    subst (λ (k : Command). Answers rules k input (Ok text)) one
-    (subst (λ (bytes : List ℕ). Answers rules command bytes (Ok text)) same answers)
+    subst (λ (k : Command). answers k input answer) one
+    (subst (λ (bytes : List ℕ). answers command bytes answer) same told)
+
+-- it refused the input
+pub refused : (answers : Command → List ℕ → Result (List ℕ) Refusal → Type 0) (given : Option Command)
+    (command : Command) (left after : Option (List ℕ)) (limit : ℕ)
+    (bytes : Vec ℕ) (lent : List ℕ) (why : Refusal) (old new : Option (List ℕ))
+    → Some command ≡ given → ReadsAll left after limit (Ok bytes) → lent ≡ bytes.items → answers command lent (Err why)
+    → (c : Command) → given ≡ Some c → Told left (λ input. Ends (answers c input) old new (status.Refused why))
+refused answers given command None after limit bytes lent why old new is reads same told c names = tt
+refused answers given command (Some input) after limit bytes lent why old new is reads same told c names =
+    answered answers given command c input lent (Err why) is names (same ∙ reads.0) told
+
+-- a fault is told by the refusal that a command answers
+pub tells_refusal : (before now : ℕ) (why other : Refusal) → TellsFaults before now (as_stop why ≡ as_stop other)
+    → TellsFaults before now (status.Refused why ≡ status.Refused other)
+tells_refusal before now why other tells = record {
+  cause = λ ends. let same : why ≡ other = cc ends in tells.cause (ap as_stop same);
+  told = λ more. let same : why ≡ other = cc (tells.told more) in ap (λ (r : Refusal). status.Refused r) same;
+}
+
+-- what a call says that stopped so
+pub as_refused : {S C V N : Type 0} (its : May N) (c : Command) (bytes : List ℕ) (old new : Moment S C V N)
+    (given : Stop) (why : Refusal)
+    → given ≡ stop.Refused why → IsAnswer its c bytes old new (Err given) → IsAnswer its c bytes old new (as_stop why)
+as_refused its c bytes old new given why is told = subst (λ (s : Stop). IsAnswer its c bytes old new (Err s)) is told
 
 -- its text was written whole
-pub done : (rules : Rules) (given : Option Command) (command : Command) (left after : Option (List ℕ)) (limit : ℕ)
+pub done : (answers : Command → List ℕ → Result (List ℕ) Refusal → Type 0) (given : Option Command)
+    (command : Command) (left after : Option (List ℕ)) (limit : ℕ)
     (bytes : Vec ℕ) (lent text sent : List ℕ) (old new : Option (List ℕ))
     → Some command ≡ given → ReadsAll left after limit (Ok bytes) → lent ≡ bytes.items
-    → Answers rules command lent (Ok text) → sent ≡ text → Appends old new sent
-    → (c : Command) → given ≡ Some c → Told left (λ input. Ends (Answers rules c input) old new status.Done)
-done rules given command None after limit bytes lent text sent old new is reads same answers all appends c names = tt
-done rules given command (Some input) after limit bytes lent text sent old new is reads same answers all appends c names = (
-  text,
-  answered rules given command c input lent text is names (same ∙ reads.0) answers,
-  subst (λ (t : List ℕ). Appends old new t) all appends,
-)
+    → answers command lent (Ok text) → sent ≡ text → Appends old new sent
+    → (c : Command) → given ≡ Some c → Told left (λ input. Ends (answers c input) old new status.Done)
+done answers given command None after limit bytes lent text sent old new is reads same told all appends c names = tt
+done answers given command (Some input) after limit bytes lent text sent old new is reads same told all appends c
+    names = (
+      text,
+      answered answers given command c input lent (Ok text) is names (same ∙ reads.0) told,
+      subst (λ (t : List ℕ). Appends old new t) all appends,
+    )
 
 -- a front of its text was written
-pub failed : (rules : Rules) (given : Option Command) (command : Command) (left after : Option (List ℕ)) (limit : ℕ)
+pub failed : (answers : Command → List ℕ → Result (List ℕ) Refusal → Type 0) (given : Option Command)
+    (command : Command) (left after : Option (List ℕ)) (limit : ℕ)
     (bytes : Vec ℕ) (lent text sent : List ℕ) (count : ℕ) (old new : Option (List ℕ))
     → Some command ≡ given → ReadsAll left after limit (Ok bytes) → lent ≡ bytes.items
-    → Answers rules command lent (Ok text) → sent ≡ text → Appends old new (take count sent) → count < length sent
-    → (c : Command) → given ≡ Some c → Told left (λ input. Ends (Answers rules c input) old new status.WriteFault)
-failed rules given command None after limit bytes lent text sent count old new is reads same answers all appends short c
+    → answers command lent (Ok text) → sent ≡ text → Appends old new (take count sent) → count < length sent
+    → (c : Command) → given ≡ Some c → Told left (λ input. Ends (answers c input) old new status.WriteFault)
+failed answers given command None after limit bytes lent text sent count old new is reads same told all appends short c
     names = tt
-failed rules given command (Some input) after limit bytes lent text sent count old new is reads same answers all appends
+failed answers given command (Some input) after limit bytes lent text sent count old new is reads same told all appends
     short c names = (
       text,
       count,
-      answered rules given command c input lent text is names (same ∙ reads.0) answers,
+      answered answers given command c input lent (Ok text) is names (same ∙ reads.0) told,
       subst (λ (t : List ℕ). count < length t) all short,
       subst (λ (t : List ℕ). Appends old new (take count t)) all appends,
     )
 
 -- where it holds it holds on a condition
-on_true : (b : Bool) (P : Type 0) → P → OnTrue b P
+pub on_true : (b : Bool) (P : Type 0) → P → OnTrue b P
 on_true true P p = p
 on_true false P p = tt
 
@@ -61,7 +98,7 @@ is_within None after bytes reads c = tt
 is_within (Some input) after bytes reads c = on_true (reads_input c) (length input ≤ input_limit) reads.2
 
 -- and has ended, where the source is then left as it was
-pub has_ended : (left after now : Option (List ℕ)) (bytes : Vec ℕ) → now ≡ after → ReadsAll left after input_limit (Ok bytes)
-    → (c : Command) → OnTrue (reads_input c) (HasEnded left now)
+pub has_ended : (left after now : Option (List ℕ)) (bytes : Vec ℕ) → now ≡ after
+    → ReadsAll left after input_limit (Ok bytes) → (c : Command) → OnTrue (reads_input c) (HasEnded left now)
 has_ended None after now bytes same reads c = on_true (reads_input c) (Unit {0}) tt
 has_ended (Some input) after now bytes same reads c = on_true (reads_input c) (now ≡ Some []) (same ∙ reads.1)

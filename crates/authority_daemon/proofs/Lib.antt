@@ -1,2 +1,4 @@
 pub mod Completeness
 pub mod Ending
+pub mod Unchecked
+pub mod Asking

@@ -1,15 +1,18 @@
 -- What the private functions of this crate say.
-use Rattle.std.specs.Prelude.{◌≡◌, ℕ, List, drop, Result, Err, IfErr, false}
+use Rattle.std.specs.Prelude.{◌≡◌, ℕ, List, drop, Some, Result, Ok, Err, IfErr, false}
 use Rattle.std.specs.Global.{Vec}
-use Rattle.key_port.specs.Answers.{Rules}
+use Rattle.std.specs.Bool.{OnTrue}
+use Rattle.dir_bytes.specs.Causes.{Counts}
 use Rattle.daemon_words.specs.declared.command.Command.{Command}
 use Rattle.exit_status.specs.declared.status.Refusal.TheVariants as refusal
 use Rattle.exit_status.specs.declared.stop.Stop.{Stop}
 use Rattle.exit_status.specs.declared.stop.Stop.TheVariants as stop
 use Rattle.exit_status.specs.Stops.{Answered}
-use Rattle.compute_command.specs.Answers.{IsOfDocuments}
+use Rattle.station_commands.specs.Voting.{IsBeforeSigner}
 use Rattle.authority_daemon.specs.declared.program.Outside.{Outside}
-use Rattle.authority_daemon.specs.Commands.{Answers, asks_clock, signs, verifies}
+use Rattle.exit_status.specs.declared.status.Status.TheVariants as status
+use Rattle.authority_daemon.specs.Commands.{Answers, May, asks_clock, signs, verifies}
+use Rattle.authority_daemon.specs.Runs.{IsBeforeChecks}
 use Rattle.authority_daemon.specs.World.{Moment, TellsFaults}
 
 -- The source and the two sinks are as they were.
@@ -18,13 +21,28 @@ pub record LeavesStreams {S K E C V N : Type 0} (old new : Outside S K E C V N) 
   pub sink : new.sink ≡ old.sink
   pub errors : new.errors ≡ old.errors
 
+-- there was memory for an answer
+abbrev pub IsAnswered : Result (Vec ℕ) Stop → Type 0
+IsAnswered (Ok text) = Unit {0}
+IsAnswered (Err (stop.Refused why)) = Unit {0}
+IsAnswered (Err stop.Memory) = ⊥
+
+-- a command stops before anything is checked
+abbrev pub IsUnchecked : Command → Stop → Type 0
+IsUnchecked c stop.Memory = ⊥
+IsUnchecked c (stop.Refused why) = IsBeforeChecks (Some c) (status.Refused why)
+
 -- What a command answers to an input, and what it asks of what stands outside.
-pub record IsAnswer {S C V N : Type 0} (rules : Rules) (c : Command) (bytes : List ℕ) (old new : Moment S C V N)
+pub record IsAnswer {S C V N : Type 0} (its : May N) (c : Command) (bytes : List ℕ) (old new : Moment S C V N)
     (result : Result (Vec ℕ) Stop) : Type 0 where
-  pub answer : Answered (Answers rules c bytes) result
+  pub answer : Answered (Answers its c new.last bytes old.signer new.signer) result
   pub verifier : TellsFaults old.verifier_faults new.verifier_faults (result ≡ Err (stop.Refused refusal.Verifier))
+  pub signer : TellsFaults old.signer_faults new.signer_faults (result ≡ Err (stop.Refused refusal.Signer))
   pub others : drop 1 new.verifiers ≡ drop 1 old.verifiers
   pub unasked : verifies c ≡ false → new.verifiers ≡ old.verifiers
-  pub unchecked : IfErr result (λ why. IsOfDocuments why → new.verifiers ≡ old.verifiers)
+  pub unchecked : IfErr result (λ why. IsUnchecked c why → new.verifiers ≡ old.verifiers)
+  pub timed : IsAnswered result → OnTrue (asks_clock c) (Counts old.asks new.asks)
+  pub other_clocks : drop 1 new.clocks ≡ drop 1 old.clocks
   pub untimed : asks_clock c ≡ false → new.clocks ≡ old.clocks
   pub unsigned : signs c ≡ false → new.signer ≡ old.signer
+  pub unasked_signer : IfErr result (λ why. IsBeforeSigner why → new.signer ≡ old.signer)

@@ -1,16 +1,20 @@
 -- What a whole run says: of the words, the input, what was written, and the counts of faults.
-use Rattle.std.specs.Prelude.{◌≡◌, ℕ, ◌+◌, ◌<◌, ◌≤◌, List, [], ◌∷◌, length, take, Option, Some, None, Result, Ok, Err, Bool, true}
+use Rattle.std.specs.Prelude.{◌≡◌, ℕ, ◌+◌, ◌<◌, ◌≤◌, List, [], ◌∷◌, length, take, Bool, true}
+use Rattle.std.specs.Prelude.{Option, Some, None, Result, Ok, Err}
 use Rattle.std.specs.Bool.{OnTrue}
 use Rattle.std.specs.Io.KnownBytes.{Appends, Keeps}
+use Rattle.dir_bytes.specs.Causes.{Counts}
 use Rattle.dir_bytes.specs.Streams.{TakesAtMost}
 use Rattle.key_port.specs.Answers.{Rules}
-use Rattle.authority_daemon.specs.Commands.{Answerable}
+use Rattle.station_commands.specs.Voting.{IsBeforeSigner, IsOfStation}
+use Rattle.authority_daemon.specs.Commands.{Answerable, asks_clock_if, reads_first_if}
 use Rattle.daemon_words.specs.declared.command.Command.{Command}
 use Rattle.daemon_words.specs.declared.command.Command.TheVariants as command
 use Rattle.exit_status.specs.declared.status.Status.{Status}
 use Rattle.exit_status.specs.declared.status.Status.TheVariants as status
 use Rattle.exit_status.specs.declared.status.Refusal.{Refusal}
 use Rattle.exit_status.specs.declared.status.Refusal.TheVariants as refusal
+use Rattle.exit_status.specs.declared.stop.Stop.TheVariants as stop
 
 -- how many bytes an input may have
 abbrev pub input_limit : ℕ
@@ -32,6 +36,7 @@ abbrev pub reads_input : Command → Bool
 reads_input (command.Compute wanted) = true
 reads_input (command.Check named) = true
 reads_input (command.Show named) = true
+reads_input command.MakeVote = true
 
 -- an input past the limit is said to be so, and no other is
 abbrev pub KeepsLimit : Command → List ℕ → Status → Type 0
@@ -83,14 +88,34 @@ abbrev pub first_count : {X : Type 0} → (X → ℕ) → List X → ℕ
 first_count count [] = 0
 first_count count (x ∷ xs) = count x
 
--- the words are refused, or the input could not be read, or is no list of documents or no bandwidth file: no vote was checked
-abbrev pub IsBeforeVotes : Status → Type 0
-IsBeforeVotes status.BadWords = Unit {0}
-IsBeforeVotes status.ReadFault = Unit {0}
-IsBeforeVotes status.TooLong = Unit {0}
-IsBeforeVotes (status.Refused (refusal.Document why)) = Unit {0}
-IsBeforeVotes (status.Refused (refusal.Bandwidth why)) = Unit {0}
-IsBeforeVotes _ = ⊥
+-- the words are refused, the input could not be read, or what is read of it before anything is checked is refused: its
+-- documents where all of them are read before, or what a station is given
+abbrev pub IsBeforeChecks : Option Command → Status → Type 0
+IsBeforeChecks given status.BadWords = Unit {0}
+IsBeforeChecks given status.ReadFault = Unit {0}
+IsBeforeChecks given status.TooLong = Unit {0}
+IsBeforeChecks given (status.Refused (refusal.Document why)) = reads_first_if given ≡ true
+IsBeforeChecks given (status.Refused (refusal.Bandwidth why)) = reads_first_if given ≡ true
+IsBeforeChecks given (status.Refused (refusal.Station why)) = IsOfStation (stop.Refused (refusal.Station why))
+IsBeforeChecks given _ = ⊥
+
+-- the words are refused, the input could not be read, or something is refused before the signer is asked
+abbrev pub IsBeforeSigning : Status → Type 0
+IsBeforeSigning status.BadWords = Unit {0}
+IsBeforeSigning status.ReadFault = Unit {0}
+IsBeforeSigning status.TooLong = Unit {0}
+IsBeforeSigning (status.Refused why) = IsBeforeSigner (stop.Refused why)
+IsBeforeSigning _ = ⊥
+
+-- a command that asks a clock has asked the first of them where it answers the input
+abbrev pub HasAsked : Option Command → ℕ → ℕ → Status → Type 0
+HasAsked given before now status.Done = OnTrue (asks_clock_if given) (Counts before now)
+HasAsked given before now status.WriteFault = OnTrue (asks_clock_if given) (Counts before now)
+HasAsked given before now (status.Refused why) = OnTrue (asks_clock_if given) (Counts before now)
+HasAsked given before now status.Memory = Unit {0}
+HasAsked given before now status.BadWords = Unit {0}
+HasAsked given before now status.ReadFault = Unit {0}
+HasAsked given before now status.TooLong = Unit {0}
 
 -- the text was written, or there was no memory
 abbrev pub IsDoneOrMemory : Status → Type 0

@@ -1,13 +1,14 @@
 -- What stands outside of the program, and what a whole run says of it.
-use Rattle.std.specs.Prelude.{◌≡◌, Some, ℕ, ◌<◌, List, drop, Option, None, false}
+use Rattle.std.specs.Prelude.{◌≡◌, ℕ, ◌<◌, List, drop, Option, None, Some, false}
 use Rattle.dir_bytes.specs.Causes.{Rose}
 use Rattle.key_port.specs.Answers.{Rules}
 use Rattle.daemon_words.specs.declared.command.Command.{Command}
 use Rattle.exit_status.specs.declared.status.Refusal.TheVariants as refusal
 use Rattle.exit_status.specs.declared.status.Status.{Status}
 use Rattle.exit_status.specs.declared.status.Status.TheVariants as status
-use Rattle.authority_daemon.specs.Commands.{Answers, asks_clock_if, signs_if, verifies_if}
-use Rattle.authority_daemon.specs.Runs.{Ends, IsBeforeVotes, IsDoneOrMemory, KeepsLimit, KnowsWords, MustAnswer}
+use Rattle.authority_daemon.specs.Commands.{Answers, May, asks_clock_if, signs_if, verifies_if}
+use Rattle.authority_daemon.specs.Runs.{HasAsked, Ends, IsBeforeChecks, IsBeforeSigning, IsDoneOrMemory, KeepsLimit}
+use Rattle.authority_daemon.specs.Runs.{KnowsWords, MustAnswer}
 use Rattle.authority_daemon.specs.Runs.{ReadsThrough, StopsReading, Told, WritesOnlyAnswers}
 
 -- What stands outside at a moment, but for the errors sink: objects, what they tell, and how often they have failed. Where
@@ -20,13 +21,16 @@ pub record Moment (S C V N : Type 0) : Type 0 where
   -- what was written to the sink
   pub written : Option (List ℕ)
   pub write_faults : ℕ
-  -- the clocks
+  -- the clocks, the moment that the first gave last, and how often it was asked
   pub clocks : List C
+  pub last : ℕ
+  pub asks : ℕ
   -- the verifiers
   pub verifiers : List V
   pub verifier_faults : ℕ
   -- the signer
   pub signer : N
+  pub signer_faults : ℕ
 
 -- Where a run ends so, the count of an object's faults rose; and where the count is greater than before, the run ends so.
 pub record TellsFaults (before now : ℕ) (ends_so : Type 0) : Type 0 where
@@ -35,13 +39,14 @@ pub record TellsFaults (before now : ℕ) (ends_so : Type 0) : Type 0 where
 
 -- What a run says that ends with a status, of the words, which give this command or none, and of what stands outside before
 -- and after it.
-pub record IsRun {S C V N : Type 0} (rules : Rules) (given : Option Command) (old new : Moment S C V N)
+pub record IsRun {S C V N : Type 0} (its : May N) (given : Option Command) (old new : Moment S C V N)
     (s : Status) : Type 0 where
   -- bad words are exactly those that give no command
   pub words : KnowsWords given s
   -- the status and the text written are the command's for the input
   pub ends : (c : Command) → given ≡ Some c
-      → Told old.left (λ bytes. Ends (Answers rules c bytes) old.written new.written s)
+      → Told old.left
+      (λ bytes. Ends (Answers its c new.last bytes old.signer new.signer) old.written new.written s)
   -- nothing was written, but with the statuses of writing
   pub written : WritesOnlyAnswers old.written new.written s
   -- an input past its limit is said to be so, and no other is
@@ -52,20 +57,24 @@ pub record IsRun {S C V N : Type 0} (rules : Rules) (given : Option Command) (ol
   pub stops : StopsReading old.left new.left s
   -- words that give no command leave the source as it was
   pub unread : given ≡ None → new.source ≡ old.source
-  -- the source, the sink and the first verifier fail exactly where the status says so
+  -- the source, the sink, the first verifier and the signer fail exactly where the status says so
   pub source : TellsFaults old.read_faults new.read_faults (s ≡ status.ReadFault)
   pub sink : TellsFaults old.write_faults new.write_faults (s ≡ status.WriteFault)
   pub verifier : TellsFaults old.verifier_faults new.verifier_faults (s ≡ status.Refused refusal.Verifier)
+  pub signer : TellsFaults old.signer_faults new.signer_faults (s ≡ status.Refused refusal.Signer)
   -- the first verifier alone is asked
   pub others : drop 1 new.verifiers ≡ drop 1 old.verifiers
   -- words that give no command, and a command that verifies nothing, ask none
   pub unasked : verifies_if given ≡ false → new.verifiers ≡ old.verifiers
-  -- none is asked where the words, the input or its documents are refused
-  pub unchecked : IsBeforeVotes s → new.verifiers ≡ old.verifiers
-  -- the same of the clocks, where a command asks none
+  -- none is asked where the words or the input are refused, or what is read before anything is checked
+  pub unchecked : IsBeforeChecks given s → new.verifiers ≡ old.verifiers
+  -- a command that asks a clock asks the first alone; any other asks none
+  pub timed : HasAsked given old.asks new.asks s
+  pub other_clocks : drop 1 new.clocks ≡ drop 1 old.clocks
   pub untimed : asks_clock_if given ≡ false → new.clocks ≡ old.clocks
-  -- and of the signer, where it has nothing signed
+  -- a command that has nothing signed leaves the signer as it was, and so does one that refuses something before
   pub unsigned : signs_if given ≡ false → new.signer ≡ old.signer
+  pub unasked_signer : IsBeforeSigning s → new.signer ≡ old.signer
 
 -- An input that has to be answered is, unless there is no memory or something outside failed.
 abbrev pub AnswersWhatItMust : {S C V N : Type 0} → Rules → Option Command → Moment S C V N → Moment S C V N → Status

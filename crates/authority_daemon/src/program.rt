@@ -4,6 +4,7 @@ ghost use Rattle.key_port.specs.Answers.{rules};
 ghost use Rattle.daemon_words.specs.Words as grammar;
 ghost use Rattle.exit_status.specs.Lines.{line_of};
 ghost use Rattle.exit_status.specs.Reports.{Reports};
+ghost use Rattle.authority_daemon.specs.Commands.{may};
 ghost use Rattle.authority_daemon.specs.Inside.{IsAnswer, LeavesStreams};
 ghost use Rattle.authority_daemon.specs.Runs.{first_count};
 ghost use Rattle.authority_daemon.specs.World.{AnswersWhatItMust, IsRun, Moment};
@@ -15,6 +16,7 @@ use dir_bytes::{Clock, ReadAllFault, Sink, Source, WriteAll, read_all, write_all
 use document_commands::{check, show};
 use exit_status::{Refusal, Status, Stop, report};
 use key_port::{Signer, Verifier};
+use station_commands::make_vote;
 use std::alloc::Global;
 
 /// How many bytes an input may have.
@@ -29,11 +31,11 @@ pub struct Outside<S: Drop, K: Drop, E: Drop, C: Drop, V: Drop, N: Drop> {
     pub sink: K,
     /// Where the line goes that says why there is no text.
     pub errors: E,
-    /// The clocks, one for each worker. No command asks one yet.
+    /// The clocks, one for each worker. A command without workers asks the first.
     pub clocks: Vec<C>,
     /// What answers whether signatures are right, one for each worker. A command without workers asks the first.
     pub verifiers: Vec<V>,
-    /// What signs. No command asks it yet.
+    /// What signs.
     pub signer: N,
 }
 
@@ -58,9 +60,12 @@ impl<
       written = K.written outside.sink;
       write_faults = K.faults outside.sink;
       clocks = outside.clocks.items;
+      last = first_count C.last outside.clocks.items;
+      asks = first_count C.asks outside.clocks.items;
       verifiers = outside.verifiers.items;
       verifier_faults = first_count V.faults outside.verifiers.items;
       signer = outside.signer;
+      signer_faults = N.faults outside.signer;
     } };
 }
 
@@ -68,9 +73,9 @@ impl<
 /// text, or a line to `errors` that says why there is none.
 ///
 /// Of several statuses that apply the first is given: `BadWords`, `ReadFault`, `TooLong`, the refusals in the order of
-/// the input (its first fault, then the first vote that is refused or of which the verifier fails, then too few votes),
-/// and then `WriteFault`. `Memory` may come at any time. The input is read to its end, or past its limit,
-/// also where it is refused.
+/// the command (of `compute` the input's first fault, then the first vote that is refused or of which the verifier
+/// fails, then too few votes; of `make-vote` as `station_commands::make_vote` has them), and then `WriteFault`.
+/// `Memory` may come at any time. The input is read to its end, or past its limit, also where it is refused.
 pub fn run<
     S: Source + Drop,
     K: Sink + Drop,
@@ -79,16 +84,19 @@ pub fn run<
     V: Verifier + Drop,
     N: Signer + Drop,
 >(alloc: Global, words: &[String], outside: &mut Outside<S, K, E, C, V, N>) -> Status
+    requires clocks { 0 < vec_len outside.old.clocks }
     requires verifiers { 0 < vec_len outside.old.verifiers }
     // The words, the input, the text, the faults, and what is asked.
     ensures run { let at = ⟦<Outside<S, K, E, C, V, N> as Stands<S, C, V, N>>⟧.at in
-        IsRun (rules V.may_accept V.may_refuse) (grammar.command_of words.now) (at outside.old) (at outside.new) result }
+        IsRun (may V.may_accept V.may_refuse N.may_give N.steps) (grammar.command_of words.now)
+        (at outside.old) (at outside.new) result }
     // The errors sink gets the line of the status.
     ensures errors { Reports (E.written outside.old.errors) (E.written outside.new.errors)
         (E.faults outside.old.errors) (E.faults outside.new.errors) (line_of result) }
     // An input that has to be answered is, unless there is no memory or something outside failed.
     ensures complete { let at = ⟦<Outside<S, K, E, C, V, N> as Stands<S, C, V, N>>⟧.at in
-        AnswersWhatItMust (rules V.may_accept V.may_refuse) (grammar.command_of words.now) (at outside.old) (at outside.new) result }
+        AnswersWhatItMust (rules V.may_accept V.may_refuse) (grammar.command_of words.now)
+        (at outside.old) (at outside.new) result }
 {
     let status = run_command(alloc, words, outside);
     report(&mut outside.errors, status);
@@ -104,9 +112,11 @@ fn run_command<
     V: Verifier + Drop,
     N: Signer + Drop,
 >(alloc: Global, words: &[String], outside: &mut Outside<S, K, E, C, V, N>) -> Status
+    requires clocks { 0 < vec_len outside.old.clocks }
     requires verifiers { 0 < vec_len outside.old.verifiers }
     ensures run { let at = ⟦<Outside<S, K, E, C, V, N> as Stands<S, C, V, N>>⟧.at in
-        IsRun (rules V.may_accept V.may_refuse) (grammar.command_of words.now) (at outside.old) (at outside.new) result }
+        IsRun (may V.may_accept V.may_refuse N.may_give N.steps) (grammar.command_of words.now)
+        (at outside.old) (at outside.new) result }
     ensures quiet { outside.new.errors ≡ outside.old.errors }
 {
     let command = match command_of(alloc, words) {
@@ -144,10 +154,12 @@ fn answer<
     bytes: Vec<u8>,
     outside: &mut Outside<S, K, E, C, V, N>,
 ) -> Result<Vec<u8>, Stop>
+    requires clocks { 0 < vec_len outside.old.clocks }
     requires verifiers { 0 < vec_len outside.old.verifiers }
     requires length { vec_len bytes < 2 ^ 61 }
     ensures answer { let at = ⟦<Outside<S, K, E, C, V, N> as Stands<S, C, V, N>>⟧.at in
-        IsAnswer (rules V.may_accept V.may_refuse) command.now bytes.items (at outside.old) (at outside.new) result }
+        IsAnswer (may V.may_accept V.may_refuse N.may_give N.steps) command.now bytes.items
+        (at outside.old) (at outside.new) result }
     ensures streams { LeavesStreams outside.old outside.new }
 {
     let input = Bytes::from_vec(bytes)?;
@@ -168,15 +180,24 @@ fn answer_to<
     bytes: &Bytes,
     outside: &mut Outside<S, K, E, C, V, N>,
 ) -> Result<Vec<u8>, Stop>
+    requires clocks { 0 < vec_len outside.old.clocks }
     requires verifiers { 0 < vec_len outside.old.verifiers }
     requires length { length bytes.now < 2 ^ 61 }
     ensures answer { let at = ⟦<Outside<S, K, E, C, V, N> as Stands<S, C, V, N>>⟧.at in
-        IsAnswer (rules V.may_accept V.may_refuse) command.now bytes.now (at outside.old) (at outside.new) result }
+        IsAnswer (may V.may_accept V.may_refuse N.may_give N.steps) command.now bytes.now
+        (at outside.old) (at outside.new) result }
     ensures streams { LeavesStreams outside.old outside.new }
 {
     match command {
         Command::Compute(wanted) => compute(alloc, wanted, bytes, &mut outside.verifiers[0]),
         Command::Check(subject) => check(alloc, *subject, bytes),
         Command::Show(subject) => show(alloc, *subject, bytes),
+        Command::MakeVote => make_vote(
+            alloc,
+            bytes,
+            &mut outside.clocks[0],
+            &mut outside.verifiers[0],
+            &mut outside.signer,
+        ),
     }
 }

@@ -30,7 +30,9 @@ fn words(rt: &HostRuntime) -> io::Result<Vec<String>> {
 }
 
 /// The system's clock, for each worker.
-fn clocks<'a>(rt: &'a HostRuntime) -> Result<Vec<SystemClock<&'a HostRuntime>>, AllocError> {
+fn clocks<'a>(rt: &'a HostRuntime) -> Result<Vec<SystemClock<&'a HostRuntime>>, AllocError>
+    ensures { IfOk result (λ clocks. 0 < vec_len clocks) }
+{
     let mut clocks = Vec::new(rt.alloc());
     clocks.push(SystemClock::new(rt))?;
     clocks.push(SystemClock::new(rt))?;

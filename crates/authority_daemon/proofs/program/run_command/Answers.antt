@@ -1,9 +1,13 @@
-use Rattle.std.proofs.Common.{rules, refl, ◌≡◌, List, ℕ, Option, Some, ap, subst}
+use Rattle.std.proofs.Common.{rules, refl, sym, ◌≡◌, List, ℕ, Option, Some, None, ap, subst}
 use Rattle.std.specs.Io.KnownBytes.{Appends}
 use Rattle.std.specs.Prelude.{take}
-use Rattle.key_port.specs.Answers.{rules as rules_of}
 use Rattle.daemon_words.specs.Words as grammar
-use Rattle.authority_daemon.proofs.Ending.{done, failed, has_ended, is_within}
+use Rattle.daemon_words.specs.declared.command.Command.{Command}
+use Rattle.exit_status.specs.declared.status.Status.TheVariants as status
+use Rattle.exit_status.specs.declared.stop.Stop.TheVariants as stop
+use Rattle.authority_daemon.specs.Commands.{Answers, may}
+use Rattle.authority_daemon.specs.Runs.{HasAsked, IsBeforeChecks, first_count}
+use Rattle.authority_daemon.proofs.Ending.{as_refused, done, failed, has_ended, is_within, refused, tells_refusal}
 use Rattle.authority_daemon.proofs.program.run_command.Goals as goal
 
 pub returns-in-Done-clause-run : goal.returns-in-Done-clause-run
@@ -14,7 +18,10 @@ returns-in-Done-clause-run g c =
     record {
       words = search rules;
       ends =
-          done (rules_of g.V.Verifier.may_accept g.V.Verifier.may_refuse) (grammar.command_of c.args.words.now)
+          done (λ k bytes answer. Answers
+          (may g.V.Verifier.may_accept g.V.Verifier.may_refuse g.N.Signer.may_give g.N.Signer.steps)
+          k (first_count g.C.Clock.last c.answer.new.outside.clocks.items) bytes c.args.outside.now.signer
+          c.answer.new.outside.signer answer) (grammar.command_of c.args.words.now)
           c.in-Ok-Some.command _ _ _ c.in-Ok.bytes c.in-Ok.bytes.items c.in-Ok-answer.text.items
           c.deref.result.now _ _
           is c.in-Ok.ensures.whole refl c.in-Ok-answer.ensures.answer.answer
@@ -29,11 +36,15 @@ returns-in-Done-clause-run g c =
       source = search rules;
       sink = search rules;
       verifier = search rules;
+      signer = search rules;
       others = search rules;
       unasked = search rules;
       unchecked = search rules;
+      timed = search rules;
+      other_clocks = search rules;
       untimed = search rules;
       unsigned = search rules;
+      unasked_signer = search rules;
     }
 
 pub returns-in-Ok-answer-clause-run : goal.returns-in-Ok-answer-clause-run
@@ -44,7 +55,10 @@ returns-in-Ok-answer-clause-run g c =
     record {
       words = search rules;
       ends =
-          failed (rules_of g.V.Verifier.may_accept g.V.Verifier.may_refuse) (grammar.command_of c.args.words.now)
+          failed (λ k bytes answer. Answers
+          (may g.V.Verifier.may_accept g.V.Verifier.may_refuse g.N.Signer.may_give g.N.Signer.steps)
+          k (first_count g.C.Clock.last c.answer.new.outside.clocks.items) bytes c.args.outside.now.signer
+          c.answer.new.outside.signer answer) (grammar.command_of c.args.words.now)
           c.in-Ok-Some.command _ _ _ c.in-Ok.bytes c.in-Ok.bytes.items c.in-Ok-answer.text.items
           c.deref.result.now c.in-Failed.sent _ _
           is c.in-Ok.ensures.whole refl c.in-Ok-answer.ensures.answer.answer
@@ -60,9 +74,55 @@ returns-in-Ok-answer-clause-run g c =
       source = search rules;
       sink = search rules;
       verifier = search rules;
+      signer = search rules;
       others = search rules;
       unasked = search rules;
       unchecked = search rules;
+      timed = search rules;
+      other_clocks = search rules;
       untimed = search rules;
       unsigned = search rules;
+      unasked_signer = search rules;
+    }
+
+pub returns-clause-run : goal.returns-clause-run
+returns-clause-run g c =
+    let is : Some c.in-Ok-Some.command ≡ grammar.command_of c.args.words.now = search rules in
+    let kept = ap g.S.Source.left c.in-Err-Refused.ensures.streams.source in
+    let stopped : c.in-Err-Refused.field-0 ≡ stop.Refused c.in-Err-Refused.refusal = search rules in
+    let told = as_refused
+    (may g.V.Verifier.may_accept g.V.Verifier.may_refuse g.N.Signer.may_give g.N.Signer.steps) _ _ _ _
+    c.in-Err-Refused.field-0 c.in-Err-Refused.refusal stopped c.in-Err-Refused.ensures.answer in
+    record {
+      words = search rules;
+      ends =
+          refused (λ k bytes answer. Answers
+          (may g.V.Verifier.may_accept g.V.Verifier.may_refuse g.N.Signer.may_give g.N.Signer.steps)
+          k (first_count g.C.Clock.last c.answer.new.outside.clocks.items) bytes c.args.outside.now.signer
+          c.answer.new.outside.signer answer) (grammar.command_of c.args.words.now)
+          c.in-Ok-Some.command _ _ _ c.in-Ok.bytes c.in-Ok.bytes.items c.in-Err-Refused.refusal None None
+          is c.in-Ok.ensures.whole refl told.answer;
+      written = search rules;
+      limit = λ c1 names. is_within _ _ c.in-Ok.bytes c.in-Ok.ensures.whole c1;
+      read = λ c1 names. has_ended _ _ _ c.in-Ok.bytes kept c.in-Ok.ensures.whole c1;
+      stops = search rules;
+      unread = search rules;
+      source = search rules;
+      sink = search rules;
+      verifier = tells_refusal _ _ c.in-Err-Refused.refusal _ told.verifier;
+      signer = tells_refusal _ _ c.in-Err-Refused.refusal _ told.signer;
+      others = search rules;
+      unasked = search rules;
+      unchecked =
+          λ before. told.unchecked
+          (subst (λ (given : Option Command). IsBeforeChecks given (status.Refused c.in-Err-Refused.refusal)) (sym is)
+          before);
+      timed =
+          subst (λ (given : Option Command). HasAsked given (first_count g.C.Clock.asks c.args.outside.now.clocks.items)
+          (first_count g.C.Clock.asks c.answer.new.outside.clocks.items) (status.Refused c.in-Err-Refused.refusal)) is
+          (told.timed tt);
+      other_clocks = search rules;
+      untimed = search rules;
+      unsigned = search rules;
+      unasked_signer = told.unasked_signer;
     }

@@ -1,0 +1,73 @@
+-- What becomes of the first of some objects that is asked, and what a command that asks it answers.
+use Rattle.std.proofs.Common.{◌≡◌, ◌<◌, ◌∙◌, ℕ, List, [], ◌∷◌, length, Result, Ok, Err, refl, sym, ap, subst, arith}
+use Rattle.std.specs.Prelude.{IfErr, drop, slice_index_or, slice_set}
+use Rattle.std.specs.Global.{Vec}
+use Rattle.dir_bytes.specs.Causes.{Counts, Rose}
+use Rattle.daemon_words.specs.declared.command.Command.{Command}
+use Rattle.daemon_words.specs.declared.command.Command.TheVariants as command
+use Rattle.exit_status.specs.declared.stop.Stop.{Stop}
+use Rattle.exit_status.specs.declared.stop.Stop.TheVariants as stop
+use Rattle.exit_status.specs.Stops.{Answered}
+use Rattle.station_commands.specs.Voting.{IsOfStation, MakeVoteAnswers}
+use Rattle.authority_daemon.specs.Commands.{Answers, May}
+use Rattle.authority_daemon.specs.Inside.{IsUnchecked}
+use Rattle.authority_daemon.specs.Runs.{first_count}
+use Rattle.authority_daemon.specs.World.{TellsFaults}
+use Rattle.authority_daemon.proofs.Unchecked.{of_station}
+
+module _ {X : Type 0} where
+  -- what is told of the first afterwards
+  pub first_is : (count : X → ℕ) (items : List X) (x : X) → 0 < length items
+      → first_count count (slice_set items 0 x) ≡ count x
+  first_is count [] x some = absurd (omega (arith, some))
+  first_is count (y ∷ items) x some = refl
+
+  -- where it is as it was all are
+  pub all_stay : (items : List X) (x later : X) → 0 < length items → x ≡ slice_index_or items 0 x → later ≡ x
+      → slice_set items 0 later ≡ items
+  all_stay [] x later some is same = absurd (omega (arith, some))
+  all_stay (y ∷ items) x later some is same = ap (λ (z : X). z ∷ items) (same ∙ is)
+
+  -- those behind it are as they were
+  pub behind_stay : (items : List X) (later : X) → drop 1 (slice_set items 0 later) ≡ drop 1 items
+  behind_stay [] later = refl
+  behind_stay (y ∷ items) later = refl
+
+  -- what a call tells of its faults is told of the first
+  pub tells : (count : X → ℕ) (items : List X) (x later : X) (ends_so : Type 0) → 0 < length items
+      → x ≡ slice_index_or items 0 x → (ends_so → Rose (count x) (count later)) → (count x < count later → ends_so)
+      → TellsFaults (first_count count items) (first_count count (slice_set items 0 later)) ends_so
+  tells count [] x later ends_so some is cause told = absurd (omega (arith, some))
+  tells count (y ∷ items) x later ends_so some is cause told = record {
+    cause = λ ends. subst (λ (z : X). Rose (count z) (count later)) is (cause ends);
+    told = λ more. told (subst (λ (z : X). count z < count later) (sym is) more);
+  }
+
+  -- the count of the first rose
+  pub counted : (count : X → ℕ) (items : List X) (x later : X) → 0 < length items → x ≡ slice_index_or items 0 x
+      → Counts (count x) (count later) → Counts (first_count count items) (first_count count (slice_set items 0 later))
+  counted count [] x later some is told = absurd (omega (arith, some))
+  counted count (y ∷ items) x later some is told = subst (λ (z : X). Counts (count z) (count later)) is told
+
+  -- what `make-vote` asks none of, where it refuses what the station is given
+  pub none_asked : (c : Command) (items : List X) (x later : X) (result : Result (Vec ℕ) Stop) → c ≡ command.MakeVote
+      → 0 < length items → x ≡ slice_index_or items 0 x → IfErr result (λ why. IsOfStation why → later ≡ x)
+      → IfErr result (λ why. IsUnchecked c why → slice_set items 0 later ≡ items)
+  none_asked c items x later (Ok text) is some first asks = tt
+  none_asked c items x later (Err why) is some first asks =
+      λ unchecked. all_stay items x later some first
+      (asks (of_station why (subst (λ (k : Command). IsUnchecked k why) is unchecked)))
+
+module _ {N : Type 0} (its : May N) where
+  -- what `make-vote` answers at the moment that the clock gave
+  pub vote_answered : (c : Command) (given now : ℕ) (bytes : List ℕ) (old new : N) (result : Result (Vec ℕ) Stop)
+      → c ≡ command.MakeVote → now ≡ given
+      → Answered (λ answer. MakeVoteAnswers its.rules its.gives its.steps given bytes answer old new) result
+      → Answered (Answers its c now bytes old new) result
+  vote_answered c given now bytes old new (Ok text) is same told =
+      subst (λ (k : Command). Answers its k now bytes old new (Ok text.items)) (sym is)
+      (subst (λ (n : ℕ). MakeVoteAnswers its.rules its.gives its.steps n bytes (Ok text.items) old new) (sym same) told)
+  vote_answered c given now bytes old new (Err (stop.Refused why)) is same told =
+      subst (λ (k : Command). Answers its k now bytes old new (Err why)) (sym is)
+      (subst (λ (n : ℕ). MakeVoteAnswers its.rules its.gives its.steps n bytes (Err why) old new) (sym same) told)
+  vote_answered c given now bytes old new (Err stop.Memory) is same told = tt

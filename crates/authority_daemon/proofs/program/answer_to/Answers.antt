@@ -1,0 +1,37 @@
+use Rattle.std.proofs.Common.{◌<◌, length, rules}
+use Rattle.authority_daemon.specs.Commands.{asks_clock, may}
+use Rattle.authority_daemon.proofs.Asking.{behind_stay, counted, first_is, none_asked, tells, vote_answered}
+use Rattle.authority_daemon.proofs.Ending.{on_true}
+use Rattle.authority_daemon.proofs.program.answer_to.Goals as goal
+
+pub returns-in-MakeVote-clause-answer : goal.returns-in-MakeVote-clause-answer
+returns-in-MakeVote-clause-answer g c =
+    let clocks : 0 < length c.args.outside.now.clocks.items = search rules in
+    let verifiers : 0 < length c.args.outside.now.verifiers.items = search rules in
+    record {
+      answer =
+          vote_answered (may g.V.Verifier.may_accept g.V.Verifier.may_refuse g.N.Signer.may_give g.N.Signer.steps)
+          c.args.command.now (g.C.Clock.last c.make_vote.new.clock) _ c.args.bytes.now _ _ c.make_vote.result
+          c.in-MakeVote.is
+          (first_is g.C.Clock.last c.args.outside.now.clocks.items c.make_vote.new.clock clocks)
+          c.make_vote.ensures.answer;
+      verifier =
+          tells g.V.Verifier.faults c.args.outside.now.verifiers.items c.index_mut-in-MakeVote-2.result.now
+          c.make_vote.new.verifier _ verifiers c.index_mut-in-MakeVote-2.ensures.value
+          c.make_vote.ensures.verifier_fault c.make_vote.ensures.verifier_told;
+      signer = search rules;
+      others = behind_stay c.args.outside.now.verifiers.items c.make_vote.new.verifier;
+      unasked = search rules;
+      unchecked =
+          none_asked c.args.command.now c.args.outside.now.verifiers.items c.index_mut-in-MakeVote-2.result.now
+          c.make_vote.new.verifier c.make_vote.result c.in-MakeVote.is verifiers
+          c.index_mut-in-MakeVote-2.ensures.value c.make_vote.ensures.unasked;
+      timed =
+          λ answered. on_true (asks_clock c.args.command.now) _
+          (counted g.C.Clock.asks c.args.outside.now.clocks.items c.index_mut-in-MakeVote.result.now
+          c.make_vote.new.clock clocks c.index_mut-in-MakeVote.ensures.value c.make_vote.ensures.clock);
+      other_clocks = behind_stay c.args.outside.now.clocks.items c.make_vote.new.clock;
+      untimed = search rules;
+      unsigned = search rules;
+      unasked_signer = search rules;
+    }
