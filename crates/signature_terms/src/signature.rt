@@ -119,10 +119,19 @@ impl<V: Verifier> CheckedSig<V> {
         self.digest.as_bytes()
     }
 
-    /// The line, and the digest that was signed.
+    /// The signature: one that the verifier may accept by the key over the digest.
+    pub fn signature(&self) -> &[u8]
+        ensures value { result.now ≡ self.now.signature }
+        ensures accepted { V.may_accept kind.Signing self.now.key self.now.digest self.now.signature ≡ true }
+    {
+        self.line.signature.as_bytes()
+    }
+
+    /// The line, and the digest that was signed: a signature that the verifier may accept.
     pub fn into_parts(self) -> (SignatureLine, ShortBytes)
         ensures line { result.0 ≡ line_of self }
         ensures digest { result.1 ≡ self.digest }
+        ensures accepted { V.may_accept kind.Signing self.key self.digest self.signature ≡ true }
     {
         (self.line, self.digest)
     }
