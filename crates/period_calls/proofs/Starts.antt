@@ -1,0 +1,22 @@
+-- A station that begins is in a state that is a start.
+use Rattle.std.proofs.Common.{◌≡◌, ℕ, List, Result, Ok, Err, refl, IfOk}
+use Rattle.dir_values.specs.declared.digest.Fingerprint.{Fingerprint}
+use Rattle.dir_values.specs.Rosters.{IsRoster}
+use Rattle.vote_schedule.specs.Schedules.{Schedule, IsSchedule}
+use Rattle.period_terms.specs.declared.state.State.{State}
+use Rattle.period_terms.specs.Histories.{IsStart}
+use Rattle.period_core.specs.declared.station.StartFault.{StartFault}
+use Rattle.period_core.specs.Starting.{Starts}
+
+pub starts_so : (roster : List Fingerprint) (own : Fingerprint) (schedule : Schedule) (now : ℕ)
+    (result : Result State StartFault) → IsRoster roster → IsSchedule schedule → Starts roster own schedule now result
+    → IfOk result (λ state. IsStart state)
+starts_so roster own schedule now (Ok state) members times starts = rw starts.1.2 (record {
+  members = members;
+  member = starts.0;
+  times = times;
+  now = now;
+  next = starts.1.1;
+  empty = refl;
+})
+starts_so roster own schedule now (Err fault) members times starts = tt

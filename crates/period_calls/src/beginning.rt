@@ -1,0 +1,29 @@
+// An authority that begins.
+ghost use Rattle.std.specs.Prelude.{IfOk};
+ghost use Rattle.period_core.specs.Starting.{Starts};
+ghost use Rattle.period_terms.specs.Histories.{IsStart};
+
+use dir_values::{Fingerprint, Roster};
+use key_port::Verifier;
+use period_core::{StartFault, Station};
+use std::alloc::Global;
+use vote_schedule::Config;
+
+/// An authority of the roster that begins at a moment, in a state that is a start.
+///
+/// # Errors
+/// Those of `Station::start`.
+pub fn begin<V: Verifier>(
+    alloc: Global,
+    roster: Roster,
+    own: Fingerprint,
+    config: Config,
+    now: u64,
+) -> Result<Station<V>, StartFault>
+    ensures starts { Starts roster own config now result }
+    ensures start { IfOk result (λ state. IsStart state) }
+{
+    let _ = roster.len();
+    let _ = config.interval();
+    Station::start(alloc, roster, own, config, now)
+}
