@@ -1,3 +1,6 @@
 pub mod Lists
 pub mod Apps
 pub mod Named
+pub mod Rehearsed
+pub mod Reported
+pub mod Bounds

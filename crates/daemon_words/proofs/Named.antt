@@ -12,7 +12,7 @@ use Rattle.clap.specs.declared.parser.matches.SubCommand.{SubCommand}
 use Rattle.clap.specs.declared.parser.matches.ArgMatches.TheViews.{out-SubCommand}
 use Rattle.daemon_words.specs.declared.command.Flavours.{Flavours}
 use Rattle.daemon_words.specs.Words.{command_named, command_read, compute_in, compute_of, compute_with, flavours_in, flavours_of}
-use Rattle.daemon_words.specs.Words.{subject_in, subject_named}
+use Rattle.daemon_words.specs.Words.{measures_in, measures_of, subject_in, subject_named}
 
 -- an error other than want of memory comes only where something is wrong with the words
 pub refused : (kinds : Kinds) (e : Error) → HasKind kinds e → (kind_of e ≡ error_kind.OutOfMemory → ⊥) → kinds ≡ [] → ⊥
@@ -42,7 +42,7 @@ named_read kinds named name rows none is = rw (none, is) refl
 pub none_named : (kinds : Kinds) (named : Option (List ℕ × List Row)) → kinds ≡ [] → named ≡ None → command_read kinds named ≡ None
 none_named kinds named none is = rw (none, is) refl
 
-option_is : (f : Found) (id : List ℕ) (value : Option (List ℕ)) → value ≡ first_value f id → first_of id (rows_of f) ≡ value
+pub option_is : (f : Found) (id : List ℕ) (value : Option (List ℕ)) → value ≡ first_value f id → first_of id (rows_of f) ≡ value
 option_is f id value is = sym (is ∙ first_value-rows f id)
 
 computes : (f : Found) (authorities valid_after : Option (List ℕ)) (wanted : Option Flavours)
@@ -99,3 +99,8 @@ subject_is f word stands = ap (λ w. option_and_then subject_named w) (option_is
 -- no word stands there
 pub no_subject : (f : Found) → None ≡ first_value f (codes "kind") → subject_in (rows_of f) ≡ None
 no_subject f none = ap (λ w. option_and_then subject_named w) (option_is f (codes "kind") None none)
+
+-- where measured bandwidths come from, as clap tells it
+pub measures_are : (f : Found) (word : Option (List ℕ)) → word ≡ first_value f (codes "bandwidth")
+    → measures_in (rows_of f) ≡ measures_of word
+measures_are f word stands = ap measures_of (option_is f (codes "bandwidth") word stands)

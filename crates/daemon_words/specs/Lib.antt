@@ -1,5 +1,7 @@
 pub mod CommandLine
 pub mod Keys
+pub mod Rehearsals
+pub mod Reports
 pub mod Lending
 pub mod Values
 pub mod Words

@@ -5,6 +5,8 @@ use Rattle.std.specs.Global.{Global}
 use Rattle.clap.specs.Words.{Kinds, Row, Text, first_of}
 use Rattle.dir_values.specs.declared.digest.Fingerprint.{Fingerprint}
 use Rattle.daemon_words.specs.CommandLine.{faults, command_in}
+use Rattle.daemon_words.specs.Rehearsals.{IsWithinBounds, rehearse_in}
+use Rattle.daemon_words.specs.Reports.{report_in}
 use Rattle.daemon_words.specs.Values.{roster, moment}
 use Rattle.daemon_words.specs.declared.command.Command.{Command}
 use Rattle.daemon_words.specs.declared.command.Command.TheVariants as command
@@ -12,6 +14,8 @@ use Rattle.daemon_words.specs.declared.command.Flavours.{Flavours}
 use Rattle.daemon_words.specs.declared.command.Flavours.TheVariants as flavours
 use Rattle.daemon_words.specs.declared.command.Kind.{Kind}
 use Rattle.daemon_words.specs.declared.command.Kind.TheVariants as kind
+use Rattle.daemon_words.specs.declared.command.Measures.{Measures}
+use Rattle.daemon_words.specs.declared.command.Measures.TheVariants as measures
 use Rattle.daemon_words.specs.declared.command.Subject.{Subject}
 use Rattle.daemon_words.specs.declared.command.Subject.TheVariants as subject
 
@@ -72,14 +76,29 @@ subject_named word =
 abbrev pub subject_in : List Row → Option Subject
 subject_in options = option_and_then subject_named (first_of (codes "kind") options)
 
+-- where measured bandwidths come from, by whether the flag stands among the words: clap tells `true` where it does
+abbrev pub measures_named : List ℕ → Measures
+measures_named word = if bytes_eq word (codes "true") then measures.File else measures.Station
+
+-- the same of what clap tells, if it tells it
+abbrev pub measures_of : Option (List ℕ) → Measures
+measures_of None = measures.Station
+measures_of (Some word) = measures_named word
+
+-- where measured bandwidths come from, among the values
+abbrev pub measures_in : List Row → Measures
+measures_in values = measures_of (first_of (codes "bandwidth") values)
+
 -- the command of a name, with the values of its options: a line for each command
 abbrev pub command_named : Text → List Row → Option Command
 command_named name options =
     if bytes_eq name (codes "compute") then compute_in options
     else (if bytes_eq name (codes "check") then option_map command.Check (subject_in options)
     else (if bytes_eq name (codes "show") then option_map command.Show (subject_in options)
-    else (if bytes_eq name (codes "make-vote") then Some command.MakeVote
-    else None)))
+    else (if bytes_eq name (codes "make-vote") then Some (command.MakeVote (measures_in options))
+    else (if bytes_eq name (codes "rehearse") then option_map command.Rehearse (rehearse_in options)
+    else (if bytes_eq name (codes "report") then option_map command.Report (report_in options)
+    else None)))))
 
 -- the command that was named, if nothing is wrong with the words
 abbrev pub command_read : Kinds → Option (Text × List Row) → Option Command
@@ -89,3 +108,8 @@ command_read _ _ = None
 -- the command that the words give, if they are of the grammar
 abbrev pub command_of : List (String Global) → Option Command
 command_of words = command_read (faults words) (command_in words)
+
+-- the numbers of a rehearsal are within their bounds
+abbrev pub KeepsBounds : Command → Type 0
+KeepsBounds (command.Rehearse wanted) = IsWithinBounds wanted
+KeepsBounds _ = Unit {0}

@@ -1,9 +1,11 @@
 // The commands of the program.
-ghost use Rattle.std.specs.Prelude.{◌≡◌, IfOk};
+ghost use Rattle.std.specs.Prelude.{◌≡◌, IfOk, IfSome};
 ghost use Rattle.clap.specs.Words.{found_of, rows_of};
 ghost use Rattle.daemon_words.specs.Words as grammar;
 
 use crate::command_line::matches_of;
+use crate::rehearsal::{Rehearse, rehearse_in};
+use crate::report::{Report, report_in};
 use crate::values::{read_moment, read_roster};
 use clap::ArgMatches;
 use dir_bytes::Memory;
@@ -58,6 +60,15 @@ pub enum Subject {
     BandwidthFile,
 }
 
+/// Where the measured bandwidths of relays come from.
+#[derive(Clone, Copy, Debug, PartialEq, Eq)]
+pub enum Measures {
+    /// What the station is given.
+    Station,
+    /// A bandwidth file in front of what the station is given.
+    File,
+}
+
 /// A command with its options.
 #[derive(Debug, Drop)]
 pub enum Command {
@@ -68,12 +79,18 @@ pub enum Command {
     /// Reads what is named, and writes its canonical text.
     Show(Subject),
     /// Reads what a station is given, and writes its signed vote.
-    MakeVote,
+    MakeVote(Measures),
+    /// Makes votes from a number, and writes what is computed of them. It reads no input.
+    Rehearse(Rehearse),
+    /// Reads votes and a consensus, and writes which authority misses what.
+    Report(Report),
 }
 
 /// The command that the words give, without the program's name in front, or nothing where they are not of the grammar.
 pub fn command_of(alloc: Global, words: &[String]) -> Result<Option<Command>, Memory>
-    ensures { IfOk result (λ command. command ≡ grammar.command_of words.now) }
+    ensures command { IfOk result (λ command. command ≡ grammar.command_of words.now) }
+    // The numbers of a rehearsal are within their bounds.
+    ensures bounds { IfOk result (λ command. IfSome command grammar.KeepsBounds) }
 {
     let Some(matches) = matches_of(alloc, words)? else {
         return Ok(None);
@@ -96,7 +113,9 @@ fn command_named(
         "compute" => compute_with(alloc, options),
         "check" => Ok(subject_in(options).map(Command::Check)),
         "show" => Ok(subject_in(options).map(Command::Show)),
-        "make-vote" => Ok(Some(Command::MakeVote)),
+        "make-vote" => Ok(Some(Command::MakeVote(measures_in(options)))),
+        "rehearse" => Ok(rehearse_in(options).map(Command::Rehearse)),
+        "report" => Ok(report_in(alloc, options)?.map(Command::Report)),
         _ => Ok(None),
     }
 }
@@ -116,6 +135,27 @@ fn subject_named(word: &str) -> Option<Subject>
     match word {
         "bandwidth" => Some(Subject::BandwidthFile),
         _ => kind_named(word).map(Subject::Document),
+    }
+}
+
+/// Where measured bandwidths come from, among the values: from a file where that stands there.
+fn measures_in(values: &ArgMatches<'_>) -> Measures
+    ensures { result ≡ grammar.measures_in (rows_of (found_of values.now)) }
+{
+    match values.get_str("bandwidth") {
+        Some(word) => measures_named(word),
+        None => Measures::Station,
+    }
+}
+
+/// Where they come from, by whether the flag stands among the words, as clap tells it.
+fn measures_named(word: &str) -> Measures
+    ensures { result ≡ grammar.measures_named word.now }
+{
+    if word == "true" {
+        Measures::File
+    } else {
+        Measures::Station
     }
 }
 

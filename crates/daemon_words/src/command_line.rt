@@ -32,7 +32,9 @@ fn command_line<'a>(alloc: Global) -> Result<Command<'a>, AllocError>
     let compute = compute(alloc)?;
     let check = of_kind(alloc, "check")?;
     let show = of_kind(alloc, "show")?;
-    let make_vote = make_vote(alloc);
+    let make_vote = make_vote(alloc)?;
+    let rehearse = rehearse(alloc)?;
+    let report = report(alloc)?;
     Command::new(alloc, "authority_daemon")
         .no_binary_name(true)
         .disable_help_flag(true)
@@ -41,7 +43,9 @@ fn command_line<'a>(alloc: Global) -> Result<Command<'a>, AllocError>
         .subcommand(compute)?
         .subcommand(check)?
         .subcommand(show)?
-        .subcommand(make_vote)
+        .subcommand(make_vote)?
+        .subcommand(rehearse)?
+        .subcommand(report)
 }
 
 /// The command `compute` with its options.
@@ -55,6 +59,16 @@ fn compute<'a>(alloc: Global) -> Result<Command<'a>, AllocError>
         .arg(free_option(alloc, "flavour"))
 }
 
+/// The command `report` with its options.
+fn report<'a>(alloc: Global) -> Result<Command<'a>, AllocError>
+    ensures app { IfOk result (λ command. app_of command ≡ command_line.report) }
+    ensures local { IfOk result (λ command. (out-Command command).has_globals ≡ false) }
+{
+    Command::new(alloc, "report")
+        .arg(needed_option(alloc, "authorities"))?
+        .arg(needed_option(alloc, "valid-after"))
+}
+
 /// A command of this name that takes one kind of document.
 fn of_kind<'a>(alloc: Global, name: &'a str) -> Result<Command<'a>, AllocError>
     ensures app { IfOk result (λ command. app_of command ≡ command_line.of_kind name.entry.now) }
@@ -63,12 +77,23 @@ fn of_kind<'a>(alloc: Global, name: &'a str) -> Result<Command<'a>, AllocError>
     Command::new(alloc, name).arg(needed_word(alloc, "kind"))
 }
 
-/// The command `make-vote`, which takes no more words.
-fn make_vote<'a>(alloc: Global) -> Command<'a>
-    ensures app { app_of result ≡ command_line.make_vote }
-    ensures local { (out-Command result).has_globals ≡ false }
+/// The command `make-vote` with its option.
+fn make_vote<'a>(alloc: Global) -> Result<Command<'a>, AllocError>
+    ensures app { IfOk result (λ command. app_of command ≡ command_line.make_vote) }
+    ensures local { IfOk result (λ command. (out-Command command).has_globals ≡ false) }
 {
-    Command::new(alloc, "make-vote")
+    Command::new(alloc, "make-vote").arg(flag(alloc, "bandwidth"))
+}
+
+/// The command `rehearse` with its three words.
+fn rehearse<'a>(alloc: Global) -> Result<Command<'a>, AllocError>
+    ensures app { IfOk result (λ command. app_of command ≡ command_line.rehearse) }
+    ensures local { IfOk result (λ command. (out-Command command).has_globals ≡ false) }
+{
+    Command::new(alloc, "rehearse")
+        .arg(needed_word(alloc, "seed"))?
+        .arg(needed_word(alloc, "relays"))?
+        .arg(needed_word(alloc, "authorities"))
 }
 
 /// A word that must stand once, by itself.
@@ -77,6 +102,14 @@ fn needed_word<'a>(alloc: Global, name: &'a str) -> Arg<'a>
     ensures local { result.global ≡ false }
 {
     Arg::new(alloc, name).required(true).action(ArgAction::Set)
+}
+
+/// An option that may stand once, without a value.
+fn flag<'a>(alloc: Global, name: &'a str) -> Arg<'a>
+    ensures rule { rule_of result ≡ command_line.flag name.entry.now }
+    ensures local { result.global ≡ false }
+{
+    Arg::new(alloc, name).long(name).action(ArgAction::SetTrue)
 }
 
 /// An option that must stand once, with a value.

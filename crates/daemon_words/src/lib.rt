@@ -4,7 +4,11 @@
 mod command;
 mod command_line;
 mod keys;
+mod rehearsal;
+mod report;
 mod values;
 
-pub use command::{Command, Compute, Flavours, Kind, Subject, command_of};
+pub use command::{Command, Compute, Flavours, Kind, Measures, Subject, command_of};
 pub use keys::{Keys, keys_of};
+pub use rehearsal::Rehearse;
+pub use report::Report;
