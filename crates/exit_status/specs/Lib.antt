@@ -4,5 +4,6 @@ pub mod DocumentLines
 pub mod VoteLines
 pub mod BandwidthLines
 pub mod StationLines
+pub mod ReportLines
 pub mod Lines
 pub mod Stops

@@ -3,6 +3,7 @@ use Rattle.std.specs.Prelude.{ℕ, List, [], ◌∷◌, codes}
 use Rattle.exit_status.specs.BandwidthLines.{bandwidth_number, bandwidth_parts}
 use Rattle.exit_status.specs.DocumentLines.{document_limit, fault_number, fault_parts}
 use Rattle.exit_status.specs.Parts.{end, joined}
+use Rattle.exit_status.specs.ReportLines.{report_number, report_parts}
 use Rattle.exit_status.specs.StationLines.{station_number, station_parts}
 use Rattle.exit_status.specs.VoteLines.{votes_number, votes_parts}
 use Rattle.exit_status.specs.declared.status.Refusal.{Refusal}
@@ -15,6 +16,7 @@ abbrev pub refusal_parts : Refusal → List (List ℕ)
 refusal_parts (refusal.Document why) = fault_parts (document_limit why.kind) why.fault.place why.fault.reason
 refusal_parts (refusal.Votes why) = votes_parts why
 refusal_parts (refusal.Station why) = station_parts why
+refusal_parts (refusal.Report why) = report_parts why
 refusal_parts refusal.Verifier = codes "verifier fault" ∷ end ∷ []
 refusal_parts (refusal.Bandwidth why) = bandwidth_parts why
 refusal_parts refusal.Signer = codes "signer fault" ∷ end ∷ []
@@ -40,6 +42,7 @@ abbrev pub refusal_number : Refusal → ℕ
 refusal_number (refusal.Document why) = fault_number why.fault.reason
 refusal_number (refusal.Votes why) = votes_number why
 refusal_number (refusal.Station why) = station_number why
+refusal_number (refusal.Report why) = report_number why
 refusal_number refusal.Verifier = 8
 refusal_number (refusal.Bandwidth why) = bandwidth_number why
 refusal_number refusal.Signer = 10

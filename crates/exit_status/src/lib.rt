@@ -4,6 +4,7 @@
 mod bandwidth_refusal;
 mod document_refusal;
 mod parts;
+mod report_refusal;
 mod station_refusal;
 mod status;
 mod status_line;
@@ -12,6 +13,7 @@ mod vote_refusal;
 
 pub use bandwidth_refusal::BandwidthRefusal;
 pub use document_refusal::DocumentRefusal;
+pub use report_refusal::{MomentText, ReportRefusal};
 pub use station_refusal::{CertWord, DescriptorWord, StationRefusal, StationWord};
 pub use status::{Refusal, Status};
 pub use status_line::report;

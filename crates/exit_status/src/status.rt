@@ -5,6 +5,7 @@ ghost use Rattle.exit_status.specs.Lines.{number_of, refusal_number};
 
 use crate::bandwidth_refusal::BandwidthRefusal;
 use crate::document_refusal::DocumentRefusal;
+use crate::report_refusal::ReportRefusal;
 use crate::station_refusal::StationRefusal;
 use crate::vote_refusal::VoteListRefusal;
 use std::process::ExitCode;
@@ -18,6 +19,8 @@ pub enum Refusal {
     Votes(VoteListRefusal),
     /// No vote is made of what a station is given.
     Station(StationRefusal),
+    /// The input gives no report.
+    Report(ReportRefusal),
     /// The first verifier failed, and it is not known whether what it was asked of holds.
     Verifier,
     /// The input gives no bandwidth file that counts.
@@ -78,6 +81,7 @@ impl Refusal {
             Refusal::Document(refusal) => refusal.number(),
             Refusal::Votes(refusal) => refusal.number(),
             Refusal::Station(refusal) => refusal.number(),
+            Refusal::Report(refusal) => refusal.number(),
             Refusal::Verifier => 8,
             Refusal::Bandwidth(refusal) => refusal.number(),
             Refusal::Signer => 10,

@@ -7,6 +7,7 @@ ghost use Rattle.exit_status.specs.Reports.{Reports};
 use crate::bandwidth_refusal::report_bandwidth;
 use crate::document_refusal::{document_limit, report_fault};
 use crate::parts::write_parts;
+use crate::report_refusal::report_report;
 use crate::station_refusal::report_station;
 use crate::status::{Refusal, Status};
 use crate::vote_refusal::report_votes;
@@ -42,6 +43,7 @@ fn report_refusal<E: Sink>(errors: &mut E, refusal: Refusal)
         ),
         Refusal::Votes(refusal) => report_votes(errors, refusal),
         Refusal::Station(refusal) => report_station(errors, refusal),
+        Refusal::Report(refusal) => report_report(errors, refusal),
         Refusal::Verifier => write_parts(errors, &[b"verifier fault", b"\n"]),
         Refusal::Bandwidth(refusal) => report_bandwidth(errors, refusal),
         Refusal::Signer => write_parts(errors, &[b"signer fault", b"\n"]),
