@@ -3,4 +3,4 @@ pub mod Refusing
 pub mod Chains
 pub mod Computing
 pub mod NotRefused
-mod Faults
+pub mod Faults

@@ -55,4 +55,5 @@ not_refused rules wanted bytes (refusal.Votes (list.TooFew count roster)) can a 
 not_refused rules wanted bytes refusal.Verifier can a = refl
 not_refused rules wanted bytes (refusal.Bandwidth why) can a = absurd a
 not_refused rules wanted bytes (refusal.Station why) can a = absurd a
+not_refused rules wanted bytes (refusal.Report why) can a = absurd a
 not_refused rules wanted bytes refusal.Signer can a = absurd a

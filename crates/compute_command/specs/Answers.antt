@@ -70,6 +70,7 @@ ComputeAnswers rules wanted bytes (Err (refusal.Votes (list.TooFew count roster)
 ComputeAnswers rules wanted bytes (Err refusal.Verifier) = AsksVerifier rules wanted bytes
 ComputeAnswers rules wanted bytes (Err (refusal.Bandwidth why)) = ⊥
 ComputeAnswers rules wanted bytes (Err (refusal.Station why)) = ⊥
+ComputeAnswers rules wanted bytes (Err (refusal.Report why)) = ⊥
 ComputeAnswers rules wanted bytes (Err refusal.Signer) = ⊥
 
 -- The input is acceptable votes of more than half of the roster, and the verifier may refuse none of their signatures.
@@ -83,9 +84,4 @@ pub record CanCompute (rules : Rules) (wanted : Compute) (bytes : List ℕ) : Ty
 -- the input is refused for what its documents are
 abbrev pub IsOfDocuments : Stop → Type 0
 IsOfDocuments (stop.Refused (refusal.Document why)) = Unit {0}
-IsOfDocuments (stop.Refused (refusal.Votes why)) = ⊥
-IsOfDocuments (stop.Refused refusal.Verifier) = ⊥
-IsOfDocuments (stop.Refused (refusal.Bandwidth why)) = Unit {0}
-IsOfDocuments (stop.Refused (refusal.Station why)) = Unit {0}
-IsOfDocuments (stop.Refused refusal.Signer) = Unit {0}
-IsOfDocuments stop.Memory = ⊥
+IsOfDocuments _ = ⊥

@@ -57,6 +57,7 @@ pub fn accept<V: Verifier>(
     requires { vec_len votes < 2 ^ 32 }
     ensures accepts { Accepts (rules V.may_accept V.may_refuse) wanted.now votes.items result }
     ensures fault { result ≡ Err (Stop.Refused Refusal.Verifier) → Rose (V.faults verifier.old) (V.faults verifier.new) }
+    ensures faults { V.faults verifier.old ≤ V.faults verifier.new }
     ensures told { V.faults verifier.old < V.faults verifier.new → result ≡ Err (Stop.Refused Refusal.Verifier) }
 {
     let mut votes = votes;

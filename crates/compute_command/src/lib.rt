@@ -5,4 +5,5 @@ mod accepting;
 mod consensus;
 mod reading;
 
+pub use accepting::accept;
 pub use consensus::compute;
