@@ -1,6 +1,7 @@
 -- Why the command stops, from why a call below it did.
 use Rattle.std.proofs.Common.{◌≡◌, ℕ, ◌+◌, Bool, true, false, List, length, Result, Ok, Err, refl, sym, ap, subst, ◌∙◌}
 use Rattle.std.proofs.Common.{inl, inr}
+use Rattle.std.specs.Global.{Vec}
 use Rattle.key_port.specs.Answers.{Relation, Rules}
 use Rattle.key_port.specs.Signing.{SignerSteps}
 use Rattle.authority_certs.specs.declared.checking.CertAnswer.TheVariants as answer
@@ -23,11 +24,11 @@ use Rattle.flag_rules.specs.Rules.{list_allows}
 use Rattle.flag_rules.specs.declared.operator.OperatorRule.{OperatorRule}
 use Rattle.station_commands.specs.Descriptors.{GivesPool}
 use Rattle.station_commands.specs.Descriptors.{ends_at}
-use Rattle.station_commands.specs.Order.{GivesSchedule}
+use Rattle.station_commands.specs.Order.{GivesSchedule, IsInOrder}
 use Rattle.station_commands.specs.Reads.{StopsAt}
 use Rattle.station_commands.specs.Told.{make_refused, station_refused}
-use Rattle.station_commands.specs.Voting.{BeginsInOrder, GivesPeriod, GivesStation, GivesVote, HasPool, IsBasisOf}
-use Rattle.station_commands.specs.Voting.{IsBeforeSigner, IsOfStation, MakeVoteAnswers}
+use Rattle.station_commands.specs.Voting.{GivesPeriod, GivesStation, GivesVote, HasPool, IsBasisOf, IsBeforeSigner}
+use Rattle.station_commands.specs.Voting.{IsOfStation, MakeVoteAnswers, VoteAnswers}
 use Rattle.station_commands.proofs.Standing.{HaveBeenKept}
 
 -- ---- descriptors
@@ -70,6 +71,7 @@ stops_there rules start bytes place number pool full have more (stop.Refused ref
 stops_there rules start bytes place number pool full have more (stop.Refused (refusal.Votes why)) stops = absurd stops
 stops_there rules start bytes place number pool full have more (stop.Refused refusal.Signer) stops = absurd stops
 stops_there rules start bytes place number pool full have more (stop.Refused (refusal.Bandwidth why)) stops = absurd stops
+stops_there rules start bytes place number pool full have more (stop.Refused (refusal.Report why)) stops = absurd stops
 stops_there rules start bytes place number pool full have more (stop.Refused (refusal.Station (station.Fault why))) stops =
     absurd stops
 stops_there rules start bytes place number pool full have more (stop.Refused (refusal.Station (station.Word why))) stops =
@@ -113,7 +115,8 @@ not_of_station rules start bytes (stop.Refused (refusal.Document why)) gives of 
 not_of_station rules start bytes (stop.Refused (refusal.Votes why)) gives of = of
 not_of_station rules start bytes (stop.Refused refusal.Verifier) gives of = of
 not_of_station rules start bytes (stop.Refused refusal.Signer) gives of = of
-not_of_station rules start bytes (stop.Refused (refusal.Bandwidth why)) gives of = of
+not_of_station rules start bytes (stop.Refused (refusal.Bandwidth why)) gives of = gives
+not_of_station rules start bytes (stop.Refused (refusal.Report why)) gives of = of
 not_of_station rules start bytes (stop.Refused (refusal.Station (station.Fault why))) gives of = gives
 not_of_station rules start bytes (stop.Refused (refusal.Station (station.Word word.Roster))) gives of = gives
 not_of_station rules start bytes (stop.Refused (refusal.Station (station.Word word.Schedule))) gives of = gives
@@ -132,7 +135,8 @@ period_not_of_station schedule now (stop.Refused (refusal.Document other)) is of
 period_not_of_station schedule now (stop.Refused (refusal.Votes other)) is of = of
 period_not_of_station schedule now (stop.Refused refusal.Verifier) is of = of
 period_not_of_station schedule now (stop.Refused refusal.Signer) is of = of
-period_not_of_station schedule now (stop.Refused (refusal.Bandwidth other)) is of = of
+period_not_of_station schedule now (stop.Refused (refusal.Bandwidth other)) is of = is
+period_not_of_station schedule now (stop.Refused (refusal.Report other)) is of = of
 period_not_of_station schedule now (stop.Refused (refusal.Station (station.Fault other))) is of = is
 period_not_of_station schedule now (stop.Refused (refusal.Station (station.Word word.Roster))) is of = is
 period_not_of_station schedule now (stop.Refused (refusal.Station (station.Word word.Schedule))) is of = is
@@ -143,36 +147,50 @@ period_not_of_station schedule now (stop.Refused (refusal.Station (station.Descr
 period_not_of_station schedule now (stop.Refused (refusal.Station (station.OwnCert other))) is of = of
 period_not_of_station schedule now (stop.Refused (refusal.Station station.MadeVote)) is of = of
 
+-- ---- what is answered for a station, call by call
+
+module _ {N : Type 0} (rules : Rules) (gives : Relation) (steps : SignerSteps N) (now : ℕ) (given : StationFacts) (used : ℕ)
+    (bytes : List ℕ) (old new : N) where
+  -- what is answered for it
+  abbrev pub Ends : Result (List ℕ) Refusal → Type 0
+  Ends answer = VoteAnswers rules gives steps now given used bytes answer old new
+
+  pub out_of_order : (why : Stop) → GivesSchedule given (Err why) → Answered Ends (Err why)
+  out_of_order stop.Memory is = tt
+  out_of_order (stop.Refused why) is = inl is
+
+  pub no_descriptors : (why : Stop) → IsInOrder given (schedule_in given) → GivesPool rules used bytes (Err why)
+      → Answered Ends (Err why)
+  no_descriptors stop.Memory order is = tt
+  no_descriptors (stop.Refused why) order is = inr (inl (order, is))
+
+  pub no_period : (pool : Pooled) (why : Stop) → HasPool rules given used bytes pool
+      → GivesPeriod (schedule_in given) now (Err why) → Answered Ends (Err why)
+  no_period pool stop.Memory has is = absurd is
+  no_period pool (stop.Refused why) has is = inr (inr (inl (pool, has, is)))
+
+  pub no_vote : (its : Basis) (why : Stop) → IsBasisOf rules now given used bytes its
+      → GivesVote rules gives steps its (Err why) old new → Answered Ends (Err why)
+  no_vote its stop.Memory basis is = tt
+  no_vote its (stop.Refused why) basis is = inr (inr (inr (its, basis, is)))
+
 -- ---- the command, call by call
 
 module _ {N : Type 0} (rules : Rules) (gives : Relation) (steps : SignerSteps N) (now : ℕ) (bytes : List ℕ) (old new : N) where
   -- what the command answers
-  abbrev pub Ends : Result (List ℕ) Refusal → Type 0
-  Ends answer = MakeVoteAnswers rules gives steps now bytes answer old new
+  abbrev pub Answers : Result (List ℕ) Refusal → Type 0
+  Answers answer = MakeVoteAnswers rules gives steps now bytes answer old new
 
-  pub faulty : (why : Stop) → GivesStation bytes (Err why) → Answered Ends (Err why)
+  pub faulty : (why : Stop) → GivesStation bytes (Err why) → Answered Answers (Err why)
   faulty stop.Memory is = tt
   faulty (stop.Refused why) is = inl is
 
-  pub out_of_order : (given : StationFacts) (used : ℕ) (why : Stop) → station_of bytes ≡ Ok (given, used)
-      → GivesSchedule given (Err why) → Answered Ends (Err why)
-  out_of_order given used stop.Memory read is = tt
-  out_of_order given used (stop.Refused why) read is = inr (inl (given, used, read, is))
-
-  pub no_descriptors : (given : StationFacts) (used : ℕ) (why : Stop) → BeginsInOrder bytes given used
-      → GivesPool rules used bytes (Err why) → Answered Ends (Err why)
-  no_descriptors given used stop.Memory begins is = tt
-  no_descriptors given used (stop.Refused why) begins is = inr (inr (inl (given, used, begins, is)))
-
-  pub no_period : (given : StationFacts) (pool : Pooled) (why : Stop) → HasPool rules bytes given pool
-      → GivesPeriod (schedule_in given) now (Err why) → Answered Ends (Err why)
-  no_period given pool stop.Memory has is = absurd is
-  no_period given pool (stop.Refused why) has is = inr (inr (inr (inl (given, pool, has, is))))
-
-  pub no_vote : (its : Basis) (why : Stop) → IsBasisOf rules now bytes its
-      → GivesVote rules gives steps its (Err why) old new → Answered Ends (Err why)
-  no_vote its stop.Memory basis is = tt
-  no_vote its (stop.Refused why) basis is = inr (inr (inr (inr (its, basis, is))))
+  pub answered : (given : StationFacts) (used : ℕ) (result : Result (Vec ℕ) Stop) → station_of bytes ≡ Ok (given, used)
+      → Answered (λ answer. VoteAnswers rules gives steps now given used bytes answer old new) result
+      → Answered Answers result
+  answered given used (Ok text) is told = inr (given, used, is, told)
+  answered given used (Err stop.Memory) is told = tt
+  answered given used (Err (stop.Refused why)) is told = inr (given, used, is, told)
 
 -- ---- what is asked
 

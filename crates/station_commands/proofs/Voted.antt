@@ -13,19 +13,18 @@ use Rattle.exit_status.specs.Stops.{Answered}
 use Rattle.exit_status.specs.declared.status.Refusal.TheVariants as refusal
 use Rattle.exit_status.specs.declared.stop.Stop.{Stop}
 use Rattle.exit_status.specs.declared.stop.Stop.TheVariants as stop
-use Rattle.station_input.specs.Reading.{station_of}
 use Rattle.station_input.specs.declared.facts.StationFacts.{StationFacts}
 use Rattle.vote_pool.specs.Pools.{Pooled}
-use Rattle.vote_schedule.specs.Moments.{IsNext, valid_until}
+use Rattle.vote_schedule.specs.Moments.{valid_until}
 use Rattle.vote_schedule.specs.Schedules.{Schedule}
 use Rattle.vote_maker.specs.Made.{Basis, basis, schedule_in}
 use Rattle.vote_maker.specs.Making.{IsMade, RefusesToMake}
 use Rattle.vote_maker.specs.declared.refusal.MakeRefusal.{MakeRefusal}
 use Rattle.vote_maker.specs.declared.refusal.MakeRefusal.TheVariants as make
-use Rattle.station_commands.specs.Descriptors.{GivesPool, IsPoolOf}
+use Rattle.station_commands.specs.Descriptors.{GivesPool}
 use Rattle.station_commands.specs.Order.{IsInOrder}
 use Rattle.station_commands.specs.Told.{make_refused}
-use Rattle.station_commands.specs.Voting.{BeginsInOrder, GivesPeriod, GivesVote, HasPool, IsBasisOf, IsBeforeSigner, IsOfStation}
+use Rattle.station_commands.specs.Voting.{GivesPeriod, GivesVote, HasPool, IsBasisOf, IsBeforeSigner, IsOfStation}
 use Rattle.station_commands.proofs.Schedules.{schedule_is}
 use Rattle.station_commands.proofs.Stopping.{Ends, no_vote, unsigned, vote_not_of_station}
 
@@ -96,25 +95,15 @@ failed_signer make.Memory is = absurd (cc is)
 
 -- ---- what it is made of
 
--- the input begins with what is in order
-pub in_order : (bytes : List ℕ) (given : StationFacts) (used : ℕ) (schedule : Schedule)
-    → station_of bytes ≡ Ok (given, used) → IsInOrder given schedule → BeginsInOrder bytes given used
-in_order bytes given used schedule read order = record {
-  read = read;
-  order = subst (λ (s : Schedule). IsInOrder given s) (schedule_is given schedule order.scheduled) order;
-}
-
--- and a pool stands behind it
-pub with_pool : (rules : Rules) (bytes : List ℕ) (given : StationFacts) (used : ℕ) (pool : Pooled)
-    → BeginsInOrder bytes given used → IsPoolOf rules used bytes pool → HasPool rules bytes given pool
-with_pool rules bytes given used pool begins is = record { used = used; begins = begins; pool_of = is }
+-- a station in order, by its own schedule
+pub in_order : (given : StationFacts) (schedule : Schedule) → IsInOrder given schedule → IsInOrder given (schedule_in given)
+in_order given schedule order =
+    subst (λ (s : Schedule). IsInOrder given s) (schedule_is given schedule order.scheduled) order
 
 -- there is no period at that moment
-pub at_moment : (schedule own : Schedule) (now moment : ℕ) (why : Stop) → schedule ≡ own → now ≡ moment
-    → GivesPeriod schedule moment (Err why) → GivesPeriod own now (Err why)
-at_moment schedule own now moment why same last is =
-    subst (λ (m : ℕ). GivesPeriod own m (Err why)) (sym last)
-    (subst (λ (s : Schedule). GivesPeriod s moment (Err why)) same is)
+pub at_moment : (schedule own : Schedule) (now : ℕ) (why : Stop) → schedule ≡ own → GivesPeriod schedule now (Err why)
+    → GivesPeriod own now (Err why)
+at_moment schedule own now why same is = subst (λ (s : Schedule). GivesPeriod s now (Err why)) same is
 
 -- the life of what is made ends within the moments
 pub within_moments : (schedule own : Schedule) (now valid_after : ℕ) → schedule ≡ own
@@ -123,29 +112,30 @@ within_moments schedule own now valid_after same is =
     (subst (λ (s : Schedule). GivesPeriod s now (Ok valid_after)) same is).1
 
 -- this is what a vote is made of
-pub has_basis : (rules : Rules) (bytes : List ℕ) (given : StationFacts) (pool : Pooled) (schedule : Schedule)
-    (now moment valid_after : ℕ) → schedule ≡ schedule_in given → now ≡ moment → HasPool rules bytes given pool
-    → GivesPeriod schedule moment (Ok valid_after)
-    → IsBasisOf rules now bytes (basis given pool.descriptors valid_after moment)
-has_basis rules bytes given pool schedule now moment valid_after same last has next =
-    let own = schedule_in given in
-    let there = subst (λ (s : Schedule). GivesPeriod s moment (Ok valid_after)) same next in
+pub has_basis : (rules : Rules) (given : StationFacts) (used : ℕ) (bytes : List ℕ) (pool : Pooled) (schedule : Schedule)
+    (now valid_after : ℕ) → schedule ≡ schedule_in given → HasPool rules given used bytes pool
+    → GivesPeriod schedule now (Ok valid_after)
+    → IsBasisOf rules now given used bytes (basis given pool.descriptors valid_after now)
+has_basis rules given used bytes pool schedule now valid_after same has next =
+    let there = subst (λ (s : Schedule). GivesPeriod s now (Ok valid_after)) same next in
     record {
       pool = pool;
       has_pool = has;
+      station_is = refl;
       descriptors_are = refl;
-      next = subst (λ (m : ℕ). IsNext own 0 m valid_after) (sym last) there.0;
+      next = there.0;
       life = there.1;
-      moment_is = sym last;
+      moment_is = refl;
     }
 
--- the command answers with the vote, or with why there is none
-pub voted_at : {N : Type 0} (rules : Rules) (gives : Relation) (steps : SignerSteps N) (now : ℕ) (bytes : List ℕ)
-    (old new : N) (its : Basis) (result : Result (Vec ℕ) Stop) → IsBasisOf rules now bytes its
-    → GivesVote rules gives steps its result old new → Answered (Ends rules gives steps now bytes old new) result
-voted_at rules gives steps now bytes old new its (Ok text) has is = (its, has, is)
-voted_at rules gives steps now bytes old new its (Err why) has is =
-    no_vote rules gives steps now bytes old new its why has is
+-- what is answered is the vote, or why there is none
+pub voted_at : {N : Type 0} (rules : Rules) (gives : Relation) (steps : SignerSteps N) (now : ℕ) (given : StationFacts)
+    (used : ℕ) (bytes : List ℕ) (old new : N) (its : Basis) (result : Result (Vec ℕ) Stop)
+    → IsBasisOf rules now given used bytes its → GivesVote rules gives steps its result old new
+    → Answered (Ends rules gives steps now given used bytes old new) result
+voted_at rules gives steps now given used bytes old new its (Ok text) has is = (its, has, is)
+voted_at rules gives steps now given used bytes old new its (Err why) has is =
+    no_vote rules gives steps now given used bytes old new its why has is
 
 -- ---- what is asked before
 

@@ -27,24 +27,20 @@ use Rattle.station_commands.specs.Told.{make_refused}
 
 -- ---- of what the vote is made
 
--- The input begins with what a station is given, which is in order.
-pub record BeginsInOrder (bytes : List ℕ) (given : StationFacts) (used : ℕ) : Type 0 where
-  pub read : station_of bytes ≡ Ok (given, used)
+-- What a station is given is in order, and the descriptors that stand in the input from a place on, each of which holds,
+-- and for which the pool has room, make this pool.
+pub record HasPool (rules : Rules) (given : StationFacts) (used : ℕ) (bytes : List ℕ) (pool : Pooled) : Type 0 where
   pub order : IsInOrder given (schedule_in given)
-
--- Behind it stand descriptors, each of which holds, for which the pool has room.
-pub record HasPool (rules : Rules) (bytes : List ℕ) (given : StationFacts) (pool : Pooled) : Type 0 where
-  pub used : ℕ
-  pub begins : BeginsInOrder bytes given used
   pub pool_of : IsPoolOf rules used bytes pool
 
 -- At this moment a consensus can still be made, the next of the schedule; this is what its vote is made of.
-pub record IsBasisOf (rules : Rules) (now : ℕ) (bytes : List ℕ) (its : Basis) : Type 0 where
+pub record IsBasisOf (rules : Rules) (now : ℕ) (given : StationFacts) (used : ℕ) (bytes : List ℕ) (its : Basis) : Type 0 where
   pub pool : Pooled
-  pub has_pool : HasPool rules bytes its.station pool
+  pub has_pool : HasPool rules given used bytes pool
+  pub station_is : its.station ≡ given
   pub descriptors_are : its.descriptors ≡ pool.descriptors
-  pub next : IsNext (schedule_in its.station) 0 now its.valid_after
-  pub life : valid_until (schedule_in its.station) its.valid_after ≤ last_moment
+  pub next : IsNext (schedule_in given) 0 now its.valid_after
+  pub life : valid_until (schedule_in given) its.valid_after ≤ last_moment
   pub moment_is : its.moment ≡ now
 
 -- ---- the vote
@@ -72,12 +68,7 @@ GivesVote rules gives steps its (Err stop.Memory) old new = Unit {0}
 GivesVote rules gives steps its (Err (stop.Refused why)) old new =
     MakesNone rules gives steps its (stop.Refused why) old new
 
--- ---- the command
-
--- the input does not begin with what a station is given
-abbrev pub IsFaulty : List ℕ → Refusal → Type 0
-IsFaulty bytes (refusal.Station (station.Fault fault)) = station_of bytes ≡ Err (read.Frame fault)
-IsFaulty bytes _ = ⊥
+-- ---- what is answered for a station
 
 -- the schedule has no period any more
 abbrev pub HasNoPeriod : Schedule → ℕ → Refusal → Type 0
@@ -85,23 +76,40 @@ HasNoPeriod schedule now (refusal.Station (station.Word word.EndOfTime)) =
     AnswersNext schedule 0 now None
 HasNoPeriod schedule now _ = ⊥
 
--- why no vote is made at a moment, by the first that applies: the input does not begin with what a station is given; it is
--- not in order; the descriptors behind it are refused; there is no period any more; or no vote is made of its basis
-abbrev pub RefusesMakeVote : {N : Type 0} → Rules → Relation → SignerSteps N → ℕ → List ℕ → Refusal → N → N → Type 0
-RefusesMakeVote rules gives steps now bytes why old new =
-    IsFaulty bytes why
-    ⊎ ((given : StationFacts) × (used : ℕ) × (station_of bytes ≡ Ok (given, used)) × HasWord given why)
-    ⊎ ((given : StationFacts) × (used : ℕ) × BeginsInOrder bytes given used × RefusesDescriptors rules used bytes why)
-    ⊎ ((given : StationFacts) × (pool : Pooled) × HasPool rules bytes given pool
-    × HasNoPeriod (schedule_in given) now why)
-    ⊎ ((its : Basis) × IsBasisOf rules now bytes its × MakesNone rules gives steps its (stop.Refused why) old new)
+-- why no vote is made at a moment for a station that is given this, of the descriptors from a place on, by the first that
+-- applies: it is not in order; the descriptors are refused; there is no period any more; or no vote is made of its basis
+abbrev pub RefusesVote : {N : Type 0} → Rules → Relation → SignerSteps N → ℕ → StationFacts → ℕ → List ℕ → Refusal → N → N
+    → Type 0
+RefusesVote rules gives steps now given used bytes why old new =
+    HasWord given why
+    ⊎ (IsInOrder given (schedule_in given) × RefusesDescriptors rules used bytes why)
+    ⊎ ((pool : Pooled) × HasPool rules given used bytes pool × HasNoPeriod (schedule_in given) now why)
+    ⊎ ((its : Basis) × IsBasisOf rules now given used bytes its
+    × MakesNone rules gives steps its (stop.Refused why) old new)
 
--- what the command answers to an input at a moment: a signed vote, or a refusal
+-- what is answered for it: a signed vote, or a refusal
+abbrev pub VoteAnswers : {N : Type 0} → Rules → Relation → SignerSteps N → ℕ → StationFacts → ℕ → List ℕ
+    → Result (List ℕ) Refusal → N → N → Type 0
+VoteAnswers rules gives steps now given used bytes (Ok text) old new =
+    (its : Basis) × IsBasisOf rules now given used bytes its × IsVoteOf rules gives steps its text old new
+VoteAnswers rules gives steps now given used bytes (Err why) old new =
+    RefusesVote rules gives steps now given used bytes why old new
+
+-- ---- the command
+
+-- the input does not begin with what a station is given
+abbrev pub IsFaulty : List ℕ → Result (List ℕ) Refusal → Type 0
+IsFaulty bytes (Err (refusal.Station (station.Fault fault))) = station_of bytes ≡ Err (read.Frame fault)
+IsFaulty bytes _ = ⊥
+
+-- what the command answers to an input at a moment: why it does not begin with what a station is given; or else what is
+-- answered for that station
 abbrev pub MakeVoteAnswers : {N : Type 0} → Rules → Relation → SignerSteps N → ℕ → List ℕ
     → Result (List ℕ) Refusal → N → N → Type 0
-MakeVoteAnswers rules gives steps now bytes (Ok text) old new =
-    (its : Basis) × IsBasisOf rules now bytes its × IsVoteOf rules gives steps its text old new
-MakeVoteAnswers rules gives steps now bytes (Err why) old new = RefusesMakeVote rules gives steps now bytes why old new
+MakeVoteAnswers rules gives steps now bytes answer old new =
+    IsFaulty bytes answer
+    ⊎ ((given : StationFacts) × (used : ℕ) × (station_of bytes ≡ Ok (given, used))
+    × VoteAnswers rules gives steps now given used bytes answer old new)
 
 -- ---- what is asked
 
@@ -111,6 +119,7 @@ IsOfStation (stop.Refused (refusal.Station (station.Fault fault))) = Unit {0}
 IsOfStation (stop.Refused (refusal.Station (station.Word word.Roster))) = Unit {0}
 IsOfStation (stop.Refused (refusal.Station (station.Word word.Schedule))) = Unit {0}
 IsOfStation (stop.Refused (refusal.Station (station.Word word.Own))) = Unit {0}
+IsOfStation (stop.Refused (refusal.Bandwidth why)) = Unit {0}
 IsOfStation _ = ⊥
 
 -- what is refused before the signer is asked
@@ -126,7 +135,7 @@ IsBeforeSigner (stop.Refused _) = Unit {0}
 abbrev pub GivesStation : List ℕ → Result (StationFacts × ℕ) Stop → Type 0
 GivesStation bytes (Ok (given, used)) = (station_of bytes ≡ Ok (given, used)) × (used ≤ length bytes)
 GivesStation bytes (Err stop.Memory) = Unit {0}
-GivesStation bytes (Err (stop.Refused why)) = IsFaulty bytes why
+GivesStation bytes (Err (stop.Refused why)) = IsFaulty bytes (Err why)
 
 -- when the next consensus of a schedule becomes valid, or that there is none
 abbrev pub GivesPeriod : Schedule → ℕ → Result ℕ Stop → Type 0

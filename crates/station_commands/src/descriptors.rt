@@ -33,7 +33,7 @@ fn ends_at(bytes: &Bytes, place: usize) -> bool
 }
 
 /// A refusal of what stands from a place on, by its place in the input.
-fn from_place(place: usize, refusal: ReadRefusal) -> ReadRefusal
+pub fn from_place(place: usize, refusal: ReadRefusal) -> ReadRefusal
     ensures { result ≡ descriptors.refusal_from place refusal }
 {
     match refusal {

@@ -7,4 +7,5 @@ mod order;
 mod told;
 mod voting;
 
-pub use making::make_vote;
+pub use descriptors::from_place;
+pub use making::{make_vote, vote_from};

@@ -2,6 +2,7 @@
 ghost use Rattle.std.specs.Prelude.{◌≡◌, ◌≤◌, ◌<◌, ◌^◌, Err, IfErr, length};
 ghost use Rattle.dir_bytes.specs.Causes.{Counts, Rose};
 ghost use Rattle.key_port.specs.Answers.{rules};
+ghost use Rattle.flag_rules.specs.Rules.{AreApart};
 ghost use Rattle.exit_status.specs.Stops.{Answered};
 ghost use Rattle.vote_schedule.specs.Schedules.{IsSchedule};
 ghost use Rattle.station_commands.specs.Told.{IsOfNoKeys};
@@ -49,8 +50,39 @@ fn period_of(schedule: &Config, now: u64) -> Result<u64, Stop>
     }
 }
 
+/// The signed vote of a station that is given this, of the descriptors that stand in the input from a place on, for the next
+/// period of its schedule at the moment `now`.
+///
+/// # Errors
+/// Those of `make_vote`, but for the fault of what the station is given.
+pub fn vote_from<V: Verifier, N: Signer>(
+    alloc: Global,
+    bytes: &Bytes,
+    station: &StationFacts,
+    used: usize,
+    now: u64,
+    verifier: &mut V,
+    signer: &mut N,
+) -> Result<Vec<u8>, Stop>
+    requires short { length bytes.now < 2 ^ 61 }
+    requires within { used ≤ length bytes.now }
+    requires apart { AreApart station.now.rules }
+    ensures answer { Answered (λ answer. voting.VoteAnswers (rules V.may_accept V.may_refuse) N.may_give N.steps now station.now used bytes.now answer signer.old signer.new) result }
+    ensures verifier_fault { result ≡ Err (Stop.Refused Refusal.Verifier) → Rose (V.faults verifier.old) (V.faults verifier.new) }
+    ensures verifier_told { V.faults verifier.old < V.faults verifier.new → result ≡ Err (Stop.Refused Refusal.Verifier) }
+    ensures signer_fault { result ≡ Err (Stop.Refused Refusal.Signer) → Rose (N.faults signer.old) (N.faults signer.new) }
+    ensures signer_told { N.faults signer.old < N.faults signer.new → result ≡ Err (Stop.Refused Refusal.Signer) }
+    ensures unasked { IfErr result (λ why. voting.IsOfStation why → verifier.new ≡ verifier.old) }
+    ensures unsigned { IfErr result (λ why. voting.IsBeforeSigner why → signer.new ≡ signer.old) }
+{
+    let schedule = schedule_of(alloc, station)?;
+    let pool = pool_of(alloc, bytes, used, verifier)?;
+    let valid_after = period_of(&schedule, now)?;
+    vote_of(alloc, station, &pool, valid_after, now, verifier, signer)
+}
+
 /// The signed vote of the station that the input begins with, of the descriptors that follow, for the next period of its
-/// schedule at the moment that the clock gives; the clock is asked once.
+/// schedule at the moment that the clock gives.
 ///
 /// # Errors
 /// `Refused` by the first that applies: the fault of what the station is given; its roster, its schedule, its own authority;
@@ -77,8 +109,5 @@ pub fn make_vote<C: Clock, V: Verifier, N: Signer>(
     relays_are_named_once();
     let now = clock.now();
     let (station, used) = station_of(alloc, bytes)?;
-    let schedule = schedule_of(alloc, &station)?;
-    let pool = pool_of(alloc, bytes, used, verifier)?;
-    let valid_after = period_of(&schedule, now)?;
-    vote_of(alloc, &station, &pool, valid_after, now, verifier, signer)
+    vote_from(alloc, bytes, &station, used, now, verifier, signer)
 }
