@@ -1,0 +1,11 @@
+use Rattle.station_commands.proofs.Reading.{rest_is}
+use Rattle.bandwidth_commands.proofs.StationBehind.{stands_behind}
+use Rattle.bandwidth_commands.proofs.behind.station_behind.Goals as goal
+
+pub returns-in_ok-told-in-Ok-clause-gives : goal.returns-in_ok-told-in-Ok-clause-gives
+returns-in_ok-told-in-Ok-clause-gives c =
+    let bytes = c.args.bytes.now in
+    let front = c.args.front.now in
+    stands_behind front.file front.used bytes _ c.in-Ok.station c.in_ok-told-in-Ok.field-0 c.in-Ok.used
+    (rest_is front.used bytes) c.requires.within c.relays_are_named_once.ensures c.in-Ok.ensures
+    c.in_ok-told-in-Ok.ensures

@@ -1,0 +1,2 @@
+pub mod WithFile
+pub mod Private

@@ -1,0 +1,8 @@
+//! The command `make-vote --bandwidth`: reads a bandwidth file, and makes the vote of what stands behind it with its bandwidths.
+#![tactic(auto)]
+
+mod behind;
+mod front;
+mod making;
+
+pub use making::make_vote_with_file;
