@@ -1,0 +1,5 @@
+pub mod Answers
+pub mod Chains
+pub mod OneBasis
+pub mod NotRefused
+pub mod FilesNotRefused
