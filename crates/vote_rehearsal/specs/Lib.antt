@@ -1,0 +1,9 @@
+pub mod Draws
+pub mod Relays
+pub mod Entries
+pub mod Authorities
+pub mod Certificates
+pub mod Votes
+pub mod Casting
+pub mod Summaries
+pub mod Private
