@@ -1,0 +1,9 @@
+use Rattle.std.proofs.Common.{◌≡◌, ◌++◌, drop}
+use Rattle.std.specs.List.{flat_map}
+use Rattle.health_report.specs.Lines.{setting_word}
+use Rattle.health_report.proofs.relay.push_setting.Given as goal
+
+abbrev pub invariant-opinions : goal.invariant-opinions
+invariant-opinions l =
+    l.out.items ++ flat_map (setting_word l.flag) (drop l.opinion-index l.opinions)
+    ≡ l.fn.out.items ++ flat_map (setting_word l.flag) l.opinions

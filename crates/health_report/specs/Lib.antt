@@ -1,0 +1,4 @@
+pub mod Signers
+pub mod Lines
+pub mod Reports
+pub mod Private
