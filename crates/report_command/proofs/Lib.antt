@@ -1,0 +1,4 @@
+pub mod Chains
+pub mod Answering
+pub mod OneReading
+pub mod NotRefused
