@@ -5,15 +5,14 @@ use Rattle.std.specs.Global.{Vec}
 use Rattle.dir_bytes.specs.Causes.{Counts, Rose}
 use Rattle.daemon_words.specs.declared.command.Command.{Command}
 use Rattle.daemon_words.specs.declared.command.Command.TheVariants as command
+use Rattle.daemon_words.specs.declared.command.Measures.{Measures}
 use Rattle.exit_status.specs.declared.stop.Stop.{Stop}
 use Rattle.exit_status.specs.declared.stop.Stop.TheVariants as stop
 use Rattle.exit_status.specs.Stops.{Answered}
-use Rattle.station_commands.specs.Voting.{IsOfStation, MakeVoteAnswers}
-use Rattle.authority_daemon.specs.Commands.{Answers, May}
-use Rattle.authority_daemon.specs.Inside.{IsUnchecked}
+use Rattle.station_commands.specs.Voting.{IsOfStation}
+use Rattle.authority_daemon.specs.Commands.{Answers, IsEarly, May, MakeVoteBy}
 use Rattle.authority_daemon.specs.Runs.{first_count}
 use Rattle.authority_daemon.specs.World.{TellsFaults}
-use Rattle.authority_daemon.proofs.Unchecked.{of_station}
 
 module _ {X : Type 0} where
   -- what is told of the first afterwards
@@ -50,24 +49,24 @@ module _ {X : Type 0} where
   counted count (y ∷ items) x later some is told = subst (λ (z : X). Counts (count z) (count later)) is told
 
   -- what `make-vote` asks none of, where it refuses what the station is given
-  pub none_asked : (c : Command) (items : List X) (x later : X) (result : Result (Vec ℕ) Stop) → c ≡ command.MakeVote
-      → 0 < length items → x ≡ slice_index_or items 0 x → IfErr result (λ why. IsOfStation why → later ≡ x)
-      → IfErr result (λ why. IsUnchecked c why → slice_set items 0 later ≡ items)
-  none_asked c items x later (Ok text) is some first asks = tt
-  none_asked c items x later (Err why) is some first asks =
+  pub none_asked : (bandwidths : Measures) (c : Command) (items : List X) (x later : X) (result : Result (Vec ℕ) Stop)
+      → c ≡ command.MakeVote bandwidths → 0 < length items → x ≡ slice_index_or items 0 x → IfErr result (λ why. IsOfStation why → later ≡ x)
+      → IfErr result (λ why. IsEarly c why → slice_set items 0 later ≡ items)
+  none_asked bandwidths c items x later (Ok text) is some first asks = tt
+  none_asked bandwidths c items x later (Err why) is some first asks =
       λ unchecked. all_stay items x later some first
-      (asks (of_station why (subst (λ (k : Command). IsUnchecked k why) is unchecked)))
+      (asks (subst (λ (k : Command). IsEarly k why) is unchecked))
 
 module _ {N : Type 0} (its : May N) where
   -- what `make-vote` answers at the moment that the clock gave
-  pub vote_answered : (c : Command) (given now : ℕ) (bytes : List ℕ) (old new : N) (result : Result (Vec ℕ) Stop)
-      → c ≡ command.MakeVote → now ≡ given
-      → Answered (λ answer. MakeVoteAnswers its.rules its.gives its.steps given bytes answer old new) result
+  pub vote_answered : (bandwidths : Measures) (c : Command) (given now : ℕ) (bytes : List ℕ) (old new : N)
+      (result : Result (Vec ℕ) Stop) → c ≡ command.MakeVote bandwidths → now ≡ given
+      → Answered (MakeVoteBy its bandwidths given bytes old new) result
       → Answered (Answers its c now bytes old new) result
-  vote_answered c given now bytes old new (Ok text) is same told =
+  vote_answered bandwidths c given now bytes old new (Ok text) is same told =
       subst (λ (k : Command). Answers its k now bytes old new (Ok text.items)) (sym is)
-      (subst (λ (n : ℕ). MakeVoteAnswers its.rules its.gives its.steps n bytes (Ok text.items) old new) (sym same) told)
-  vote_answered c given now bytes old new (Err (stop.Refused why)) is same told =
+      (subst (λ (n : ℕ). MakeVoteBy its bandwidths n bytes old new (Ok text.items)) (sym same) told)
+  vote_answered bandwidths c given now bytes old new (Err (stop.Refused why)) is same told =
       subst (λ (k : Command). Answers its k now bytes old new (Err why)) (sym is)
-      (subst (λ (n : ℕ). MakeVoteAnswers its.rules its.gives its.steps n bytes (Err why) old new) (sym same) told)
-  vote_answered c given now bytes old new (Err stop.Memory) is same told = tt
+      (subst (λ (n : ℕ). MakeVoteBy its bandwidths n bytes old new (Err why)) (sym same) told)
+  vote_answered bandwidths c given now bytes old new (Err stop.Memory) is same told = tt

@@ -1,6 +1,7 @@
 -- What a run ends with whose text was written, whole or in part, or whose command refused the input.
 use Rattle.std.proofs.Common.{◌≡◌, ℕ, ◌<◌, ◌≤◌, Bool, true, false, List, [], length, take, Option, Some, None}
-use Rattle.std.proofs.Common.{Result, Ok, Err, ap, subst, ◌∙◌}
+use Rattle.std.proofs.Common.{Result, Ok, Err, ap, subst, sym, ◌∙◌}
+use Rattle.std.specs.Prelude.{if◌then◌else◌}
 use Rattle.std.specs.Global.{Vec}
 use Rattle.std.specs.Io.KnownBytes.{Appends}
 use Rattle.dir_bytes.specs.Streams.{ReadsAll}
@@ -10,7 +11,7 @@ use Rattle.exit_status.specs.declared.status.Status.TheVariants as status
 use Rattle.exit_status.specs.declared.stop.Stop.{Stop}
 use Rattle.exit_status.specs.declared.stop.Stop.TheVariants as stop
 use Rattle.std.specs.Bool.{OnTrue}
-use Rattle.authority_daemon.specs.Runs.{Ends, HasEnded, Told, input_limit, reads_input}
+use Rattle.authority_daemon.specs.Runs.{Ends, HasEnded, Told, input_limit, input_of, reads_input}
 use Rattle.authority_daemon.specs.Commands.{May}
 use Rattle.authority_daemon.specs.Inside.{IsAnswer}
 use Rattle.authority_daemon.specs.World.{Moment, TellsFaults}
@@ -28,6 +29,32 @@ answered answers given command c input lent answer is names same told =
     let one : command ≡ c = cc (is, names) in
     subst (λ (k : Command). answers k input answer) one
     (subst (λ (bytes : List ℕ). answers command bytes answer) same told)
+
+-- what a command that reads the input says of what the source has left, it says of its input
+pub over_input : (given : Option Command) (command : Command) (left : Option (List ℕ)) (P : Command → List ℕ → Type 0)
+    → Some command ≡ given → reads_input command ≡ true → ((c : Command) → given ≡ Some c → Told left (P c))
+    → (c : Command) → given ≡ Some c → Told (input_of c left) (P c)
+over_input given command left P is reads told c names =
+    let one : command ≡ c = cc (is, names) in
+    let same : reads_input c ≡ true = subst (λ (k : Command). reads_input k ≡ true) one reads in
+    subst (λ (b : Bool). Told (if b then left else Some []) (P c)) (sym same) (told c names)
+
+-- what one that reads none says of no bytes, it says of its input
+pub without_input : (given : Option Command) (command : Command) (left : Option (List ℕ))
+    (P : Command → List ℕ → Type 0) → Some command ≡ given → reads_input command ≡ false → P command []
+    → (c : Command) → given ≡ Some c → Told (input_of c left) (P c)
+without_input given command left P is reads told c names =
+    let one : command ≡ c = cc (is, names) in
+    subst (λ (k : Command). Told (input_of k left) (P k)) one
+    (subst (λ (b : Bool). Told (if b then left else Some []) (P command)) (sym reads) told)
+
+-- and need not come to an end of one
+pub none_read : (given : Option Command) (command c : Command) (P : Type 0) → Some command ≡ given → given ≡ Some c
+    → reads_input command ≡ false → OnTrue (reads_input c) P
+none_read given command c P is names reads =
+    let one : command ≡ c = cc (is, names) in
+    let same : reads_input c ≡ false = subst (λ (k : Command). reads_input k ≡ false) one reads in
+    subst (λ (b : Bool). OnTrue b P) (sym same) tt
 
 -- it refused the input
 pub refused : (answers : Command → List ℕ → Result (List ℕ) Refusal → Type 0) (given : Option Command)
@@ -93,9 +120,9 @@ on_true false P p = tt
 
 -- an input that was read whole is within the limit
 pub is_within : (left after : Option (List ℕ)) (bytes : Vec ℕ) → ReadsAll left after input_limit (Ok bytes)
-    → (c : Command) → Told left (λ input. OnTrue (reads_input c) (length input ≤ input_limit))
-is_within None after bytes reads c = tt
-is_within (Some input) after bytes reads c = on_true (reads_input c) (length input ≤ input_limit) reads.2
+    → Told left (λ input. length input ≤ input_limit)
+is_within None after bytes reads = tt
+is_within (Some input) after bytes reads = reads.2
 
 -- and has ended, where the source is then left as it was
 pub has_ended : (left after now : Option (List ℕ)) (bytes : Vec ℕ) → now ≡ after

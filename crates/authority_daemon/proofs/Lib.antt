@@ -1,4 +1,3 @@
 pub mod Completeness
 pub mod Ending
-pub mod Unchecked
 pub mod Asking

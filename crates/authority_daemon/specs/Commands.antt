@@ -1,13 +1,23 @@
 -- What each command answers to an input.
-use Rattle.std.specs.Prelude.{Bool, true, false, ℕ, List, Option, Some, None, Result}
+use Rattle.std.specs.Prelude.{◌≡◌, Bool, true, false, ℕ, List, Option, Some, None, Result, Ok, Err}
 use Rattle.key_port.specs.Answers.{Relation, Rules, rules}
 use Rattle.key_port.specs.Signing.{SignerSteps}
 use Rattle.daemon_words.specs.declared.command.Command.{Command}
 use Rattle.daemon_words.specs.declared.command.Command.TheVariants as command
+use Rattle.daemon_words.specs.declared.command.Measures.{Measures}
+use Rattle.daemon_words.specs.declared.command.Measures.TheVariants as measures
 use Rattle.exit_status.specs.declared.status.Refusal.{Refusal}
+use Rattle.exit_status.specs.declared.stop.Stop.{Stop}
 use Rattle.document_commands.specs.Answers.{CheckAnswers, IsSubject, ShowAnswers}
+use Rattle.compute_command.specs.Answers as votes
 use Rattle.compute_command.specs.Answers.{CanCompute, ComputeAnswers}
-use Rattle.station_commands.specs.Voting.{MakeVoteAnswers}
+use Rattle.station_commands.specs.Voting.{IsOfStation, MakeVoteAnswers}
+use Rattle.bandwidth_commands.specs.WithFile.{FileVoteAnswers}
+use Rattle.station_command_laws.specs.Answerable.{CanMakeVote, CanMakeVoteWithFile}
+use Rattle.report_command.specs.Answers as report
+use Rattle.report_command.specs.Answers.{CanReport, ReportAnswers}
+use Rattle.vote_rehearsal.specs.Summaries.{summary_of}
+use Rattle.daemon_words.specs.declared.rehearsal.Rehearse.{Rehearse}
 
 -- What the keys outside may answer: which signatures may be accepted, refused and given; and the steps of the signer.
 pub record May (N : Type 0) : Type 1 where
@@ -19,21 +29,36 @@ pub record May (N : Type 0) : Type 1 where
 abbrev pub may : {N : Type 0} → Relation → Relation → Relation → SignerSteps N → May N
 may accepts refuses gives steps = record { rules = rules accepts refuses; gives = gives; steps = steps }
 
+-- what `rehearse` answers, whatever the input: the summary of its numbers, and no refusal
+abbrev pub RehearseAnswers : Rehearse → Result (List ℕ) Refusal → Type 0
+RehearseAnswers wanted (Ok text) = text ≡ summary_of wanted.seed wanted.relays wanted.authorities
+RehearseAnswers wanted (Err why) = ⊥
+
+-- what `make-vote` answers, by where measured bandwidths come from
+abbrev pub MakeVoteBy : {N : Type 0} → May N → Measures → ℕ → List ℕ → N → N → Result (List ℕ) Refusal → Type 0
+MakeVoteBy its measures.Station now bytes old new answer =
+    MakeVoteAnswers its.rules its.gives its.steps now bytes answer old new
+MakeVoteBy its measures.File now bytes old new answer =
+    FileVoteAnswers its.rules its.gives its.steps now bytes answer old new
+
 -- what a command answers to an input, at the moment that the clock gave, and what became of the signer: a line for each
 -- command
 abbrev pub Answers : {N : Type 0} → May N → Command → ℕ → List ℕ → N → N → Result (List ℕ) Refusal → Type 0
 Answers its (command.Compute wanted) now bytes old new answer = ComputeAnswers its.rules wanted bytes answer
 Answers its (command.Check named) now bytes old new answer = CheckAnswers named bytes answer
 Answers its (command.Show named) now bytes old new answer = ShowAnswers named bytes answer
-Answers its command.MakeVote now bytes old new answer =
-    MakeVoteAnswers its.rules its.gives its.steps now bytes answer old new
+Answers its (command.MakeVote bandwidths) now bytes old new answer = MakeVoteBy its bandwidths now bytes old new answer
+Answers its (command.Rehearse wanted) now bytes old new answer = RehearseAnswers wanted answer
+Answers its (command.Report wanted) now bytes old new answer = ReportAnswers its.rules wanted bytes answer
 
 -- whether a command verifies signatures, a line for each command
 abbrev pub verifies : Command → Bool
 verifies (command.Compute wanted) = true
 verifies (command.Check named) = false
 verifies (command.Show named) = false
-verifies command.MakeVote = true
+verifies (command.MakeVote bandwidths) = true
+verifies (command.Rehearse wanted) = false
+verifies (command.Report wanted) = true
 
 -- whether words that give this command, or none, have signatures verified
 abbrev pub verifies_if : Option Command → Bool
@@ -45,7 +70,9 @@ abbrev pub signs : Command → Bool
 signs (command.Compute wanted) = false
 signs (command.Check kind) = false
 signs (command.Show kind) = false
-signs command.MakeVote = true
+signs (command.MakeVote bandwidths) = true
+signs (command.Rehearse wanted) = false
+signs (command.Report wanted) = false
 
 -- whether words that give this command, or none, have something signed
 abbrev pub signs_if : Option Command → Bool
@@ -57,28 +84,30 @@ abbrev pub asks_clock : Command → Bool
 asks_clock (command.Compute wanted) = false
 asks_clock (command.Check kind) = false
 asks_clock (command.Show kind) = false
-asks_clock command.MakeVote = true
+asks_clock (command.MakeVote bandwidths) = true
+asks_clock (command.Rehearse wanted) = false
+asks_clock (command.Report wanted) = false
 
 -- whether words that give this command, or none, ask a clock
 abbrev pub asks_clock_if : Option Command → Bool
 asks_clock_if None = false
 asks_clock_if (Some given) = asks_clock given
 
--- whether a command reads all documents of its input before it has a signature verified, a line for each command
-abbrev pub reads_first : Command → Bool
-reads_first (command.Compute wanted) = true
-reads_first (command.Check named) = true
-reads_first (command.Show named) = true
-reads_first command.MakeVote = false
+-- what a command refuses before it has a signature verified: a line for each command
+abbrev pub IsEarly : Command → Stop → Type 0
+IsEarly (command.Compute wanted) why = votes.IsOfDocuments why
+IsEarly (command.Check named) why = Unit {0}
+IsEarly (command.Show named) why = Unit {0}
+IsEarly (command.MakeVote bandwidths) why = IsOfStation why
+IsEarly (command.Rehearse wanted) why = Unit {0}
+IsEarly (command.Report wanted) why = report.IsOfDocuments why
 
--- whether words that give this command, or none, have all read before
-abbrev pub reads_first_if : Option Command → Bool
-reads_first_if None = true
-reads_first_if (Some given) = reads_first given
-
--- the inputs that a command has to answer with a text, a line for each command; of `make-vote` none is promised
-abbrev pub Answerable : Rules → Command → List ℕ → Type 0
-Answerable rules (command.Compute wanted) bytes = CanCompute rules wanted bytes
-Answerable rules (command.Check named) bytes = IsSubject named bytes
-Answerable rules (command.Show named) bytes = IsSubject named bytes
-Answerable rules command.MakeVote bytes = ⊥
+-- the inputs that a command has to answer with a text at a moment: a line for each command
+abbrev pub Answerable : Rules → Command → ℕ → List ℕ → Type 0
+Answerable rules (command.Compute wanted) now bytes = CanCompute rules wanted bytes
+Answerable rules (command.Check named) now bytes = IsSubject named bytes
+Answerable rules (command.Show named) now bytes = IsSubject named bytes
+Answerable rules (command.MakeVote measures.Station) now bytes = CanMakeVote rules now bytes
+Answerable rules (command.MakeVote measures.File) now bytes = CanMakeVoteWithFile rules now bytes
+Answerable rules (command.Rehearse wanted) now bytes = Unit {0}
+Answerable rules (command.Report wanted) now bytes = CanReport rules wanted bytes

@@ -10,9 +10,7 @@ use Rattle.exit_status.specs.declared.stop.Stop.TheVariants as stop
 use Rattle.exit_status.specs.Stops.{Answered}
 use Rattle.station_commands.specs.Voting.{IsBeforeSigner}
 use Rattle.authority_daemon.specs.declared.program.Outside.{Outside}
-use Rattle.exit_status.specs.declared.status.Status.TheVariants as status
-use Rattle.authority_daemon.specs.Commands.{Answers, May, asks_clock, signs, verifies}
-use Rattle.authority_daemon.specs.Runs.{IsBeforeChecks}
+use Rattle.authority_daemon.specs.Commands.{Answers, IsEarly, May, asks_clock, signs, verifies}
 use Rattle.authority_daemon.specs.World.{Moment, TellsFaults}
 
 -- The source and the two sinks are as they were.
@@ -27,11 +25,6 @@ IsAnswered (Ok text) = Unit {0}
 IsAnswered (Err (stop.Refused why)) = Unit {0}
 IsAnswered (Err stop.Memory) = ⊥
 
--- a command stops before anything is checked
-abbrev pub IsUnchecked : Command → Stop → Type 0
-IsUnchecked c stop.Memory = ⊥
-IsUnchecked c (stop.Refused why) = IsBeforeChecks (Some c) (status.Refused why)
-
 -- What a command answers to an input, and what it asks of what stands outside.
 pub record IsAnswer {S C V N : Type 0} (its : May N) (c : Command) (bytes : List ℕ) (old new : Moment S C V N)
     (result : Result (Vec ℕ) Stop) : Type 0 where
@@ -40,7 +33,7 @@ pub record IsAnswer {S C V N : Type 0} (its : May N) (c : Command) (bytes : List
   pub signer : TellsFaults old.signer_faults new.signer_faults (result ≡ Err (stop.Refused refusal.Signer))
   pub others : drop 1 new.verifiers ≡ drop 1 old.verifiers
   pub unasked : verifies c ≡ false → new.verifiers ≡ old.verifiers
-  pub unchecked : IfErr result (λ why. IsUnchecked c why → new.verifiers ≡ old.verifiers)
+  pub unchecked : IfErr result (λ why. IsEarly c why → new.verifiers ≡ old.verifiers)
   pub timed : IsAnswered result → OnTrue (asks_clock c) (Counts old.asks new.asks)
   pub other_clocks : drop 1 new.clocks ≡ drop 1 old.clocks
   pub untimed : asks_clock c ≡ false → new.clocks ≡ old.clocks

@@ -1,19 +1,18 @@
 -- What a whole run says: of the words, the input, what was written, and the counts of faults.
-use Rattle.std.specs.Prelude.{◌≡◌, ℕ, ◌+◌, ◌<◌, ◌≤◌, List, [], ◌∷◌, length, take, Bool, true}
-use Rattle.std.specs.Prelude.{Option, Some, None, Result, Ok, Err}
+use Rattle.std.specs.Prelude.{◌≡◌, ℕ, ◌+◌, ◌<◌, ◌≤◌, List, [], ◌∷◌, length, take, Bool, true, false}
+use Rattle.std.specs.Prelude.{Option, Some, None, Result, Ok, Err, if◌then◌else◌}
 use Rattle.std.specs.Bool.{OnTrue}
 use Rattle.std.specs.Io.KnownBytes.{Appends, Keeps}
 use Rattle.dir_bytes.specs.Causes.{Counts}
 use Rattle.dir_bytes.specs.Streams.{TakesAtMost}
 use Rattle.key_port.specs.Answers.{Rules}
-use Rattle.station_commands.specs.Voting.{IsBeforeSigner, IsOfStation}
-use Rattle.authority_daemon.specs.Commands.{Answerable, asks_clock_if, reads_first_if}
+use Rattle.station_commands.specs.Voting.{IsBeforeSigner}
+use Rattle.authority_daemon.specs.Commands.{Answerable, IsEarly, asks_clock_if}
 use Rattle.daemon_words.specs.declared.command.Command.{Command}
 use Rattle.daemon_words.specs.declared.command.Command.TheVariants as command
 use Rattle.exit_status.specs.declared.status.Status.{Status}
 use Rattle.exit_status.specs.declared.status.Status.TheVariants as status
 use Rattle.exit_status.specs.declared.status.Refusal.{Refusal}
-use Rattle.exit_status.specs.declared.status.Refusal.TheVariants as refusal
 use Rattle.exit_status.specs.declared.stop.Stop.TheVariants as stop
 
 -- how many bytes an input may have
@@ -36,15 +35,26 @@ abbrev pub reads_input : Command → Bool
 reads_input (command.Compute wanted) = true
 reads_input (command.Check named) = true
 reads_input (command.Show named) = true
-reads_input command.MakeVote = true
+reads_input (command.MakeVote bandwidths) = true
+reads_input (command.Rehearse wanted) = false
+reads_input (command.Report wanted) = true
+
+-- whether words that give this command, or none, have the input read
+abbrev pub reads_input_if : Option Command → Bool
+reads_input_if None = false
+reads_input_if (Some given) = reads_input given
+
+-- the input of a command: what the source has left, and no bytes where the command reads none
+abbrev pub input_of : Command → Option (List ℕ) → Option (List ℕ)
+input_of c left = if reads_input c then left else Some []
 
 -- an input past the limit is said to be so, and no other is
-abbrev pub KeepsLimit : Command → List ℕ → Status → Type 0
-KeepsLimit c bytes status.Memory = Unit {0}
-KeepsLimit c bytes status.BadWords = Unit {0}
-KeepsLimit c bytes status.ReadFault = Unit {0}
-KeepsLimit c bytes status.TooLong = input_limit < length bytes
-KeepsLimit c bytes _ = OnTrue (reads_input c) (length bytes ≤ input_limit)
+abbrev pub KeepsLimit : List ℕ → Status → Type 0
+KeepsLimit bytes status.Memory = Unit {0}
+KeepsLimit bytes status.BadWords = Unit {0}
+KeepsLimit bytes status.ReadFault = Unit {0}
+KeepsLimit bytes status.TooLong = input_limit < length bytes
+KeepsLimit bytes _ = length bytes ≤ input_limit
 
 -- the command's text was written whole, or where a write failed a front of it that lacks some byte, or the command refuses the input
 abbrev pub Ends : (Result (List ℕ) Refusal → Type 0) → Option (List ℕ) → Option (List ℕ) → Status → Type 0
@@ -88,15 +98,12 @@ abbrev pub first_count : {X : Type 0} → (X → ℕ) → List X → ℕ
 first_count count [] = 0
 first_count count (x ∷ xs) = count x
 
--- the words are refused, the input could not be read, or what is read of it before anything is checked is refused: its
--- documents where all of them are read before, or what a station is given
+-- the words are refused, the input could not be read, or the command refuses it before anything is checked
 abbrev pub IsBeforeChecks : Option Command → Status → Type 0
 IsBeforeChecks given status.BadWords = Unit {0}
 IsBeforeChecks given status.ReadFault = Unit {0}
 IsBeforeChecks given status.TooLong = Unit {0}
-IsBeforeChecks given (status.Refused (refusal.Document why)) = reads_first_if given ≡ true
-IsBeforeChecks given (status.Refused (refusal.Bandwidth why)) = reads_first_if given ≡ true
-IsBeforeChecks given (status.Refused (refusal.Station why)) = IsOfStation (stop.Refused (refusal.Station why))
+IsBeforeChecks (Some given) (status.Refused why) = IsEarly given (stop.Refused why)
 IsBeforeChecks given _ = ⊥
 
 -- the words are refused, the input could not be read, or something is refused before the signer is asked
@@ -123,11 +130,11 @@ IsDoneOrMemory status.Done = Unit {0}
 IsDoneOrMemory status.Memory = Unit {0}
 IsDoneOrMemory _ = ⊥
 
--- The words give a command that has to answer this input, which passes no limit.
-pub record MustAnswer (rules : Rules) (given : Option Command) (left : Option (List ℕ)) : Type 0 where
+-- The words give a command that has to answer this input, which passes no limit, at a moment.
+pub record MustAnswer (rules : Rules) (given : Option Command) (now : ℕ) (left : Option (List ℕ)) : Type 0 where
   pub command : Command
   pub words : given ≡ Some command
   pub bytes : List ℕ
-  pub input : left ≡ Some bytes
+  pub input : input_of command left ≡ Some bytes
   pub within : length bytes ≤ input_limit
-  pub answerable : Answerable rules command bytes
+  pub answerable : Answerable rules command now bytes

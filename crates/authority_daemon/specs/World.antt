@@ -1,5 +1,5 @@
 -- What stands outside of the program, and what a whole run says of it.
-use Rattle.std.specs.Prelude.{◌≡◌, ℕ, ◌<◌, List, drop, Option, None, Some, false}
+use Rattle.std.specs.Prelude.{◌≡◌, ℕ, ◌<◌, List, drop, Option, Some, false}
 use Rattle.dir_bytes.specs.Causes.{Rose}
 use Rattle.key_port.specs.Answers.{Rules}
 use Rattle.daemon_words.specs.declared.command.Command.{Command}
@@ -9,7 +9,7 @@ use Rattle.exit_status.specs.declared.status.Status.TheVariants as status
 use Rattle.authority_daemon.specs.Commands.{Answers, May, asks_clock_if, signs_if, verifies_if}
 use Rattle.authority_daemon.specs.Runs.{HasAsked, Ends, IsBeforeChecks, IsBeforeSigning, IsDoneOrMemory, KeepsLimit}
 use Rattle.authority_daemon.specs.Runs.{KnowsWords, MustAnswer}
-use Rattle.authority_daemon.specs.Runs.{ReadsThrough, StopsReading, Told, WritesOnlyAnswers}
+use Rattle.authority_daemon.specs.Runs.{ReadsThrough, StopsReading, Told, WritesOnlyAnswers, input_of, reads_input_if}
 
 -- What stands outside at a moment, but for the errors sink: objects, what they tell, and how often they have failed. Where
 -- there are several of a kind it is the first that fails.
@@ -45,18 +45,18 @@ pub record IsRun {S C V N : Type 0} (its : May N) (given : Option Command) (old 
   pub words : KnowsWords given s
   -- the status and the text written are the command's for the input
   pub ends : (c : Command) → given ≡ Some c
-      → Told old.left
+      → Told (input_of c old.left)
       (λ bytes. Ends (Answers its c new.last bytes old.signer new.signer) old.written new.written s)
   -- nothing was written, but with the statuses of writing
   pub written : WritesOnlyAnswers old.written new.written s
   -- an input past its limit is said to be so, and no other is
-  pub limit : (c : Command) → given ≡ Some c → Told old.left (λ bytes. KeepsLimit c bytes s)
+  pub limit : (c : Command) → given ≡ Some c → Told (input_of c old.left) (λ bytes. KeepsLimit bytes s)
   -- the input is read to its end, also where it is refused
   pub read : (c : Command) → given ≡ Some c → ReadsThrough c old.left new.left s
   -- of an input that is too long, or that could not be read, at most the limit and one piece were taken
   pub stops : StopsReading old.left new.left s
-  -- words that give no command leave the source as it was
-  pub unread : given ≡ None → new.source ≡ old.source
+  -- words that give no command, and a command that reads no input, leave the source as it was
+  pub unread : reads_input_if given ≡ false → new.source ≡ old.source
   -- the source, the sink, the first verifier and the signer fail exactly where the status says so
   pub source : TellsFaults old.read_faults new.read_faults (s ≡ status.ReadFault)
   pub sink : TellsFaults old.write_faults new.write_faults (s ≡ status.WriteFault)
@@ -80,5 +80,6 @@ pub record IsRun {S C V N : Type 0} (its : May N) (given : Option Command) (old 
 abbrev pub AnswersWhatItMust : {S C V N : Type 0} → Rules → Option Command → Moment S C V N → Moment S C V N → Status
     → Type 0
 AnswersWhatItMust rules given old new s =
-    MustAnswer rules given old.left → ¬ Rose old.read_faults new.read_faults → ¬ Rose old.write_faults new.write_faults
-    → ¬ Rose old.verifier_faults new.verifier_faults → IsDoneOrMemory s
+    MustAnswer rules given new.last old.left → ¬ Rose old.read_faults new.read_faults
+    → ¬ Rose old.write_faults new.write_faults → ¬ Rose old.verifier_faults new.verifier_faults
+    → ¬ Rose old.signer_faults new.signer_faults → IsDoneOrMemory s

@@ -11,26 +11,26 @@ returns-in-MakeVote-clause-answer g c =
     record {
       answer =
           vote_answered (may g.V.Verifier.may_accept g.V.Verifier.may_refuse g.N.Signer.may_give g.N.Signer.steps)
-          c.args.command.now (g.C.Clock.last c.make_vote.new.clock) _ c.args.bytes.now _ _ c.make_vote.result
+          c.in-MakeVote.bandwidths c.args.command.now (g.C.Clock.last c.vote.new.clock) _ c.args.bytes.now _ _ c.vote.result
           c.in-MakeVote.is
-          (first_is g.C.Clock.last c.args.outside.now.clocks.items c.make_vote.new.clock clocks)
-          c.make_vote.ensures.answer;
+          (first_is g.C.Clock.last c.args.outside.now.clocks.items c.vote.new.clock clocks)
+          c.vote.ensures.answer;
       verifier =
           tells g.V.Verifier.faults c.args.outside.now.verifiers.items c.index_mut-in-MakeVote-2.result.now
-          c.make_vote.new.verifier _ verifiers c.index_mut-in-MakeVote-2.ensures.value
-          c.make_vote.ensures.verifier_fault c.make_vote.ensures.verifier_told;
+          c.vote.new.verifier _ verifiers c.index_mut-in-MakeVote-2.ensures.value
+          c.vote.ensures.verifier_fault c.vote.ensures.verifier_told;
       signer = search rules;
-      others = behind_stay c.args.outside.now.verifiers.items c.make_vote.new.verifier;
+      others = behind_stay c.args.outside.now.verifiers.items c.vote.new.verifier;
       unasked = search rules;
       unchecked =
-          none_asked c.args.command.now c.args.outside.now.verifiers.items c.index_mut-in-MakeVote-2.result.now
-          c.make_vote.new.verifier c.make_vote.result c.in-MakeVote.is verifiers
-          c.index_mut-in-MakeVote-2.ensures.value c.make_vote.ensures.unasked;
+          none_asked c.in-MakeVote.bandwidths c.args.command.now c.args.outside.now.verifiers.items c.index_mut-in-MakeVote-2.result.now
+          c.vote.new.verifier c.vote.result c.in-MakeVote.is verifiers
+          c.index_mut-in-MakeVote-2.ensures.value c.vote.ensures.unasked;
       timed =
           λ answered. on_true (asks_clock c.args.command.now) _
           (counted g.C.Clock.asks c.args.outside.now.clocks.items c.index_mut-in-MakeVote.result.now
-          c.make_vote.new.clock clocks c.index_mut-in-MakeVote.ensures.value c.make_vote.ensures.clock);
-      other_clocks = behind_stay c.args.outside.now.clocks.items c.make_vote.new.clock;
+          c.vote.new.clock clocks c.index_mut-in-MakeVote.ensures.value c.vote.ensures.clock);
+      other_clocks = behind_stay c.args.outside.now.clocks.items c.vote.new.clock;
       untimed = search rules;
       unsigned = search rules;
       unasked_signer = search rules;

@@ -1,35 +1,34 @@
-use Rattle.std.proofs.Common.{rules, refl, sym, ◌≡◌, List, ℕ, Option, Some, None, ap, subst}
+use Rattle.std.proofs.Common.{rules, refl, ◌≡◌, List, ℕ, Option, Some, None, ap, subst}
 use Rattle.std.specs.Io.KnownBytes.{Appends}
 use Rattle.std.specs.Prelude.{take}
-use Rattle.daemon_words.specs.Words as grammar
-use Rattle.daemon_words.specs.declared.command.Command.{Command}
-use Rattle.exit_status.specs.declared.status.Status.TheVariants as status
 use Rattle.exit_status.specs.declared.stop.Stop.TheVariants as stop
 use Rattle.authority_daemon.specs.Commands.{Answers, may}
-use Rattle.authority_daemon.specs.Runs.{HasAsked, IsBeforeChecks, first_count}
-use Rattle.authority_daemon.proofs.Ending.{as_refused, done, failed, has_ended, is_within, refused, tells_refusal}
-use Rattle.authority_daemon.proofs.program.run_command.Goals as goal
+use Rattle.authority_daemon.specs.Runs.{first_count}
+use Rattle.authority_daemon.proofs.Ending.{as_refused, done, failed, has_ended, is_within, over_input, refused, tells_refusal}
+use Rattle.authority_daemon.proofs.program.run_over.Goals as goal
 
 pub returns-in-Done-clause-run : goal.returns-in-Done-clause-run
 returns-in-Done-clause-run g c =
-    let is : Some c.in-Ok-Some.command ≡ grammar.command_of c.args.words.now = search rules in
     let same = ap g.K.Sink.written c.in-Ok-answer.ensures.streams.sink in
     let kept = ap g.S.Source.left c.in-Ok-answer.ensures.streams.source in
     record {
       words = search rules;
       ends =
-          done (λ k bytes answer. Answers
+          over_input (Some c.args.command.now) c.args.command.now _ _ refl c.requires.input
+          (done (λ k bytes answer. Answers
           (may g.V.Verifier.may_accept g.V.Verifier.may_refuse g.N.Signer.may_give g.N.Signer.steps)
           k (first_count g.C.Clock.last c.answer.new.outside.clocks.items) bytes c.args.outside.now.signer
-          c.answer.new.outside.signer answer) (grammar.command_of c.args.words.now)
-          c.in-Ok-Some.command _ _ _ c.in-Ok.bytes c.in-Ok.bytes.items c.in-Ok-answer.text.items
+          c.answer.new.outside.signer answer) (Some c.args.command.now)
+          c.args.command.now _ _ _ c.in-Ok.bytes c.in-Ok.bytes.items c.in-Ok-answer.text.items
           c.deref.result.now _ _
-          is c.in-Ok.ensures.whole refl c.in-Ok-answer.ensures.answer.answer
+          refl c.in-Ok.ensures.whole refl c.in-Ok-answer.ensures.answer.answer
           c.deref.ensures.value
           (subst (λ (old : Option (List ℕ)). Appends old (g.K.Sink.written c.write_all.new.sink) c.deref.result.now)
-          same c.in-Done.ensures.0);
+          same c.in-Done.ensures.0));
       written = search rules;
-      limit = λ c1 names. is_within _ _ c.in-Ok.bytes c.in-Ok.ensures.whole c1;
+      limit =
+          over_input (Some c.args.command.now) c.args.command.now _ _ refl c.requires.input
+          (λ c1 names. is_within _ _ c.in-Ok.bytes c.in-Ok.ensures.whole);
       read = λ c1 names. has_ended _ _ _ c.in-Ok.bytes kept c.in-Ok.ensures.whole c1;
       stops = search rules;
       unread = search rules;
@@ -49,25 +48,27 @@ returns-in-Done-clause-run g c =
 
 pub returns-in-Ok-answer-clause-run : goal.returns-in-Ok-answer-clause-run
 returns-in-Ok-answer-clause-run g c =
-    let is : Some c.in-Ok-Some.command ≡ grammar.command_of c.args.words.now = search rules in
     let same = ap g.K.Sink.written c.in-Ok-answer.ensures.streams.sink in
     let kept = ap g.S.Source.left c.in-Ok-answer.ensures.streams.source in
     record {
       words = search rules;
       ends =
-          failed (λ k bytes answer. Answers
+          over_input (Some c.args.command.now) c.args.command.now _ _ refl c.requires.input
+          (failed (λ k bytes answer. Answers
           (may g.V.Verifier.may_accept g.V.Verifier.may_refuse g.N.Signer.may_give g.N.Signer.steps)
           k (first_count g.C.Clock.last c.answer.new.outside.clocks.items) bytes c.args.outside.now.signer
-          c.answer.new.outside.signer answer) (grammar.command_of c.args.words.now)
-          c.in-Ok-Some.command _ _ _ c.in-Ok.bytes c.in-Ok.bytes.items c.in-Ok-answer.text.items
+          c.answer.new.outside.signer answer) (Some c.args.command.now)
+          c.args.command.now _ _ _ c.in-Ok.bytes c.in-Ok.bytes.items c.in-Ok-answer.text.items
           c.deref.result.now c.in-Failed.sent _ _
-          is c.in-Ok.ensures.whole refl c.in-Ok-answer.ensures.answer.answer
+          refl c.in-Ok.ensures.whole refl c.in-Ok-answer.ensures.answer.answer
           c.deref.ensures.value
           (subst (λ (old : Option (List ℕ)). Appends old (g.K.Sink.written c.write_all.new.sink)
           (take c.in-Failed.sent c.deref.result.now)) same c.in-Failed.ensures.0)
-          c.in-Failed.ensures.1;
+          c.in-Failed.ensures.1);
       written = search rules;
-      limit = λ c1 names. is_within _ _ c.in-Ok.bytes c.in-Ok.ensures.whole c1;
+      limit =
+          over_input (Some c.args.command.now) c.args.command.now _ _ refl c.requires.input
+          (λ c1 names. is_within _ _ c.in-Ok.bytes c.in-Ok.ensures.whole);
       read = λ c1 names. has_ended _ _ _ c.in-Ok.bytes kept c.in-Ok.ensures.whole c1;
       stops = search rules;
       unread = search rules;
@@ -87,7 +88,6 @@ returns-in-Ok-answer-clause-run g c =
 
 pub returns-clause-run : goal.returns-clause-run
 returns-clause-run g c =
-    let is : Some c.in-Ok-Some.command ≡ grammar.command_of c.args.words.now = search rules in
     let kept = ap g.S.Source.left c.in-Err-Refused.ensures.streams.source in
     let stopped : c.in-Err-Refused.field-0 ≡ stop.Refused c.in-Err-Refused.refusal = search rules in
     let told = as_refused
@@ -96,14 +96,17 @@ returns-clause-run g c =
     record {
       words = search rules;
       ends =
-          refused (λ k bytes answer. Answers
+          over_input (Some c.args.command.now) c.args.command.now _ _ refl c.requires.input
+          (refused (λ k bytes answer. Answers
           (may g.V.Verifier.may_accept g.V.Verifier.may_refuse g.N.Signer.may_give g.N.Signer.steps)
           k (first_count g.C.Clock.last c.answer.new.outside.clocks.items) bytes c.args.outside.now.signer
-          c.answer.new.outside.signer answer) (grammar.command_of c.args.words.now)
-          c.in-Ok-Some.command _ _ _ c.in-Ok.bytes c.in-Ok.bytes.items c.in-Err-Refused.refusal None None
-          is c.in-Ok.ensures.whole refl told.answer;
+          c.answer.new.outside.signer answer) (Some c.args.command.now)
+          c.args.command.now _ _ _ c.in-Ok.bytes c.in-Ok.bytes.items c.in-Err-Refused.refusal None None
+          refl c.in-Ok.ensures.whole refl told.answer);
       written = search rules;
-      limit = λ c1 names. is_within _ _ c.in-Ok.bytes c.in-Ok.ensures.whole c1;
+      limit =
+          over_input (Some c.args.command.now) c.args.command.now _ _ refl c.requires.input
+          (λ c1 names. is_within _ _ c.in-Ok.bytes c.in-Ok.ensures.whole);
       read = λ c1 names. has_ended _ _ _ c.in-Ok.bytes kept c.in-Ok.ensures.whole c1;
       stops = search rules;
       unread = search rules;
@@ -113,14 +116,8 @@ returns-clause-run g c =
       signer = tells_refusal _ _ c.in-Err-Refused.refusal _ told.signer;
       others = search rules;
       unasked = search rules;
-      unchecked =
-          λ before. told.unchecked
-          (subst (λ (given : Option Command). IsBeforeChecks given (status.Refused c.in-Err-Refused.refusal)) (sym is)
-          before);
-      timed =
-          subst (λ (given : Option Command). HasAsked given (first_count g.C.Clock.asks c.args.outside.now.clocks.items)
-          (first_count g.C.Clock.asks c.answer.new.outside.clocks.items) (status.Refused c.in-Err-Refused.refusal)) is
-          (told.timed tt);
+      unchecked = told.unchecked;
+      timed = told.timed tt;
       other_clocks = search rules;
       untimed = search rules;
       unsigned = search rules;
