@@ -1,0 +1,130 @@
+// What an authority holds at the end: its changes, and its documents.
+use anyhow::{Result, bail};
+use consensus_terms::Flavour;
+use dir_bytes::Text;
+use dir_values::Fingerprint;
+use hex::{encode, encode_upper};
+use key_port::TestKeys;
+use period_core::Station;
+use period_terms::{Change, ChangeKind, Name};
+use sha2::{Digest, Sha256};
+use signature_document::next_signatures;
+use std::alloc::{AllocError, Global};
+
+// The name of a kind of changes.
+fn kind_name(kind: ChangeKind) -> &'static str {
+    match kind {
+        ChangeKind::Vote => "vote",
+        ChangeKind::Freeze => "freeze",
+        ChangeKind::Compute => "compute",
+        ChangeKind::NoConsensus => "no-consensus",
+        ChangeKind::Sign => "sign",
+        ChangeKind::NoOwnVote => "no-own-vote",
+        ChangeKind::Signature => "signature",
+        ChangeKind::Publish => "publish",
+        ChangeKind::Miss => "miss",
+        ChangeKind::Begin => "begin",
+    }
+}
+
+// An authority, if there is one.
+fn authority_text(alloc: Global, authority: Option<Fingerprint>) -> Result<String, AllocError> {
+    match authority {
+        Some(authority) => encode_upper(alloc, &authority.0),
+        None => String::from_str(alloc, "-"),
+    }
+}
+
+// Some digests, if there are some.
+fn digests_text(alloc: Global, digests: &[u8]) -> Result<String, AllocError> {
+    if digests.is_empty() {
+        return String::from_str(alloc, "-");
+    }
+    encode(alloc, digests)
+}
+
+// A change: its kind, its authority, its moment, and its digests.
+fn change_text(alloc: Global, change: &Change) -> Result<String, AllocError> {
+    let kind = kind_name(change.kind);
+    let authority = authority_text(alloc, change.authority)?;
+    let published = change.published;
+    let digests = digests_text(alloc, change.digest.as_bytes())?;
+    format!(in alloc; "{kind} {authority} {published} {digests}")
+}
+
+// Prints the changes since the period began.
+fn print_changes(rt: &HostRuntime, station: &Station<TestKeys>) -> Result<()> {
+    let mut number = station.base();
+    for change in station.changes() {
+        number = number.saturating_add(1);
+        let change = change_text(rt.alloc(), change)?;
+        println!(rt; "end -> change {number} {change}")?;
+    }
+    Ok(())
+}
+
+// The SHA-256 of a document, if there is one.
+fn digest_text(alloc: Global, document: Option<&[u8]>) -> Result<String, AllocError> {
+    match document {
+        Some(text) => encode_upper(alloc, &Sha256::digest(text)),
+        None => String::from_str(alloc, "-"),
+    }
+}
+
+// Prints the digest of a document, if there is one.
+fn print_document(rt: &HostRuntime, name: &str, document: Option<&[u8]>) -> Result<()> {
+    let digest = digest_text(rt.alloc(), document)?;
+    println!(rt; "{name} -> {digest}")?;
+    Ok(())
+}
+
+// The bytes of a text, if there is one.
+fn bytes_of(text: &Option<Text>) -> Option<&[u8]> {
+    match text {
+        Some(text) => Some(text.as_bytes()),
+        None => None,
+    }
+}
+
+// Prints the document of a flavour that would be published now.
+fn print_next(
+    rt: &HostRuntime,
+    station: &Station<TestKeys>,
+    name: &str,
+    flavour: Flavour,
+) -> Result<()> {
+    match station.next_consensus(rt.alloc(), flavour) {
+        Ok(text) => print_document(rt, name, bytes_of(&text)),
+        Err(_) => bail!("no memory"),
+    }
+}
+
+// Prints the document of a flavour that was published last.
+fn print_current(
+    rt: &HostRuntime,
+    station: &Station<TestKeys>,
+    name: &str,
+    flavour: Flavour,
+) -> Result<()> {
+    print_document(rt, name, station.document(&Name::Current(flavour)))
+}
+
+// Prints the document of the signatures that are held.
+fn print_signatures(rt: &HostRuntime, station: &Station<TestKeys>) -> Result<()> {
+    match next_signatures(station, rt.alloc()) {
+        Ok(text) => print_document(rt, "next-signatures", bytes_of(&text)),
+        Err(_) => bail!("no memory"),
+    }
+}
+
+/// Prints the changes since the period began, and the documents.
+pub fn print_end(rt: &HostRuntime, station: &Station<TestKeys>) -> Result<()> {
+    let front = station.front();
+    println!(rt; "end -> front {front}")?;
+    print_changes(rt, station)?;
+    print_next(rt, station, "next ns", Flavour::Ns)?;
+    print_current(rt, station, "current ns", Flavour::Ns)?;
+    print_next(rt, station, "next microdesc", Flavour::Microdesc)?;
+    print_current(rt, station, "current microdesc", Flavour::Microdesc)?;
+    print_signatures(rt, station)
+}
