@@ -1,0 +1,3 @@
+pub mod Moving
+pub mod Pairing
+pub mod Views

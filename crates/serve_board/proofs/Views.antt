@@ -1,0 +1,78 @@
+-- What is said of what a board and a pass have inside is said of what they are seen as.
+use Rattle.std.proofs.Common.{◌≡◌, refl, sym, subst}
+use Rattle.descriptor_doc.specs.declared.descriptor.Descriptor.{Descriptor}
+use Rattle.vote_pool.specs.declared.answers.Keep.{Keep}
+use Rattle.vote_pool.specs.Pools.{Pooled, answer_to}
+use Rattle.period_lock.specs.Turns.{IsOf, Knowledge}
+use Rattle.period_terms.specs.declared.answer.Answer.{Answer}
+use Rattle.period_terms.specs.declared.entry.Entry.{Entry}
+use Rattle.period_terms.specs.declared.event.Event.{Event}
+use Rattle.period_terms.specs.declared.state.State.{State}
+use Rattle.period_terms.specs.Histories.{IsHistory, after, entry_if}
+use Rattle.board_terms.specs.Boards.{Locks, Parts, IsAt, Makes, Sees, Stores, Looks, answer_at}
+use Rattle.board_terms.specs.Stocks.{stock_after, AreKept, kept_if}
+use Rattle.board_terms.specs.Turns.{TakesEvent, TakesReading}
+
+module _ (inside board : Locks) (parts before : Parts) (b : inside ≡ board) (p : parts ≡ before) where
+  pub seen_as : (F : Locks → Parts → Type 0) → F inside parts → F board before
+  seen_as F f = subst (λ (l : Locks). F l before) b (subst (λ (q : Parts). F inside q) p f)
+
+  module _ (at : IsAt board before) where
+    -- a pass of the board has passes of its locks inside
+    pub station_of : IsOf inside.station parts.station
+    station_of =
+        subst (λ (l : Locks). IsOf l.station parts.station) (sym b)
+        (subst (λ (q : Parts). IsOf board.station q.station) (sym p) at.station)
+
+    pub pool_of : IsOf inside.pool parts.pool
+    pool_of =
+        subst (λ (l : Locks). IsOf l.pool parts.pool) (sym b)
+        (subst (λ (q : Parts). IsOf board.pool q.pool) (sym p) at.pool)
+
+    -- where one part goes on and is of the board, the pass is
+    pub at_station : (then : Knowledge State Entry) → IsOf inside.station then
+        → IsAt board (record { station = then; pool = parts.pool })
+    at_station then of = record {
+      station = subst (λ (l : Locks). IsOf l.station then) b of;
+      pool = subst (λ (q : Parts). IsOf board.pool q.pool) (sym p) at.pool;
+    }
+
+    pub at_pool : (then : Knowledge Pooled Descriptor) → IsOf inside.pool then
+        → IsAt board (record { station = parts.station; pool = then })
+    at_pool then of = record {
+      station = subst (λ (q : Parts). IsOf board.station q.station) (sym p) at.station;
+      pool = subst (λ (l : Locks). IsOf l.pool then) b of;
+    }
+
+  -- an event or a reading of a part is one of the pass
+  pub makes : (then : Knowledge State Entry) (event : Event) (answer : Answer)
+      → TakesEvent after IsHistory answer_at entry_if event inside.station parts.station then answer
+      → Makes board before (record { station = then; pool = parts.pool }) event answer
+  makes then event answer takes =
+      seen_as
+      (λ (l : Locks) (q : Parts). Makes l q (record { station = then; pool = parts.pool }) event answer)
+      (record { takes = takes; pool = refl })
+
+  pub sees : {A : Type 0} (then : Knowledge State Entry) (right : State → A → Type 0) (answer : A)
+      → TakesReading after IsHistory right inside.station parts.station then answer
+      → Sees board before (record { station = then; pool = parts.pool }) right answer
+  sees then right answer takes =
+      seen_as
+      (λ (l : Locks) (q : Parts). Sees l q (record { station = then; pool = parts.pool }) right answer)
+      (record { takes = takes; pool = refl })
+
+  pub stores : (then : Knowledge Pooled Descriptor) (descriptor : Descriptor) (answer : Keep)
+      → TakesEvent stock_after AreKept answer_to kept_if descriptor inside.pool parts.pool then answer
+      → Stores board before (record { station = parts.station; pool = then }) descriptor answer
+  stores then descriptor answer takes =
+      seen_as
+      (λ (l : Locks) (q : Parts). Stores l q (record { station = parts.station; pool = then }) descriptor answer)
+      (record { takes = takes; station = refl })
+
+  pub looks : {A : Type 0} (then : Knowledge Pooled Descriptor) (right : Pooled → A → Type 0) (answer : A)
+      → TakesReading stock_after AreKept right inside.pool parts.pool then answer
+      → Looks board before (record { station = parts.station; pool = then }) right answer
+  looks then right answer takes =
+      seen_as
+      (λ (l : Locks) (q : Parts). Looks l q (record { station = parts.station; pool = then }) right answer)
+      (record { takes = takes; station = refl })

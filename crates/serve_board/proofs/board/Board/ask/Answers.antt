@@ -1,0 +1,25 @@
+use Rattle.std.proofs.Common.{◌≡◌, refl}
+use Rattle.period_terms.specs.Histories.{IsHistory, after}
+use Rattle.board_terms.proofs.Standing.{reading_told}
+use Rattle.serve_board.proofs.Views.{station_of, at_station, sees}
+use Rattle.serve_board.proofs.board.Board.ask.Goals as goal
+
+pub returns-clause-reading : goal.returns-clause-reading
+returns-clause-reading g c =
+    sees _ c.args.self.now _ c.args.pass.now c.self.view_is c.pass.view_is c.turn-reply.new.pass
+    (λ state answer. g.Q.Question.finds c.args.question state answer c.turn-reply.new.event.question)
+    c.turn-reply.result
+    (reading_told after IsHistory c.self.inside.station c.pass.inside.station c.turn-reply.new.pass _ _
+    c.turn-reply.result _ c.turn-reply.ensures.turn
+    (λ state answer. g.Q.Question.finds c.args.question state answer c.turn-reply.new.event.question)
+    c.turn-reply.result c.turn-reply.ensures.turn.answer refl c.turn-reply.ensures.mine)
+
+pub returns-clause-at : goal.returns-clause-at
+returns-clause-at g c =
+    at_station _ c.args.self.now _ c.args.pass.now c.self.view_is c.pass.view_is c.requires.at c.turn-reply.new.pass
+    c.turn-reply.ensures.turn.of
+
+pub turn-reply-requires : goal.turn-reply-requires
+turn-reply-requires g c = record {
+  lock = station_of _ c.args.self.now _ c.args.pass.now c.self.view_is c.pass.view_is c.requires.at;
+}

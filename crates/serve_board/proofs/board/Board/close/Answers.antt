@@ -1,0 +1,34 @@
+use Rattle.std.proofs.Common.{map, subst, sym}
+use Rattle.period_lock.specs.Turns.{AreOf, EndsIn}
+use Rattle.board_terms.specs.Boards.{Locks, Parts}
+use Rattle.period_terms.specs.Histories.{IsHistory, after}
+use Rattle.board_terms.specs.Stocks.{stock_after, AreKept}
+use Rattle.board_terms.specs.Turns.{Stands}
+use Rattle.board_terms.proofs.Meetings.{stations_of, pools_of, ends_as}
+use Rattle.serve_board.proofs.board.Board.close.Goals as goal
+
+pub close-requires : goal.close-requires
+close-requires g c = record {
+  lock = subst (λ (b : Locks). AreOf b.station c.part-stations.result.stations.items) (sym c.self.view_is)
+      (stations_of c.args.self c.args.passes.items c.requires.at _ c.part-stations.ensures.stations);
+}
+
+pub close-requires-2 : goal.close-requires-2
+close-requires-2 g c = record {
+  lock = subst (λ (b : Locks). AreOf b.pool c.part-stations.result.pools.items) (sym c.self.view_is)
+      (pools_of c.args.self c.args.passes.items c.requires.at _ c.part-stations.ensures.pools);
+}
+
+pub returns : goal.returns
+returns g c = record {
+  station =
+      subst (λ (b : Locks). EndsIn (Stands after IsHistory) b.station
+      (map (λ (p : Parts). p.station) c.args.passes.items) c.in-Ok.period.station) c.self.view_is
+      (ends_as (λ t. t.station) (Stands after IsHistory) c.self.inside.station _ _ c.in-Ok.period
+      c.part-stations.ensures.stations c.in-Ok.ensures.closed);
+  pool =
+      subst (λ (b : Locks). EndsIn (Stands stock_after AreKept) b.pool
+      (map (λ (p : Parts). p.pool) c.args.passes.items) c.in-Ok-close.reserve.pool) c.self.view_is
+      (ends_as (λ t. t.pool) (Stands stock_after AreKept) c.self.inside.pool _ _ c.in-Ok-close.reserve
+      c.part-stations.ensures.pools c.in-Ok-close.ensures.closed);
+}

@@ -1,0 +1,16 @@
+use Rattle.std.proofs.Common.{◌≡◌, ◌≤◌, ◌+◌, All, length, vec_len, vec_capacity}
+use Rattle.period_lock.specs.Turns.{AreDealt}
+use Rattle.board_terms.specs.Boards.{IsPair}
+use Rattle.serve_board.proofs.opening.pair.Given as goal
+
+abbrev pub invariant-passes : goal.invariant-passes
+invariant-passes g l = record {
+  stations : AreDealt l.station (length l.stations.items) l.stations.items;
+  pools : AreDealt l.pool (length l.stations.items) l.pools.items;
+  count : length l.passes.items + length l.stations.items ≡ length l.fn.stations.items;
+  room : length l.fn.stations.items ≤ vec_capacity l.passes;
+  pairs : All (IsPair l.station l.pool) l.passes.items;
+}
+
+abbrev pub decreases-passes : goal.decreases-passes
+decreases-passes g l = vec_len l.stations

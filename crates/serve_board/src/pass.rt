@@ -1,0 +1,32 @@
+// The right to make events at a board.
+ghost use Rattle.std.specs.Prelude.{◌≡◌, ◌+◌, Some, length};
+
+use crate::period::Period;
+use crate::reserve::Reserve;
+use key_port::Verifier;
+use period_terms::State;
+use std::marker::Model;
+
+/// The right to make events at a board: a pass of each of its locks. Contracts see what it knows of both.
+#[derive(Drop)]
+pub struct Pass<V: Verifier> {
+    pub(crate) station: period_lock::Pass<Period<V>>,
+    pub(crate) pool: period_lock::Pass<Reserve<V>>,
+}
+
+impl<V: Verifier> Model for Pass<V> {
+    ghost use Rattle.board_terms.specs.Boards.{Parts};
+
+    ghost Value = { Parts };
+
+    ghost view = { λ p. record { station = p.station; pool = p.pool } };
+}
+
+impl<V: Verifier> Pass<V> {
+    /// The greatest front of the station that the pass has seen.
+    pub fn front(&self) -> u64
+        ensures { (start : State) → self.now.station.start ≡ Some start → result ≡ start.front + length self.now.station.seen }
+    {
+        self.station.front()
+    }
+}

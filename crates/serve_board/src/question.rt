@@ -1,0 +1,62 @@
+// What is asked of a value under a lock, and changes nothing there.
+ghost use Rattle.std.specs.Prelude.{◌≡◌, None};
+ghost use Rattle.period_terms.specs.Histories.{IsHistory, after};
+ghost use Rattle.board_terms.specs.Stocks.{AreKept, stock_after};
+ghost use Rattle.board_terms.specs.Turns.{FindsThere};
+
+use crate::period::Period;
+use crate::reserve::Reserve;
+use key_port::Verifier;
+use period_core::Station;
+use period_lock::Event;
+use vote_pool::Pool;
+
+/// What is asked of a value in one turn. It changes nothing of the value.
+pub trait Question<T> {
+    type Reply;
+
+    /// The question before, the value, the reply and the question after, where the reply is right.
+    ghost finds: { Self → T → Self.Reply → Self → Type 0 };
+
+    /// Replies.
+    fn ask(&mut self, value: &T) -> Self::Reply
+        ensures { finds self.old value.now result self.new };
+}
+
+/// A question is asked of a station.
+#[derive(Drop)]
+pub(crate) struct AskStation<Q> {
+    pub(crate) question: Q,
+}
+
+impl<V: Verifier, Q: Question<Station<V>>> Event<Period<V>> for AskStation<Q> {
+    type Reply = Q::Reply;
+
+    ghost answers = { λ before start story reply event.
+        FindsThere after IsHistory (λ state answer. Q.finds before.question state answer event.question) start story reply };
+
+    ghost entry_of = { λ before reply event. None };
+
+    fn apply(&mut self, state: &mut Period<V>) -> Q::Reply {
+        self.question.ask(&state.station)
+    }
+}
+
+/// A question is asked of a pool.
+#[derive(Drop)]
+pub(crate) struct AskPool<Q> {
+    pub(crate) question: Q,
+}
+
+impl<V: Verifier, Q: Question<Pool<V>>> Event<Reserve<V>> for AskPool<Q> {
+    type Reply = Q::Reply;
+
+    ghost answers = { λ before start story reply event.
+        FindsThere stock_after AreKept (λ pool answer. Q.finds before.question pool answer event.question) start story reply };
+
+    ghost entry_of = { λ before reply event. None };
+
+    fn apply(&mut self, state: &mut Reserve<V>) -> Q::Reply {
+        self.question.ask(&state.pool)
+    }
+}

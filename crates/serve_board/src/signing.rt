@@ -1,0 +1,30 @@
+// The event that offers a signature.
+ghost use Rattle.std.specs.Prelude.{IfSome};
+ghost use Rattle.serve_board.specs.Events.{SignsThere, signed_entry};
+
+use crate::period::Period;
+use key_port::Verifier;
+use period_lock::Event;
+use period_terms::SignIn;
+use signature_terms::CheckedSig;
+
+/// A signature is offered. It is there until then.
+#[derive(Drop)]
+pub(crate) struct OfferSignature<V: Verifier> {
+    pub(crate) signature: Option<CheckedSig<V>>,
+}
+
+impl<V: Verifier> Event<Period<V>> for OfferSignature<V> {
+    type Reply = Option<SignIn>;
+
+    ghost answers = { λ before start story reply event. IfSome before.signature (λ signature. SignsThere signature start story reply) };
+
+    ghost entry_of = { λ before reply event. signed_entry before.signature reply };
+
+    fn apply(&mut self, state: &mut Period<V>) -> Option<SignIn> {
+        match self.signature.take() {
+            Some(signature) => Some(state.station.sign_in(signature)),
+            None => None,
+        }
+    }
+}
