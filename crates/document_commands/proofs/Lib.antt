@@ -1,4 +1,3 @@
-pub mod LinesBehind
 pub mod NotRefused
 pub mod MadeOf
 pub mod ReadFiles

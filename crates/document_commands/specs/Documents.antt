@@ -16,7 +16,7 @@ use Rattle.detached_doc.specs.Reading.{detached_of}
 use Rattle.micro_desc.specs.declared.micro.Micro.{Micro}
 use Rattle.daemon_words.specs.declared.command.Kind.{Kind}
 use Rattle.daemon_words.specs.declared.command.Kind.TheVariants as kind
-use Rattle.document_commands.specs.Blanks.{after_blanks}
+use Rattle.blank_lines.specs.Blanks.{after_blanks}
 use Rattle.document_commands.specs.NextMicro.{first_micro}
 
 -- what was read: a line for each kind

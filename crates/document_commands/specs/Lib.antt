@@ -1,4 +1,3 @@
-pub mod Blanks
 pub mod NextMicro
 pub mod Documents
 pub mod BandwidthFiles

@@ -1,30 +1,25 @@
 -- Where the next microdescriptor begins, behind the one that an input begins with: with the line of an `onion-key`, whatever is
 -- wrong with this line or its object (dir-spec, "Computing microdescriptors").
-use Rattle.std.specs.Prelude.{ℕ, nat_le, Bool, false, List, drop, codes, Option, Some, None, Result, Ok, Err, option_and_then, if◌then◌else◌}
+use Rattle.std.specs.Prelude.{ℕ, nat_le, Bool, List, drop, codes, Option, Some, None, Result, Ok, Err, option_and_then, if◌then◌else◌}
 use Rattle.std.specs.List.{fold}
 use Rattle.item_terms.specs.Items.{Item, items_of}
-use Rattle.item_terms.specs.Words.{strip, ends_or_blank}
 use Rattle.dirdoc_grammar.specs.Reading.{first_line}
+use Rattle.blank_lines.specs.Blanks.{after_blanks}
+use Rattle.blank_lines.specs.Keywords.{has_keyword}
 use Rattle.frame_terms.specs.declared.fault.FrameFault.{FrameFault}
 use Rattle.frame_terms.specs.declared.fault.FrameReason.TheVariants.{Order}
 use Rattle.frame_terms.specs.declared.fault.ReadRefusal.{ReadRefusal}
 use Rattle.frame_terms.specs.declared.fault.ReadRefusal.TheVariants.{Frame, Memory}
 use Rattle.micro_desc.specs.declared.micro.Micro.{Micro}
 use Rattle.micro_desc.specs.Reading.{max_micro, micro_of}
-use Rattle.document_commands.specs.Blanks.{after_blanks}
 
 -- the place after the last of these items, if there is one
 abbrev pub after_last : List Item → Option ℕ
 after_last items = fold (λ before item. Some item.after) None items
 
--- whether what follows a keyword ends it
-abbrev pub ends_keyword : Option (List ℕ) → Bool
-ends_keyword None = false
-ends_keyword (Some rest) = ends_or_blank rest
-
 -- whether the keyword of a line is `onion-key`
 abbrev pub is_onion_key : List ℕ → Bool
-is_onion_key line = ends_keyword (strip (codes "onion-key") line)
+is_onion_key line = has_keyword (codes "onion-key") line
 
 -- this place, where such a line begins there
 abbrev pub if_onion_key : List ℕ → ℕ → Option ℕ

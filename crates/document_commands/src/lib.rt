@@ -2,7 +2,6 @@
 #![tactic(auto)]
 
 mod bandwidth;
-mod blanks;
 mod cert;
 mod commands;
 mod consensus;

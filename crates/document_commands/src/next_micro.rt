@@ -1,15 +1,12 @@
 // Where the next microdescriptor begins.
 ghost use Rattle.std.specs.Prelude.{◌≡◌, ◌<◌, ◌^◌, length};
-ghost use Rattle.dirdoc_grammar.specs.Reading.{first_line};
 ghost use Rattle.item_terms.specs.Items.{items_of};
-ghost use Rattle.item_terms.specs.Words.{ends_or_blank};
 ghost use Rattle.micro_desc.specs.Reading.{max_micro};
 ghost use Rattle.document_commands.specs.NextMicro as next;
 
-use crate::blanks::{after_blanks, is_blank};
+use blank_lines::{after_blanks, has_keyword, line_text};
 use dirdoc_grammar::Items;
 use frame_terms::{FrameFault, FrameReason};
-use memchr::memchr;
 
 /// How many bytes a microdescriptor may have.
 const MAX_MICRO: u64 = 65_536;
@@ -59,32 +56,9 @@ fn after_last(bytes: &[u8]) -> Option<u64>
     after
 }
 
-/// The text of the first line.
-fn line_text(rest: &[u8]) -> &[u8]
-    ensures { result.now ≡ (first_line rest.now).text }
-{
-    match memchr(b'\n', rest) {
-        Some(len) => &rest[..len],
-        None => rest,
-    }
-}
-
 /// Whether the keyword of a line is `onion-key`.
 fn is_onion_key(line: &[u8]) -> bool
     ensures { result ≡ next.is_onion_key line.now }
 {
-    match line.strip_prefix(b"onion-key") {
-        Some(rest) => ends_keyword(rest),
-        None => false,
-    }
-}
-
-/// Whether a keyword ends before this: nothing follows, or a blank.
-fn ends_keyword(rest: &[u8]) -> bool
-    ensures { result ≡ ends_or_blank rest.now }
-{
-    match rest {
-        [] => true,
-        [first, ..] => is_blank(*first),
-    }
+    has_keyword(line, b"onion-key")
 }

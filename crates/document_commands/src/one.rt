@@ -6,13 +6,13 @@ ghost use Rattle.frame_terms.specs.declared.fault.ReadRefusal.{ReadRefusal};
 ghost use Rattle.frame_terms.specs.Documents.{document_of};
 ghost use Rattle.exit_status.specs.Stops.{Answered};
 ghost use Rattle.document_commands.specs.Answers.{ReadAnswers, check_text};
-ghost use Rattle.document_commands.specs.Blanks as blanks;
+ghost use Rattle.blank_lines.specs.Blanks as blanks;
 ghost use Rattle.document_commands.specs.Documents as documents;
 ghost use Rattle.document_commands.specs.Ends.{ComesOf};
 ghost use Rattle.document_commands.specs.Private.{IsOne, ReadsFirst, ReadsOne};
 
-use crate::blanks::after_blanks;
 use crate::ends::{end_of, refusal_of};
+use blank_lines::after_blanks;
 use bytes::Bytes;
 use daemon_words::Kind;
 use dir_bytes::Memory;

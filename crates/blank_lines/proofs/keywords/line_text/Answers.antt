@@ -1,7 +1,7 @@
 use Rattle.std.proofs.Common.{ℕ, length, take, sym, ap, ◌∙◌, arith}
 use Rattle.std.proofs.lemmas.List.{take_all}
 use Rattle.dirdoc_grammar.proofs.FirstByte.{before_found, before_none}
-use Rattle.document_commands.proofs.next_micro.line_text.Goals as goal
+use Rattle.blank_lines.proofs.keywords.line_text.Goals as goal
 
 pub returns-in-Some : goal.returns-in-Some
 returns-in-Some c = ap (λ (n : ℕ). take n c.args.rest.now) (sym (before_found 10 c.args.rest.now c.in-Some.len c.in-Some.ensures))

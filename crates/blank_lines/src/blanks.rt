@@ -1,7 +1,7 @@
 // Blank lines behind a document.
 ghost use Rattle.std.specs.Prelude.{◌≡◌, ◌≤◌, ◌<◌, ◌^◌, length, IfSome};
 ghost use Rattle.item_terms.specs.Words as words;
-ghost use Rattle.document_commands.specs.Blanks as blanks;
+ghost use Rattle.blank_lines.specs.Blanks as blanks;
 
 use memchr::memchr;
 
@@ -44,7 +44,7 @@ fn has_blanks_alone(text: &[u8]) -> bool
 }
 
 /// Whether a byte is a blank.
-pub fn is_blank(b: u8) -> bool
+pub(crate) fn is_blank(b: u8) -> bool
     ensures { result ≡ words.is_blank b }
 {
     b == b' ' || b == b'\t'

@@ -1,6 +1,6 @@
 use Rattle.std.proofs.Common.{rules, ◌≡◌, true, false, None, sym, ◌∙◌}
-use Rattle.document_commands.proofs.LinesBehind.{ended_line, not_ended}
-use Rattle.document_commands.proofs.blanks.blank_size.Goals as goal
+use Rattle.blank_lines.proofs.LinesBehind.{ended_line, not_ended}
+use Rattle.blank_lines.proofs.blanks.blank_size.Goals as goal
 
 pub returns-in_err-len-clause-size : goal.returns-in_err-len-clause-size
 returns-in_err-len-clause-size c =

@@ -1,6 +1,6 @@
 use Rattle.std.proofs.Common.{◌≡◌, ◌≤◌, ◌-◌, length}
-use Rattle.document_commands.specs.Blanks.{after_blanks}
-use Rattle.document_commands.proofs.blanks.after_blanks.Given as goal
+use Rattle.blank_lines.specs.Blanks.{after_blanks}
+use Rattle.blank_lines.proofs.blanks.after_blanks.Given as goal
 
 abbrev pub invariant-lines : goal.invariant-lines
 invariant-lines l = record {

@@ -1,6 +1,6 @@
 use Rattle.std.proofs.Common.{sym, ◌∙◌, arith}
-use Rattle.document_commands.proofs.LinesBehind.{no_line, one_blank, one_other}
-use Rattle.document_commands.proofs.blanks.after_blanks.Goals as goal
+use Rattle.blank_lines.proofs.LinesBehind.{no_line, one_blank, one_other}
+use Rattle.blank_lines.proofs.blanks.after_blanks.Goals as goal
 
 pub returns-in_default-clause-value : goal.returns-in_default-clause-value
 returns-in_default-clause-value c = sym (one_other c.lines.place c.args.bytes.now (omega arith) (sym c.in_default.is ∙ c.blank_size.ensures.size)) ∙ c.lines.invariant.same

@@ -9,7 +9,7 @@ use Rattle.item_terms.specs.Words.{is_blank_line}
 use Rattle.dirdoc_grammar.specs.Reading.{first_line, first_line_len}
 use Rattle.dirdoc_grammar.proofs.FirstByte.{before_found, before_none}
 use Rattle.dirdoc_grammar.proofs.FirstLine.{lines_first, whole_rest}
-use Rattle.document_commands.specs.Blanks.{after_blanks, blank_size, first_other, is_blank}
+use Rattle.blank_lines.specs.Blanks.{after_blanks, blank_size, first_other, is_blank}
 
 -- what stands behind the first line where that is blank, and else that line
 at_first : (place : ℕ) (rest : List ℕ) → 0 < length rest
