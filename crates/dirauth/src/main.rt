@@ -1,9 +1,10 @@
-//! The program `dirauth`: a directory authority's tool.
+//! The program `dirauth`: a directory authority's tool. The one crate that touches the real runtime.
 #![tactic(auto)]
 
-use authority_program::program;
+mod program;
+
 use std::process::ExitCode;
 
 fn main(rt: HostRuntime) -> ExitCode {
-    program(&rt)
+    program::program(&rt)
 }

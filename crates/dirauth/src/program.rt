@@ -1,7 +1,4 @@
-//! What the program `dirauth` does: it runs `authority_daemon::run` over the real input, output and errors and a key service, and
-//! ends with its status.
-#![tactic(auto)]
-
+// `authority_daemon::run` over the real input, output and errors, the system's clock and a key service.
 ghost use Rattle.std.specs.Prelude.{◌<◌, vec_len, IfOk};
 
 use authority_daemon::{Outside, run};
@@ -123,7 +120,7 @@ fn run_words(rt: &HostRuntime, words: &[String]) -> Status {
 }
 
 /// Runs the words behind the program's name, and gives the exit code of the status.
-pub fn program(rt: &HostRuntime) -> ExitCode {
+pub(crate) fn program(rt: &HostRuntime) -> ExitCode {
     let status = match words(rt) {
         Ok(words) => run_words(rt, &words),
         Err(error) if error.kind() == io::ErrorKind::OutOfMemory => want_of_memory(rt),
