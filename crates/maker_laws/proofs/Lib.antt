@@ -10,3 +10,7 @@ pub mod ShortTexts
 pub mod ShortEntries
 pub mod ShortPreamble
 pub mod MadeRead
+pub mod RowRanges
+pub mod FileRanges
+pub mod ToldRanges
+pub mod FileVotes

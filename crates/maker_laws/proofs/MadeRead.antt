@@ -1,5 +1,5 @@
 -- A made vote is read as what it was made to say.
-use Rattle.std.proofs.Common.{ℕ, List, [], ◌∷◌, ◌++◌, Option, Some, None, refl}
+use Rattle.std.proofs.Common.{ℕ, List, [], ◌∷◌, ◌++◌, Option, Some, None, refl, sym, ap, subst}
 use Rattle.std.specs.Prelude.{All, codes, map, option_map}
 use Rattle.dir_bytes.specs.FieldTexts.{moment_text}
 use Rattle.dir_values.specs.FlagSets.{set_text}
@@ -21,12 +21,16 @@ use Rattle.descriptor_ranges.specs.Ranges.{DescriptorsReadAreInRange, IsDescript
 use Rattle.flag_rules.specs.Flags.{flags_of}
 use Rattle.flag_rules.specs.Relays.{ruled_relays}
 use Rattle.flag_rules.specs.declared.ruling.Ruling.{Ruling}
+use Rattle.given_certs.specs.Given.{IsGiven}
 use Rattle.made_laws.proofs.MadeAgain.{made_again}
 use Rattle.station_certs.proofs.GivenCert.{certificates_are_given}
+use Rattle.station_input.specs.declared.facts.StationFacts.{StationFacts}
 use Rattle.station_lines.specs.Lines.{HasShortLines}
 use Rattle.station_lines.proofs.GivenLines.{given_short}
 use Rattle.station_ranges.specs.Ranges.{IsStationInRange}
 use Rattle.station_ranges.proofs.StationKept.{station_in_range}
+use Rattle.vote_frame.specs.Tables.{vote_tables}
+use Rattle.vote_frame.specs.declared.frame.VoteSection.TheVariants as section
 use Rattle.vote_terms.specs.declared.entry.EntryFacts.{EntryFacts}
 use Rattle.vote_terms.specs.declared.facts.VoteFacts.{VoteFacts}
 use Rattle.vote_text.specs.Entries.{entries_items, entry_items, items_each, line_of, micro_line}
@@ -35,7 +39,7 @@ use Rattle.vote_text.specs.Texts.{authority_items, delays_text, flag_items, kind
 use Rattle.vote_text.specs.Texts.{source_text, time_items}
 use Rattle.vote_maker.specs.Listings.{judged_relays}
 use Rattle.vote_maker.specs.Made.{Basis, relays_in}
-use Rattle.maker_laws.specs.Given.{IsBasis, IsDescriptor}
+use Rattle.maker_laws.specs.Given.{IsBasis, IsDescriptor, StationsReadAreStations}
 use Rattle.maker_laws.specs.ReadAsMade.{MadeAreInRange, MadeVotesReadAsMade, signed_facts}
 use Rattle.maker_laws.proofs.EntryRanges.{judged_ranged}
 use Rattle.maker_laws.proofs.MadeFacts.{made_ranged}
@@ -47,7 +51,34 @@ use Rattle.maker_laws.proofs.ShortPreamble.{before_short}
 
 station_ranged : (its : Basis) → IsBasis its → IsStationInRange its.station
 station_ranged its basis =
-    let read = basis.station in station_in_range read.input its.station read.used read.bytes read.read
+    let is = basis.station in
+    let read = station_in_range is.input is.given is.used is.bytes is.read in
+    let told : IsStationInRange (record is.given { measured = its.station.measured }) = record {
+      nickname = read.nickname;
+      identity = read.identity;
+      address = read.address;
+      ip = read.ip;
+      dir_port = read.dir_port;
+      or_port = read.or_port;
+      contact = read.contact;
+      lists = read.lists;
+      measured = is.measured;
+      certificate = read.certificate;
+      keys = read.keys;
+    } in
+    subst IsStationInRange (sym is.same) told
+
+-- what was read is such
+pub stations_read : StationsReadAreStations
+stations_read input station used bytes read = record {
+  input = input;
+  bytes = bytes;
+  given = station;
+  used = used;
+  read = read;
+  same = refl;
+  measured = (station_in_range input station used bytes read).measured;
+}
 
 descriptor_ranged : DescriptorsReadAreInRange → (d : Descriptor) → IsDescriptor d → IsDescriptorInRange d
 descriptor_ranged law d is = law is.input d is.used is.bytes is.read
@@ -145,18 +176,26 @@ before_none facts =
 made_lines : (its : Basis) (rulings : List Ruling) (signature : List ℕ) → IsBasis its
     → HasShortLines (signed_facts its rulings signature)
 made_lines its rulings signature basis =
-    let read = basis.station in
-    given_short read.input its.station read.used (signed_facts its rulings signature) read.read
+    let is = basis.station in
+    given_short is.input is.given is.used (signed_facts its rulings signature) is.read
     (record {
-      nickname = refl;
-      identity = refl;
-      address = refl;
-      ip = refl;
-      dir_port = refl;
-      or_port = refl;
-      contact = refl;
-      lists = refl;
+      nickname = ap (λ (station : StationFacts). station.nickname) is.same;
+      identity = ap (λ (station : StationFacts). station.identity) is.same;
+      address = ap (λ (station : StationFacts). station.address) is.same;
+      ip = ap (λ (station : StationFacts). station.ip) is.same;
+      dir_port = ap (λ (station : StationFacts). station.dir_port) is.same;
+      or_port = ap (λ (station : StationFacts). station.or_port) is.same;
+      contact = ap (λ (station : StationFacts). station.contact) is.same;
+      lists = ap (λ (station : StationFacts). station.lists) is.same;
     })
+
+-- the bytes of its certificate may stand in a vote
+certificate_given : (its : Basis) → IsBasis its
+    → IsGiven vote_tables section.Certificate its.station.certificate_bytes its.station.certificate
+certificate_given its basis =
+    let is = basis.station in
+    subst (λ (station : StationFacts). IsGiven vote_tables section.Certificate station.certificate_bytes station.certificate)
+    (sym is.same) (certificates_are_given is.input is.given is.used is.read)
 
 pub read_as_made : DescriptorsReadAreInRange → MadeVotesReadAsMade
 read_as_made law front its rulings signature rest few basis signing fits =
@@ -169,9 +208,7 @@ read_as_made law front its rulings signature rest few basis signing fits =
     let judged =
     judged_ranged its.station.measured its.descriptors rulings
     (flags_of its.moment ruled) station.measured descriptors in
-    let read = basis.station in
-    let given = certificates_are_given read.input its.station read.used read.read in
-    made_again front facts its.station.certificate_bytes rest few given
+    made_again front facts its.station.certificate_bytes rest few (certificate_given its basis)
     (made_in_range facts its.station.certificate_bytes signing.short may fits
     (before_short its rulings signature may.values (made_lines its rulings signature basis)) (made_short relays judged)
     (before_none facts) (entries_none facts.entries).each)

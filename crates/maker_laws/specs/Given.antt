@@ -6,17 +6,27 @@ use Rattle.descriptor_doc.specs.Reading.{descriptor_of}
 use Rattle.descriptor_doc.specs.declared.descriptor.Descriptor.{Descriptor}
 use Rattle.station_input.specs.Reading.{station_of}
 use Rattle.station_input.specs.declared.facts.StationFacts.{StationFacts}
+use Rattle.station_ranges.specs.Ranges.{IsMeasuredInRange}
 use Rattle.vote_pool.specs.Pools.{DescriptorsAscend, most_relays}
 use Rattle.vote_schedule.specs.Moments.{valid_until}
 use Rattle.vote_schedule.specs.Schedules.{IsSchedule}
 use Rattle.vote_maker.specs.Made.{Basis, schedule_in}
 
--- What a station is given was read of an input.
+-- What a station is given was read of an input, but for what was measured of relays, which a bandwidth file may tell in
+-- its place and which is in range.
 pub record IsStation (station : StationFacts) : Type 0 where
   pub input : List ℕ
   pub bytes : IsBytes input
+  pub given : StationFacts
   pub used : ℕ
-  pub read : station_of input ≡ Ok (station, used)
+  pub read : station_of input ≡ Ok (given, used)
+  pub same : station ≡ record given { measured = station.measured }
+  pub measured : All IsMeasuredInRange station.measured
+
+-- What was read is such.
+abbrev pub StationsReadAreStations : Type 0
+StationsReadAreStations = (input : List ℕ) (station : StationFacts) (used : ℕ) → IsBytes input
+    → station_of input ≡ Ok (station, used) → IsStation station
 
 -- What a descriptor says was read of an input, which it begins.
 pub record IsDescriptor (d : Descriptor) : Type 0 where
@@ -25,9 +35,8 @@ pub record IsDescriptor (d : Descriptor) : Type 0 where
   pub used : ℕ
   pub read : descriptor_of input ≡ Ok (d, used)
 
--- The station is one that was read and has a schedule; the descriptors are those of a pool, each of which was read;
--- the
--- moment of the vote, and that until which the consensus is to be valid, are moments.
+-- The station is such a one and has a schedule; the descriptors are those of a pool, each of which was read; the moment
+-- of the vote, and that until which the consensus is to be valid, are moments.
 pub record IsBasis (its : Basis) : Type 0 where
   pub station : IsStation its.station
   pub schedule : IsSchedule (schedule_in its.station)

@@ -1,3 +1,4 @@
 pub mod Given
 pub mod ReadAsMade
 pub mod Rulings
+pub mod FileVotes

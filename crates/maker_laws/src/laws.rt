@@ -1,6 +1,12 @@
 // What holds of votes that are made.
+ghost use Rattle.maker_laws.specs.Given.{StationsReadAreStations};
 ghost use Rattle.maker_laws.specs.ReadAsMade.{MadeAreInRange, MadeVotesReadAsMade};
 ghost use Rattle.maker_laws.specs.Rulings.{OperatorsMakeOneVote, RejectedRelaysHaveNoEntry};
+
+/// A law: what is read of a station input is what a station of a vote may be given.
+pub fn stations_read_are_stations()
+    ensures { StationsReadAreStations }
+{}
 
 /// A law: what is made of what was read says what can be read, and each of its items may be written, but for the limits.
 pub fn made_are_in_range()

@@ -2,9 +2,11 @@
 //! its own, so that a law more proves nothing else again.
 #![tactic(auto)]
 
+mod file_laws;
 mod laws;
 
+pub use file_laws::{file_votes_read_as_made, told_stations_are_stations};
 pub use laws::{
     made_are_in_range, made_votes_read_as_made, operators_make_one_vote,
-    rejected_relays_have_no_entry,
+    rejected_relays_have_no_entry, stations_read_are_stations,
 };

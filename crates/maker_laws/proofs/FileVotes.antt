@@ -1,0 +1,40 @@
+-- A vote that is made with a bandwidth file is read as what it was made to say.
+use Rattle.std.proofs.Common.{◌∙◌, List, sym, ap, subst}
+use Rattle.std.specs.Prelude.{All}
+use Rattle.descriptor_ranges.specs.Ranges.{DescriptorsReadAreInRange}
+use Rattle.station_frame.specs.declared.said.MeasuredRelay.{MeasuredRelay}
+use Rattle.station_input.specs.declared.facts.StationFacts.{StationFacts}
+use Rattle.station_ranges.specs.Ranges.{IsMeasuredInRange}
+use Rattle.maker_laws.proofs.MadeRead.{read_as_made}
+use Rattle.maker_laws.specs.FileVotes.{FileVotesReadAsMade, ToldStationsAreStations}
+use Rattle.maker_laws.proofs.ToldRanges.{told_are}
+
+pub told_stations : ToldStationsAreStations
+told_stations station is = record {
+  input = is.input;
+  bytes = is.bytes;
+  given = is.given;
+  used = is.used;
+  read = is.read;
+  same =
+      is.told
+      ∙ ap (λ (measured : List MeasuredRelay). record is.given { measured = measured })
+      (sym (ap (λ (told : StationFacts). told.measured) is.told));
+  measured =
+      subst (λ (told : StationFacts). All IsMeasuredInRange told.measured) (sym is.told)
+      (told_are is.content is.file is.is_file is.given.measured);
+}
+
+pub read_with_file : DescriptorsReadAreInRange → FileVotesReadAsMade
+read_with_file law front its rulings signature rest few basis signing fits =
+    read_as_made law front its rulings signature rest few
+    (record {
+      station = told_stations its.station basis.station;
+      schedule = basis.schedule;
+      until = basis.until;
+      moment = basis.moment;
+      ascend = basis.ascend;
+      few = basis.few;
+      descriptors = basis.descriptors;
+    })
+    signing fits
