@@ -1,0 +1,4 @@
+pub mod Beginning
+pub mod Leading
+pub mod Reaching
+pub mod Taking

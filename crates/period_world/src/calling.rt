@@ -1,0 +1,32 @@
+// A call at one of several authorities.
+ghost use Rattle.std.specs.Prelude.{◌≡◌, IfOk, OnErr};
+ghost use Rattle.key_port.specs.Answers.{rules};
+ghost use Rattle.period_world.specs.WorldCalls.{LeadsOn};
+
+use dir_bytes::Memory;
+use key_port::{Signer, Verifier};
+use period_calls::{Coming, take};
+use period_core::Station;
+use period_terms::Answer;
+use signature_terms::CheckedSig;
+use std::alloc::Global;
+use vote_doc::CheckedVote;
+
+/// Takes what comes to one of several authorities, as `take` does: a world with this station goes on by this call,
+/// where a signature comes only after its authority signed.
+///
+/// # Errors
+/// `Memory` is want of memory; all is then as it was.
+pub fn take_among<N: Signer, V: Verifier>(
+    alloc: Global,
+    station: &mut Station<V>,
+    coming: Coming<CheckedVote<V>, CheckedSig<V>>,
+    signer: &mut N,
+    verifier: &mut V,
+) -> Result<Answer, Memory>
+    ensures leads { IfOk result (λ answer. LeadsOn N.may_give (rules V.may_accept V.may_refuse)
+        station.old coming answer station.new) }
+    ensures err { OnErr result (station.new ≡ station.old) }
+{
+    take(alloc, station, coming, signer, verifier)
+}
