@@ -1,0 +1,222 @@
+-- What a feeder knows of the bytes that it takes.
+use Rattle.std.proofs.Common.{◌≡◌, ◌∙◌, ℕ, ◌+◌, ◌-◌, ◌≤◌, ◌⊎◌, List, [], ◌++◌, length, take, drop}
+use Rattle.std.proofs.Common.{Option, Some, None, Ok, Err, refl, sym, ap, subst, inl, inr, arith}
+use Rattle.std.specs.Prelude.{min, option_to_list}
+use Rattle.std.specs.List.{fold}
+use Rattle.std.proofs.lemmas.List.{append-nil, length-append, length-take, take_all, take-append-drop, take-append-le}
+use Rattle.std.proofs.lemmas.List.Sums.{fold-append}
+use Rattle.dirdoc_grammar.specs.declared.cursor.Cursor.{Cursor}
+use Rattle.item_feeder.specs.Feeders.{KeepsWithin}
+use Rattle.frame_terms.specs.declared.document.Open.{Open}
+use Rattle.frame_values.specs.declared.values.Value.{Value}
+use Rattle.vote_frame.specs.declared.across.Across.{Across}
+use Rattle.vote_frame.specs.declared.frame.VoteSection.{VoteSection}
+use Rattle.vote_frame.specs.declared.frame.VoteValue.{VoteValue}
+use Rattle.vote_doc.specs.Reading.{max_vote}
+use Rattle.vote_feed.specs.declared.blanks.Blank.{Blank}
+use Rattle.vote_feed.specs.declared.blanks.Blank.TheVariants.{Lines}
+use Rattle.vote_feed.specs.declared.fed.Fed.{Fed}
+use Rattle.vote_feed.specs.declared.fed.Fed.TheVariants as fed
+use Rattle.vote_feed.specs.declared.feeder.State.{State}
+use Rattle.vote_feed.specs.declared.feeder.State.TheVariants as state
+use Rattle.vote_feed.specs.Blanks.{blank_with}
+use Rattle.vote_feed.specs.Feeding.{Feeds, IsFaulty, IsOpen, IsWhole}
+use Rattle.vote_feed.specs.Lending.{IsKnown, Keeps, Knows, TakesIn, VoteWaits, count_of, state_of, taken_of}
+use Rattle.vote_feed.proofs.Votes.{is_open, not_both, nothing_known}
+
+abbrev Begun : Type 0
+Begun = Open VoteSection (Value VoteValue)
+
+-- ---- before a piece
+
+-- no byte stands beside the others where the vote is not known
+pub none_beside : (now : State) (bytes : List ℕ) (beside : Option ℕ) (cursor : Cursor) (across : Across) (open_ : Begun)
+    → Knows now bytes beside cursor across open_ → IsOpen (taken_of bytes beside) → beside ≡ None
+none_beside state.Going bytes beside cursor across open_ knows unknown = knows.0
+none_beside state.Anew bytes beside cursor across open_ knows unknown = knows.0
+none_beside state.Whole bytes beside cursor across open_ knows unknown = absurd (unknown (Ok _) knows)
+none_beside state.Fault bytes beside cursor across open_ knows unknown = absurd (unknown (Err _) knows.refused)
+
+pub all_kept : (bytes : List ℕ) (beside : Option ℕ) → beside ≡ None → taken_of bytes beside ≡ bytes
+all_kept bytes beside none = ap (λ (b : Option ℕ). taken_of bytes b) none ∙ append-nil bytes
+
+-- where the bytes are read, so much is known of them
+pub waits_there : (now : State) (bytes : List ℕ) (beside : Option ℕ) (cursor : Cursor) (across : Across) (open_ : Begun)
+    → Knows now bytes beside cursor across open_ → now ≡ state.Going → VoteWaits bytes cursor across open_
+waits_there now bytes beside cursor across open_ knows going =
+    (subst (λ (s : State). Knows s bytes beside cursor across open_) going knows).1
+
+pub kept_within : (bytes : List ℕ) (beside : Option ℕ) → KeepsWithin max_vote bytes beside → length bytes ≤ max_vote
+kept_within bytes None h = h
+kept_within bytes (Some b) h = omega (arith, h)
+
+-- how many are kept
+pub held_is : (bytes : List ℕ) (beside : Option ℕ) → KeepsWithin max_vote bytes beside
+    → length bytes ≡ min (length (taken_of bytes beside)) max_vote
+held_is bytes None h = omega (arith, h, length-append bytes [])
+held_is bytes (Some b) h = omega (arith, h, length-append bytes (option_to_list (Some b)))
+
+-- what is known already
+pub known_by : (now : State) (bytes : List ℕ) (beside : Option ℕ) (cursor : Cursor) (across : Across) (open_ : Begun)
+    → Knows now bytes beside cursor across open_ → (now ≡ state.Going) ⊎ (now ≡ state.Anew)
+    → IsOpen (taken_of bytes beside)
+known_by now bytes beside cursor across open_ knows (inl going) =
+    let there = subst (λ (s : State). Knows s bytes beside cursor across open_) going knows in
+    subst (λ (l : List ℕ). IsOpen l) (sym (all_kept bytes beside there.0)) (is_open bytes cursor across open_ there.1)
+known_by now bytes beside cursor across open_ knows (inr anew) =
+    (subst (λ (s : State). Knows s bytes beside cursor across open_) anew knows).1
+
+-- where a piece was not taken, the bytes are to be read anew
+pub kept_anew : (now : State) (bytes same : List ℕ) (beside : Option ℕ) (blank : Blank) (old new : Cursor)
+    (x0 x1 : Across) (o0 o1 : Begun) → Keeps bytes beside blank now old x0 o0 → IsOpen (taken_of bytes beside)
+    → same ≡ bytes → Keeps same beside blank state.Anew new x1 o1
+kept_anew now bytes same beside blank old new x0 x1 o0 o1 keeps unknown is =
+    subst (λ (l : List ℕ). Keeps l beside blank state.Anew new x1 o1) (sym is)
+    (record {
+      within = keeps.within;
+      blanks = keeps.blanks;
+      knows = (none_beside now bytes beside old x0 o0 keeps.knows unknown, unknown);
+    })
+
+-- where nothing was taken
+pub nothing_kept : (bytes : List ℕ) (cursor : Cursor) (across : Across) (open_ : Begun) → bytes ≡ []
+    → Keeps bytes None Lines state.Anew cursor across open_
+nothing_kept bytes cursor across open_ is =
+    subst (λ (l : List ℕ). Keeps l None Lines state.Anew cursor across open_) (sym is)
+    (record { within = omega arith; blanks = refl; knows = (refl, nothing_known) })
+
+-- ---- behind a piece
+
+-- what is known then
+pub knows_then : (given : Fed) (old part all bytes : List ℕ) (beside : Option ℕ) (cursor : Cursor) (across : Across)
+    (open_ : Begun) → TakesIn old part all cursor across open_ given → taken_of bytes beside ≡ all
+    → (length all ≤ max_vote → beside ≡ None) → Knows (state_of given) bytes beside cursor across open_
+knows_then fed.All old part all bytes beside cursor across open_ takes same few =
+    let none = few takes.2 in
+    (none, subst (λ (l : List ℕ). VoteWaits l cursor across open_) (sym same ∙ all_kept bytes beside none) takes.1)
+knows_then (fed.Whole taken) old part all bytes beside cursor across open_ takes same few =
+    subst IsWhole (sym same) takes.2
+knows_then (fed.Fault taken) old part all bytes beside cursor across open_ takes same few =
+    subst IsFaulty (sym same) takes.2
+
+pub counted : (given : Fed) (old part all : List ℕ) (cursor : Cursor) (across : Across) (open_ : Begun)
+    → TakesIn old part all cursor across open_ given → count_of (length part) given ≤ length part
+counted fed.All old part all cursor across open_ takes = omega arith
+counted (fed.Whole taken) old part all cursor across open_ takes = takes.0
+counted (fed.Fault taken) old part all cursor across open_ takes = takes.0
+
+all_then : (given : Fed) (old part all : List ℕ) (cursor : Cursor) (across : Across) (open_ : Begun)
+    → TakesIn old part all cursor across open_ given → all ≡ old ++ take (count_of (length part) given) part
+all_then fed.All old part all cursor across open_ takes =
+    takes.0 ∙ ap (λ (l : List ℕ). old ++ l) (sym (take_all (length part) part (omega arith)))
+all_then (fed.Whole taken) old part all cursor across open_ takes = takes.1
+all_then (fed.Fault taken) old part all cursor across open_ takes = takes.1
+
+pub few_then : (given : Fed) (old part all : List ℕ) (cursor : Cursor) (across : Across) (open_ : Begun)
+    → TakesIn old part all cursor across open_ given → length old + length part ≤ max_vote + 1
+    → length all ≤ max_vote + 1
+few_then given old part all cursor across open_ takes fits =
+    let e = ap length (all_then given old part all cursor across open_ takes) in
+    omega (
+      arith,
+      fits,
+      e,
+      length-append old (take (count_of (length part) given) part),
+      length-take (count_of (length part) given) part,
+    )
+
+-- which blank lines they are
+pub blanks_then : (given : Fed) (old part all : List ℕ) (before now : Blank) (cursor : Cursor) (across : Across)
+    (open_ : Begun) → TakesIn old part all cursor across open_ given → before ≡ fold blank_with Lines old
+    → now ≡ fold blank_with before (take (count_of (length part) given) part) → now ≡ fold blank_with Lines all
+blanks_then given old part all before now cursor across open_ takes was is =
+    is ∙ ap (λ (b : Blank). fold blank_with b (take (count_of (length part) given) part)) was
+    ∙ sym (fold-append blank_with Lines old (take (count_of (length part) given) part))
+    ∙ ap (λ (l : List ℕ). fold blank_with Lines l) (sym (all_then given old part all cursor across open_ takes))
+
+-- so much of the piece was taken
+front_of : (taken room : ℕ) (piece : List ℕ) → taken ≤ length (take room piece)
+    → (taken ≤ length piece) × (take taken (take room piece) ≡ take taken piece)
+front_of taken room piece le =
+    let fits : taken ≤ min room (length piece) = omega (arith, le, length-take room piece) in (
+      omega (arith, fits),
+      sym (take-append-le taken (take room piece) (drop room piece) le)
+          ∙ ap (λ (l : List ℕ). take taken l) (take-append-drop room piece),
+    )
+
+-- where no byte is too many, it was all of it
+all_of_it : (limit room : ℕ) (old piece all : List ℕ) → room ≡ limit + 1 - length old → all ≡ old ++ take room piece
+    → length all ≤ limit → length old ≤ limit → length piece ≤ room
+all_of_it limit room old piece all room_is all_is short fits =
+    let e = ap length all_is in
+    omega (arith, room_is, e, short, fits, length-append old (take room piece), length-take room piece)
+
+pub feeds_then : (given : Fed) (old piece all : List ℕ) (cursor : Cursor) (across : Across) (open_ : Begun)
+    → TakesIn old (take (max_vote + 1 - length old) piece) all cursor across open_ given → length old ≤ max_vote
+    → Feeds old piece all given
+feeds_then fed.All old piece all cursor across open_ takes fits =
+    let short = takes.2 in
+    let le = all_of_it max_vote (max_vote + 1 - length old) old piece all refl takes.0 short fits in (
+      takes.0 ∙ ap (λ (l : List ℕ). old ++ l) (take_all (max_vote + 1 - length old) piece le),
+      is_open all cursor across open_ takes.1,
+    )
+feeds_then (fed.Whole taken) old piece all cursor across open_ takes fits =
+    let front = front_of taken (max_vote + 1 - length old) piece takes.0 in
+    (front.0, takes.1 ∙ ap (λ (l : List ℕ). old ++ l) front.1, takes.2)
+feeds_then (fed.Fault taken) old piece all cursor across open_ takes fits =
+    let front = front_of taken (max_vote + 1 - length old) piece takes.0 in
+    (front.0, takes.1 ∙ ap (λ (l : List ℕ). old ++ l) front.1, takes.2)
+
+pub feeds_view : (given : Fed) (old was piece part all now : List ℕ) (cursor : Cursor) (across : Across)
+    (open_ : Begun) → TakesIn old part all cursor across open_ given → part ≡ take (max_vote + 1 - length old) piece
+    → length old ≤ max_vote → old ≡ was → all ≡ now → Feeds was piece now given
+feeds_view given old was piece part all now cursor across open_ takes part_is fits old_is all_is =
+    subst (λ (l : List ℕ). Feeds l piece now given) old_is
+    (subst (λ (l : List ℕ). Feeds old piece l given) all_is
+    (feeds_then given old piece all cursor across open_
+    (subst (λ (l : List ℕ). TakesIn old l all cursor across open_ given) part_is takes) fits))
+
+-- what is kept then
+pub kept_then : (given : Fed) (old part all bytes : List ℕ) (beside : Option ℕ) (before blank : Blank) (now : State)
+    (cursor : Cursor) (across : Across) (open_ : Begun) → TakesIn old part all cursor across open_ given
+    → taken_of bytes beside ≡ all → KeepsWithin max_vote bytes beside → (length all ≤ max_vote → beside ≡ None)
+    → before ≡ fold blank_with Lines old
+    → blank ≡ fold blank_with before (take (count_of (length part) given) part) → now ≡ state_of given
+    → Keeps bytes beside blank now cursor across open_
+kept_then given old part all bytes beside before blank now cursor across open_ takes same within few was is now_is =
+    record {
+      within = within;
+      blanks =
+          blanks_then given old part all before blank cursor across open_ takes was is
+          ∙ ap (λ (l : List ℕ). fold blank_with Lines l) (sym same);
+      knows =
+          subst (λ (s : State). Knows s bytes beside cursor across open_) (sym now_is)
+          (knows_then given old part all bytes beside cursor across open_ takes same few);
+    }
+
+-- ---- what is told again
+
+pub tells : (given : Fed) (bytes piece : List ℕ) → IsKnown bytes (Some given) → Feeds bytes piece bytes given
+tells fed.All bytes piece known = absurd known
+tells (fed.Whole taken) bytes piece known =
+    let zero_ = known.0 in (
+      omega (arith, zero_),
+      sym (append-nil bytes) ∙ ap (λ (n : ℕ). bytes ++ take n piece) (sym zero_),
+      known.1,
+    )
+tells (fed.Fault taken) bytes piece known =
+    let zero_ = known.0 in (
+      omega (arith, zero_),
+      sym (append-nil bytes) ∙ ap (λ (n : ℕ). bytes ++ take n piece) (sym zero_),
+      known.1,
+    )
+
+pub tells_whole : (given : Fed) (bytes : List ℕ) → IsKnown bytes (Some given) → IsWhole bytes → given ≡ fed.Whole 0
+tells_whole fed.All bytes known whole = absurd known
+tells_whole (fed.Whole taken) bytes known whole = ap (λ (n : ℕ). fed.Whole n) known.0
+tells_whole (fed.Fault taken) bytes known whole = absurd (not_both bytes whole known.1)
+
+pub tells_faulty : (given : Fed) (bytes : List ℕ) → IsKnown bytes (Some given) → IsFaulty bytes → given ≡ fed.Fault 0
+tells_faulty fed.All bytes known faulty = absurd known
+tells_faulty (fed.Whole taken) bytes known faulty = absurd (not_both bytes known.1 faulty)
+tells_faulty (fed.Fault taken) bytes known faulty = ap (λ (n : ℕ). fed.Fault n) known.0

@@ -1,0 +1,8 @@
+pub mod Going
+pub mod LastItem
+pub mod Opening
+pub mod NoDocs
+pub mod VoteEnds
+pub mod Votes
+pub mod Feeding
+pub mod BlankLines

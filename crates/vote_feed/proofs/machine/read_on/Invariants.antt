@@ -1,0 +1,13 @@
+use Rattle.std.proofs.Common.{◌-◌, length}
+use Rattle.vote_feed.specs.Lending.{VoteSoFar}
+use Rattle.vote_feed.proofs.Going.{Late}
+use Rattle.vote_feed.proofs.machine.read_on.Given as goal
+
+abbrev pub invariant-items : goal.invariant-items
+invariant-items l = record {
+  so_far : VoteSoFar l.bytes l.machine.cursor l.machine.reader.across l.machine.reader.state;
+  late : Late l.known l.bytes l.machine.cursor;
+}
+
+abbrev pub decreases-items : goal.decreases-items
+decreases-items l = length l.bytes - l.machine.cursor.place

@@ -1,0 +1,4 @@
+pub mod Feeding
+pub mod SoFar
+pub mod Blanks
+pub mod Lending
