@@ -1,0 +1,53 @@
+-- Whatever is found, the pass has gone on.
+use Rattle.std.proofs.Common.{◌≡◌, ℕ, List, Option, Some, None, Result, Ok, Err, sym, subst, drop}
+use Rattle.dir_bytes.specs.declared.fault.Memory.{Memory}
+use Rattle.period_terms.specs.declared.state.State.{State}
+use Rattle.vote_pool.specs.Pools.{Pooled}
+use Rattle.http_words.specs.DigestLists.{digest_list}
+use Rattle.http_words.specs.declared.asked.Asked.{Asked}
+use Rattle.http_words.specs.declared.asked.Asked.TheVariants as asked
+use Rattle.board_terms.specs.Boards.{Locks, Parts}
+use Rattle.board_laws.specs.Going.{Goes}
+use Rattle.board_laws.proofs.Going.{goes_same, goes_sees, goes_looks}
+use Rattle.serve_answers.specs.Finding.{Reads, Finds, FindsNothing, FindsMicros, FindsAsked}
+
+module _ (board : Locks) (before then : Parts) where
+  reads_goes : (document : State → Option (List ℕ)) (result : Result (Option (List ℕ)) Memory)
+      → Reads board before then document result → Goes before then
+  reads_goes document (Ok found) sees = goes_sees board before then (λ state answer. answer ≡ document state) found sees
+  reads_goes document (Err fault) nothing = nothing.goes
+
+  finds_goes : (document : Pooled → Option (List ℕ)) (result : Result (Option (List ℕ)) Memory)
+      → Finds board before then document result → Goes before then
+  finds_goes document (Ok found) looks =
+      goes_looks board before then (λ pool answer. answer ≡ document pool) found looks
+  finds_goes document (Err fault) nothing = nothing.goes
+
+  nothing_goes : (result : Result (Option (List ℕ)) Memory) → FindsNothing board before then result → Goes before then
+  nothing_goes (Ok found) same = subst (Goes before) (sym same.1) (goes_same before)
+  nothing_goes (Err fault) nothing = nothing.goes
+
+  micros_goes : (digests : Option (List (List ℕ))) (result : Result (Option (List ℕ)) Memory)
+      → FindsMicros board before then digests result → Goes before then
+  micros_goes None result found = nothing_goes result found
+  micros_goes (Some digests) result found = finds_goes _ result found
+
+  -- whatever is asked for, the pass has gone on
+  pub asked_goes : (what : Asked) (path : List ℕ) (result : Result (Option (List ℕ)) Memory)
+      → FindsAsked board before then what path result → Goes before then
+  asked_goes asked.PostVote path result found = nothing_goes result found
+  asked_goes asked.PostSignatures path result found = nothing_goes result found
+  asked_goes asked.PostDescriptor path result found = nothing_goes result found
+  asked_goes asked.OwnVote path result found = reads_goes _ result found
+  asked_goes (asked.VoteOf authority) path result found = reads_goes _ result found
+  asked_goes (asked.VoteByDigest digest) path result found = reads_goes _ result found
+  asked_goes (asked.Next form) path result found = reads_goes _ result found
+  asked_goes asked.NextSignatures path result found = reads_goes _ result found
+  asked_goes (asked.Current form) path result found = reads_goes _ result found
+  asked_goes asked.AllKeys path result found = reads_goes _ result found
+  asked_goes (asked.KeysOf authority) path result found = reads_goes _ result found
+  asked_goes asked.AllDescriptors path result found = finds_goes _ result found
+  asked_goes (asked.DescriptorOf relay) path result found = finds_goes _ result found
+  asked_goes (asked.Micros place) path result found = micros_goes (digest_list (drop place path)) result found
+  asked_goes asked.Unknown path result found = nothing_goes result found
+  asked_goes asked.NotAllowed path result found = nothing_goes result found

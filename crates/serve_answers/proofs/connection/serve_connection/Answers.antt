@@ -1,0 +1,29 @@
+use Rattle.std.proofs.Common.{Err, refl, sym, ◌∙◌}
+use Rattle.key_port.specs.Answers.{Rules, rules}
+use Rattle.serve_answers.specs.declared.outcome.Outcome.TheVariants.{Replied}
+use Rattle.serve_answers.specs.Handling.{Counted, Does}
+use Rattle.serve_answers.proofs.Telling.{served}
+use Rattle.serve_answers.proofs.connection.serve_connection.Goals as goal
+
+pub returns-in-Some-clause-serves : goal.returns-in-Some-clause-serves
+returns-in-Some-clause-serves g c =
+    let rules : Rules = rules g.V.Verifier.may_accept g.V.Verifier.may_refuse in
+    let counted : Counted = record {
+      asks = g.C.Clock.asks c.args.clock.now;
+      asks_then = g.C.Clock.asks c.args.clock.now;
+      last = g.C.Clock.last c.args.clock.now;
+      faults = g.V.Verifier.faults c.args.verifier.now;
+      faults_then = g.V.Verifier.faults c.args.verifier.now;
+    } in
+    let pass = c.args.pass.now in
+    served (g.K.Sink.written c.args.out.now) (g.K.Sink.written c.tell-in-Some.new.sink) (g.K.Sink.faults c.args.out.now)
+    (g.K.Sink.faults c.tell-in-Some.new.sink) (Replied c.in-Some.reply)
+    (Does rules g.V.Verifier.steps c.args.board.now pass pass counted c.args.verifier.now c.args.verifier.now
+    (g.W.Rules.allows c.args.hook.now.rules)) pass pass (g.S.Source.left c.args.conn.now)
+    (g.S.Source.faults c.args.conn.now) (g.S.Source.faults c.read_request.new.source) c.tell-in-Some.result
+    (record {
+      read = Err c.in-Err.fault;
+      reads = c.in-Err.ensures.answer;
+      does = (c.in-Some.reply, refl, sym c.reply_to.ensures ∙ c.in-Some.is, refl);
+    })
+    c.tell-in-Some.ensures.tells

@@ -1,0 +1,78 @@
+-- What is found of what is asked for.
+use Rattle.std.specs.Prelude.{◌≡◌, ℕ, List, drop, Option, Some, None, Result, Ok, Err}
+use Rattle.dir_bytes.specs.declared.fault.Memory.{Memory}
+use Rattle.consensus_terms.specs.declared.flavour.Flavour.{Flavour}
+use Rattle.consensus_terms.specs.declared.flavour.Flavour.TheVariants as flavour
+use Rattle.http_words.specs.DigestLists.{digest_list}
+use Rattle.http_words.specs.declared.asked.Asked.{Asked}
+use Rattle.http_words.specs.declared.asked.Asked.TheVariants as asked
+use Rattle.http_words.specs.declared.asked.Form.{Form}
+use Rattle.http_words.specs.declared.asked.Form.TheVariants as form
+use Rattle.vote_terms.specs.Held.{vote_of}
+use Rattle.vote_pool.specs.Pools.{Pooled, descriptor_for}
+use Rattle.period_terms.specs.declared.name.Name.TheVariants as names
+use Rattle.period_terms.specs.declared.state.State.{State}
+use Rattle.period_terms.specs.Readings.{document_of, next_consensus_of}
+use Rattle.signature_document.specs.Next.{next_signatures_of}
+use Rattle.board_terms.specs.Boards.{Locks, Parts, Sees, Looks}
+use Rattle.board_laws.specs.Going.{Goes}
+use Rattle.serve_answers.specs.Documents.{unless_empty, certificates_of, certificate_if, descriptors_of}
+use Rattle.serve_answers.specs.Documents.{descriptor_if, micros_with}
+
+-- the flavour of a consensus
+abbrev pub flavour_of : Form → Flavour
+flavour_of form.Ns = flavour.Ns
+flavour_of form.Microdesc = flavour.Microdesc
+
+-- The pass has gone on, and has added nothing.
+pub record AddsNothing (before then : Parts) : Type 0 where
+  pub goes : Goes before then
+  pub station : then.station.mine ≡ before.station.mine
+  pub pool : then.pool.mine ≡ before.pool.mine
+
+module _ (board : Locks) (before then : Parts) where
+  -- what is read of the station after one list, or there was no memory
+  abbrev pub Reads : (State → Option (List ℕ)) → Result (Option (List ℕ)) Memory → Type 0
+  Reads document (Ok found) = Sees board before then (λ state answer. answer ≡ document state) found
+  Reads document (Err fault) = AddsNothing before then
+
+  -- what is read of the pool after one list, or there was no memory
+  abbrev pub Finds : (Pooled → Option (List ℕ)) → Result (Option (List ℕ)) Memory → Type 0
+  Finds document (Ok found) = Looks board before then (λ pool answer. answer ≡ document pool) found
+  Finds document (Err fault) = AddsNothing before then
+
+  -- nothing is asked for that there is
+  abbrev pub FindsNothing : Result (Option (List ℕ)) Memory → Type 0
+  FindsNothing (Ok found) = (found ≡ None) × (then ≡ before)
+  FindsNothing (Err fault) = AddsNothing before then
+
+  -- the microdescriptors of a list of digests, if it is one
+  abbrev pub FindsMicros : Option (List (List ℕ)) → Result (Option (List ℕ)) Memory → Type 0
+  FindsMicros None result = FindsNothing result
+  FindsMicros (Some digests) result = Finds (λ pool. unless_empty (micros_with pool.descriptors digests)) result
+
+  -- What is found of what is asked for by a path: the document of the station or of the pool after one list, by one
+  -- reading; nothing where none is asked for.
+  abbrev pub FindsAsked : Asked → List ℕ → Result (Option (List ℕ)) Memory → Type 0
+  FindsAsked asked.PostVote path result = FindsNothing result
+  FindsAsked asked.PostSignatures path result = FindsNothing result
+  FindsAsked asked.PostDescriptor path result = FindsNothing result
+  FindsAsked asked.OwnVote path result =
+      Reads (λ state. document_of state (names.Vote board.station.start.own)) result
+  FindsAsked (asked.VoteOf authority) path result =
+      Reads (λ state. document_of state (names.Vote record { 0 = authority })) result
+  FindsAsked (asked.VoteByDigest digest) path result =
+      Reads (λ state. document_of state (names.VoteByDigest record { 0 = digest })) result
+  FindsAsked (asked.Next form) path result = Reads (λ state. next_consensus_of (flavour_of form) state) result
+  FindsAsked asked.NextSignatures path result = Reads (λ state. next_signatures_of state) result
+  FindsAsked (asked.Current form) path result =
+      Reads (λ state. document_of state (names.Current (flavour_of form))) result
+  FindsAsked asked.AllKeys path result = Reads (λ state. unless_empty (certificates_of state.votes)) result
+  FindsAsked (asked.KeysOf authority) path result =
+      Reads (λ state. unless_empty (certificate_if (vote_of state.votes record { 0 = authority }))) result
+  FindsAsked asked.AllDescriptors path result = Finds (λ pool. unless_empty (descriptors_of pool.descriptors)) result
+  FindsAsked (asked.DescriptorOf relay) path result =
+      Finds (λ pool. unless_empty (descriptor_if (descriptor_for pool.descriptors record { 0 = relay }))) result
+  FindsAsked (asked.Micros place) path result = FindsMicros (digest_list (drop place path)) result
+  FindsAsked asked.Unknown path result = FindsNothing result
+  FindsAsked asked.NotAllowed path result = FindsNothing result

@@ -1,0 +1,9 @@
+pub mod Documents
+pub mod Places
+pub mod Finding
+pub mod Outcomes
+pub mod Words
+pub mod Uploads
+pub mod Answers
+pub mod Handling
+pub mod Connections

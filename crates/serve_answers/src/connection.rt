@@ -1,0 +1,177 @@
+// One connection: its request is read, what it asks for is done, and the response is written.
+ghost use Rattle.std.specs.Prelude.{◌≡◌, ◌≢◌, ◌≤◌, IfOk};
+ghost use Rattle.dir_bytes.specs.Causes.{Rose};
+ghost use Rattle.key_port.specs.Answers.{rules};
+ghost use Rattle.flag_rules.specs.Rules.{KeepsTo};
+ghost use Rattle.http_words.specs.Paths.{asked_by as asked_of};
+ghost use Rattle.board_terms.specs.Boards.{IsAt};
+ghost use Rattle.board_laws.specs.Going.{Goes};
+ghost use Rattle.serve_answers.specs.Handling.{Does, IsCausedOutcome};
+ghost use Rattle.serve_answers.specs.Connections.{Serves, Tells, TriesShortage};
+
+use crate::handling::handle;
+use crate::outcome::Outcome;
+use bytes::Bytes;
+use dir_bytes::{Clock, Memory, Sink, Source};
+use dir_http::{Request, Response, WriteRefusal, read_request, write_response};
+use flag_rules::{Hook, RelayFacts, Rules, Ruling};
+use http_words::{asked_by, reply_to};
+use key_port::Verifier;
+use serve_board::{Board, Pass};
+use std::alloc::Global;
+use std::sync::Wait;
+
+/// What came of a connection.
+#[derive(Clone, Copy, Debug, PartialEq, Eq)]
+pub enum ConnStatus {
+    /// A response with this code was written whole.
+    Answered { code: u16 },
+    /// The source failed, and nothing was done.
+    ReadFault,
+    /// The sink failed behind so many bytes of the response.
+    WriteFault { sent: u64 },
+    /// There was no memory. The response 500 was tried.
+    Memory,
+}
+
+/// The code of the response that tells of want of memory.
+const SHORTAGE: u16 = 500;
+
+/// A request has fewer bytes of body.
+const BODY_LIMIT: usize = 2305843009213693952;
+
+/// Tries to tell that there was no memory.
+fn tell_shortage<K: Sink>(alloc: Global, sink: &mut K) -> ConnStatus
+    ensures status { result ≡ ConnStatus.Memory }
+    ensures tries { TriesShortage (K.written sink.old) (K.written sink.new) }
+    ensures faults { K.faults sink.old ≤ K.faults sink.new }
+{
+    let response = Response {
+        code: SHORTAGE,
+        body: Vec::new(alloc),
+    };
+    let _ = write_response(alloc, sink, &response);
+    ConnStatus::Memory
+}
+
+/// Writes what came of a request as a response. Want of memory is tried to be told, and is no answer.
+fn tell<K: Sink>(alloc: Global, sink: &mut K, outcome: Outcome) -> ConnStatus
+    ensures tells { Tells (K.written sink.old) (K.written sink.new)
+        (K.faults sink.old) (K.faults sink.new) outcome result }
+    ensures faults { K.faults sink.old ≤ K.faults sink.new }
+{
+    let code = outcome.code();
+    if code == SHORTAGE {
+        return tell_shortage(alloc, sink);
+    }
+    let Ok(response) = outcome.response(alloc) else {
+        return tell_shortage(alloc, sink);
+    };
+    match write_response(alloc, sink, &response) {
+        Ok(()) => ConnStatus::Answered { code },
+        Err(WriteRefusal::WriteFault { sent }) => ConnStatus::WriteFault { sent },
+        Err(WriteRefusal::Memory) => tell_shortage(alloc, sink),
+    }
+}
+
+/// Does what a request asks for. A body of 2^61 bytes and more, which no request has, is told as want of memory.
+///
+/// # Errors
+/// `Memory` is want of memory.
+fn answer<R: Wait, W: Rules, F: Fn(RelayFacts) -> Ruling, C: Clock, V: Verifier>(
+    rt: &R,
+    alloc: Global,
+    board: &Board<V>,
+    hook: &Hook<W, F>,
+    pass: &mut Pass<V>,
+    clock: &mut C,
+    verifier: &mut V,
+    request: Request,
+) -> Result<Outcome, Memory>
+    requires at { IsAt board.now pass.old }
+    requires hook { KeepsTo W.allows F.pre F.post hook.now.rules hook.now.ask }
+    ensures does { IfOk result
+        (Does (rules V.may_accept V.may_refuse) V.steps board.now pass.old pass.new
+        (record {
+          asks = C.asks clock.old;
+          asks_then = C.asks clock.new;
+          last = C.last clock.new;
+          faults = V.faults verifier.old;
+          faults_then = V.faults verifier.new;
+        })
+        verifier.old verifier.new (W.allows hook.now.rules)
+        (asked_of request.method request.path) request.path request.body.items) }
+    ensures caused { IfOk result (IsCausedOutcome (V.faults verifier.old) (V.faults verifier.new)) }
+    ensures at { IsAt board.now pass.new }
+    ensures goes { Goes pass.old pass.new }
+    ensures faults { V.faults verifier.old ≤ V.faults verifier.new }
+    ensures asks { C.asks clock.old ≤ C.asks clock.new }
+{
+    let Request { method, path, body } = request;
+    if body.len() >= BODY_LIMIT {
+        return Err(Memory);
+    }
+    let body = Bytes::from_vec(body)?;
+    let path = path.as_bytes();
+    let asked = asked_by(method, path);
+    handle(
+        rt, alloc, board, hook, pass, clock, verifier, asked, path, &body,
+    )
+}
+
+/// Serves one connection: reads its request, does what it asks for, and writes the response.
+pub fn serve_connection<
+    H: Wait,
+    W: Rules,
+    F: Fn(RelayFacts) -> Ruling,
+    S: Source,
+    K: Sink,
+    C: Clock,
+    V: Verifier,
+>(
+    rt: &H,
+    alloc: Global,
+    board: &Board<V>,
+    hook: &Hook<W, F>,
+    pass: &mut Pass<V>,
+    conn: &mut S,
+    out: &mut K,
+    clock: &mut C,
+    verifier: &mut V,
+) -> ConnStatus
+    requires at { IsAt board.now pass.old }
+    requires hook { KeepsTo W.allows F.pre F.post hook.now.rules hook.now.ask }
+    ensures serves { Serves
+        (Does (rules V.may_accept V.may_refuse) V.steps board.now pass.old pass.new
+        (record {
+          asks = C.asks clock.old;
+          asks_then = C.asks clock.new;
+          last = C.last clock.new;
+          faults = V.faults verifier.old;
+          faults_then = V.faults verifier.new;
+        })
+        verifier.old verifier.new (W.allows hook.now.rules))
+        pass.old pass.new (S.left conn.old) (K.written out.old) (K.written out.new)
+        (S.faults conn.old) (S.faults conn.new) (K.faults out.old) (K.faults out.new) result }
+    ensures shortage { result ≢ ConnStatus.Answered 500 }
+    ensures verifier { result ≡ ConnStatus.Answered 503 → Rose (V.faults verifier.old) (V.faults verifier.new) }
+    ensures at { IsAt board.now pass.new }
+    ensures goes { Goes pass.old pass.new }
+    ensures faults { V.faults verifier.old ≤ V.faults verifier.new }
+    ensures asks { C.asks clock.old ≤ C.asks clock.new }
+    ensures source { S.faults conn.old ≤ S.faults conn.new }
+    ensures sink { K.faults out.old ≤ K.faults out.new }
+{
+    match read_request(alloc, conn) {
+        Ok(request) => {
+            match answer(rt, alloc, board, hook, pass, clock, verifier, request) {
+                Ok(outcome) => tell(alloc, out, outcome),
+                Err(_) => tell_shortage(alloc, out),
+            }
+        }
+        Err(fault) => match reply_to(fault) {
+            Some(reply) => tell(alloc, out, Outcome::Replied(reply)),
+            None => ConnStatus::ReadFault,
+        },
+    }
+}

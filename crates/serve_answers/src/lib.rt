@@ -1,0 +1,27 @@
+//! What comes of one request to an authority: what it asks for is done at the board, and answered.
+#![tactic(auto)]
+
+mod bodies;
+mod connection;
+mod descriptors;
+mod finding;
+mod found;
+mod handling;
+mod held;
+mod keys;
+mod known;
+mod micros;
+mod outcome;
+mod places;
+mod relays;
+mod signatures;
+mod votes;
+mod words;
+
+pub use connection::{ConnStatus, serve_connection};
+pub use descriptors::take_descriptor;
+pub use finding::find;
+pub use handling::handle;
+pub use outcome::Outcome;
+pub use signatures::take_signatures;
+pub use votes::take_vote;
