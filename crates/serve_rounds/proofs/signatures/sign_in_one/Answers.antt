@@ -1,0 +1,16 @@
+use Rattle.std.proofs.Common.{refl}
+use Rattle.key_port.specs.Answers.{rules}
+use Rattle.period_terms.specs.declared.answer.Answer.TheVariants.{Signature}
+use Rattle.period_terms.specs.declared.event.Event.TheVariants.{SignedIn}
+use Rattle.serve_rounds.specs.Duties.{IsGathered}
+use Rattle.serve_rounds.proofs.Adding.{adds_makes, entry_kind}
+use Rattle.serve_rounds.proofs.signatures.sign_in_one.Goals as goal
+
+pub returns-clause-adds : goal.returns-clause-adds
+returns-clause-adds g c = λ a adds.
+    let P = IsGathered (rules g.V.Verifier.may_accept g.V.Verifier.may_refuse) in
+    adds_makes P c.args.board.now a c.args.pass.now c.sign_in.new.pass adds (SignedIn c.args.signature)
+    (Signature c.sign_in.result)
+    (entry_kind P (SignedIn c.args.signature) (Signature c.sign_in.result)
+    (record { signature = c.args.signature; event = refl; accepted = c.signature-accepted.ensures.accepted }))
+    c.sign_in.ensures.event

@@ -1,0 +1,15 @@
+use Rattle.std.proofs.Common.{sym, subst}
+use Rattle.key_port.specs.Answers.{rules}
+use Rattle.serve_rounds.specs.OwnVotes.{IsOwnVote}
+use Rattle.serve_rounds.proofs.voting.own_vote.Goals as goal
+
+pub returns-in-Ok-clause-own : goal.returns-in-Ok-clause-own
+returns-in-Ok-clause-own g c =
+    subst (IsOwnVote (rules g.V.Verifier.may_accept g.V.Verifier.may_refuse) g.N.Signer.may_give g.N.Signer.steps
+    (g.W.Rules.allows c.args.ruler.now) c.args.station.now c.args.board.now c.args.valid_after c.args.now)
+    (sym c.in-Ok.ensures.accepted.0) record {
+      text = c.in-Some.text.items;
+      text_is = c.in-Some.ensures.text;
+      begins = c.in-Some-vote_in.ensures.begins;
+      verified = c.in-Ok.ensures.accepted.1.verified;
+    }

@@ -1,0 +1,94 @@
+// The signatures of other authorities, fetched from the peers.
+ghost use Rattle.std.specs.Prelude.{◌≡◌, ◌≤◌};
+ghost use Rattle.key_port.specs.Answers.{rules};
+ghost use Rattle.board_terms.specs.Boards.{IsAt, Parts};
+ghost use Rattle.serve_rounds.specs.Duties.{Adds, IsGathered};
+
+use crate::peers::{address_of, body_of};
+use crate::round::Round;
+use crate::signatures::{checked_of, sign_in_all};
+use dir_http::Link;
+use key_port::Verifier;
+use serve_board::{Board, Pass};
+use station_input::StationFacts;
+use std::alloc::Global;
+use std::sync::Wait;
+
+/// The most bytes of a response with signatures.
+const SIGNATURES_LIMIT: u64 = 1_064_960;
+
+/// Asks a peer for the signatures that it holds, and offers those that are accepted.
+fn gather_from<H: Wait, V: Verifier, L: Link>(
+    rt: &H,
+    alloc: Global,
+    board: &Board<V>,
+    pass: &mut Pass<V>,
+    address: &[u8],
+    verifier: &mut V,
+    link: &mut L,
+)
+    requires at { IsAt board.now pass.old }
+    ensures adds { (a : Parts) → Adds (IsGathered (rules V.may_accept V.may_refuse)) a pass.old → Adds (IsGathered (rules V.may_accept V.may_refuse)) a pass.new }
+    ensures at { IsAt board.now pass.new }
+    ensures verifier { V.faults verifier.old ≤ V.faults verifier.new }
+    ensures link { L.faults link.old ≤ L.faults link.new }
+{
+    let path = b"/tor/status-vote/next/consensus-signatures";
+    let Some(body) = body_of(alloc, link, address, path, SIGNATURES_LIMIT) else {
+        return;
+    };
+    let Ok(Some(view)) = board.view(rt, alloc, pass) else {
+        return;
+    };
+    let Some(signatures) = checked_of(alloc, &body, &view, verifier) else {
+        return;
+    };
+    sign_in_all(rt, board, pass, signatures);
+}
+
+/// Asks each peer for the signatures that it holds, in the input's order.
+fn gather_all<H: Wait, V: Verifier, L: Link>(
+    rt: &H,
+    alloc: Global,
+    board: &Board<V>,
+    station: &StationFacts,
+    pass: &mut Pass<V>,
+    verifier: &mut V,
+    link: &mut L,
+)
+    requires at { IsAt board.now pass.old }
+    ensures adds { (a : Parts) → Adds (IsGathered (rules V.may_accept V.may_refuse)) a pass.old → Adds (IsGathered (rules V.may_accept V.may_refuse)) a pass.new }
+    ensures at { IsAt board.now pass.new }
+    ensures verifier { V.faults verifier.old ≤ V.faults verifier.new }
+    ensures link { L.faults link.old ≤ L.faults link.new }
+{
+    'peers: for peer in station.authorities.as_slice() {
+        if let Some(address) = address_of(station, peer) {
+            gather_from(rt, alloc, board, pass, address, verifier, link);
+        }
+    }
+}
+
+/// Fetches the signatures of other authorities, once in a period.
+pub(crate) fn gather_once<H: Wait, V: Verifier, L: Link>(
+    rt: &H,
+    alloc: Global,
+    board: &Board<V>,
+    station: &StationFacts,
+    pass: &mut Pass<V>,
+    round: &mut Round,
+    verifier: &mut V,
+    link: &mut L,
+)
+    requires at { IsAt board.now pass.old }
+    ensures adds { (a : Parts) → Adds (IsGathered (rules V.may_accept V.may_refuse)) a pass.old → Adds (IsGathered (rules V.may_accept V.may_refuse)) a pass.new }
+    ensures at { IsAt board.now pass.new }
+    ensures verifier { V.faults verifier.old ≤ V.faults verifier.new }
+    ensures link { L.faults link.old ≤ L.faults link.new }
+{
+    if round.gathered {
+        return;
+    }
+    round.gathered = true;
+    gather_all(rt, alloc, board, station, pass, verifier, link);
+}

@@ -1,0 +1,98 @@
+// Detached signatures: those that are held brought to the peers, and those that a peer gave checked and offered.
+ghost use Rattle.std.specs.Prelude.{◌≡◌, ◌≤◌};
+ghost use Rattle.key_port.specs.Answers.{rules};
+ghost use Rattle.board_terms.specs.Boards.{IsAt, Parts};
+ghost use Rattle.serve_rounds.specs.Duties.{Adds, AddsNone, IsGathered};
+
+use crate::peers::post_to_peers;
+use crate::round::Round;
+use crate::turns::signatures_held;
+use checked_sigs::check_signatures;
+use dir_http::Link;
+use key_port::Verifier;
+use serve_board::{Board, Pass};
+use signature_terms::{CheckedSig, PeriodView};
+use station_input::StationFacts;
+use std::alloc::Global;
+use std::sync::Wait;
+
+/// The most bytes of signatures that are read.
+const MOST_BYTES: usize = 1_064_960;
+
+/// The signatures of a body that the verifier accepts. None where the body is no document of them for the period, or they can't be
+/// checked.
+pub(crate) fn checked_of<V: Verifier>(
+    alloc: Global,
+    body: &[u8],
+    view: &PeriodView,
+    verifier: &mut V,
+) -> Option<Vec<CheckedSig<V>>>
+    ensures verifier { V.faults verifier.old ≤ V.faults verifier.new }
+{
+    if body.len() > MOST_BYTES {
+        return None;
+    }
+    match check_signatures(alloc, body, view, verifier) {
+        Ok(report) => Some(report.checked.into_vec()),
+        Err(_) => None,
+    }
+}
+
+/// Offers a signature.
+fn sign_in_one<H: Wait, V: Verifier>(
+    rt: &H,
+    board: &Board<V>,
+    pass: &mut Pass<V>,
+    signature: CheckedSig<V>,
+)
+    requires at { IsAt board.now pass.old }
+    ensures adds { (a : Parts) → Adds (IsGathered (rules V.may_accept V.may_refuse)) a pass.old → Adds (IsGathered (rules V.may_accept V.may_refuse)) a pass.new }
+    ensures at { IsAt board.now pass.new }
+{
+    let _accepted = signature.signature();
+    let _ = board.sign_in(rt, pass, signature);
+}
+
+/// Offers signatures one by one.
+pub(crate) fn sign_in_all<H: Wait, V: Verifier>(
+    rt: &H,
+    board: &Board<V>,
+    pass: &mut Pass<V>,
+    signatures: Vec<CheckedSig<V>>,
+)
+    requires at { IsAt board.now pass.old }
+    ensures adds { (a : Parts) → Adds (IsGathered (rules V.may_accept V.may_refuse)) a pass.old → Adds (IsGathered (rules V.may_accept V.may_refuse)) a pass.new }
+    ensures at { IsAt board.now pass.new }
+{
+    'signatures: for signature in signatures {
+        sign_in_one(rt, board, pass, signature);
+    }
+}
+
+/// Brings the signatures that are held to each peer, once in a period, behind the own signing. Where there is no memory it is tried
+/// again the next time.
+pub(crate) fn post_once<H: Wait, V: Verifier, L: Link>(
+    rt: &H,
+    alloc: Global,
+    board: &Board<V>,
+    station: &StationFacts,
+    pass: &mut Pass<V>,
+    round: &mut Round,
+    link: &mut L,
+)
+    requires at { IsAt board.now pass.old }
+    ensures none { (a : Parts) → AddsNone a pass.old → AddsNone a pass.new }
+    ensures at { IsAt board.now pass.new }
+    ensures round { round.new.valid_after ≡ round.old.valid_after }
+    ensures link { L.faults link.old ≤ L.faults link.new }
+{
+    if !round.signed || round.posted {
+        return;
+    }
+    let Ok(Some(text)) = signatures_held(rt, alloc, board, pass) else {
+        return;
+    };
+    round.posted = true;
+    let path = b"/tor/post/consensus-signature";
+    post_to_peers(alloc, station, link, path, text.as_bytes());
+}
