@@ -99,7 +99,8 @@ module _ (P : Entry → Type 0) where
     each = All-append P g.added h.added g.each h.each;
     mine = h.mine ∙ ap (λ n. b.station.mine ++ map (λ e. (n, e)) h.added) g.goes.station.number
         ∙ ap (λ l. l ++ map (λ e. (a.station.number, e)) h.added) g.mine
-        ∙ append_assoc a.station.mine (map (λ e. (a.station.number, e)) g.added) (map (λ e. (a.station.number, e)) h.added)
+        ∙ append_assoc a.station.mine (map (λ e. (a.station.number, e)) g.added)
+        (map (λ e. (a.station.number, e)) h.added)
         ∙ ap (λ l. a.station.mine ++ l) (sym (map-append (λ e. (a.station.number, e)) g.added h.added));
     pool = h.pool ∙ g.pool;
     goes = goes_on a b c g.goes h.goes;

@@ -9,7 +9,9 @@ invariant-steps g l = record {
   can : (goal.iterator-steps g).can_next l.iterator';
   finite : (goal.iterator-steps g).is_finite l.iterator';
   at : IsAt l.board l.pass;
-  adds : Adds (IsAdvance g.N.Signer.may_give (rules g.V.Verifier.may_accept g.V.Verifier.may_refuse) l.board l.now) l.fn.pass l.pass;
+  adds : Adds
+      (IsAdvance g.N.Signer.may_give (rules g.V.Verifier.may_accept g.V.Verifier.may_refuse) l.board l.now) l.fn.pass
+      l.pass;
   signer : g.N.Signer.faults l.fn.signer ≤ g.N.Signer.faults l.signer;
   verifier : g.V.Verifier.faults l.fn.verifier ≤ g.V.Verifier.faults l.verifier;
 }

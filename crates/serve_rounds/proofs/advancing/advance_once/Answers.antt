@@ -4,5 +4,5 @@ use Rattle.serve_rounds.proofs.advancing.advance_once.Goals as goal
 
 pub returns-clause-adds : goal.returns-clause-adds
 returns-clause-adds g c = λ a adds.
-    adds_advances g.N.Signer.may_give (rules g.V.Verifier.may_accept g.V.Verifier.may_refuse) c.args.board.now c.args.now a
-    c.args.pass.now c.advance.new.pass adds c.advance.result c.advance.ensures.event
+    adds_advances g.N.Signer.may_give (rules g.V.Verifier.may_accept g.V.Verifier.may_refuse) c.args.board.now
+    c.args.now a c.args.pass.now c.advance.new.pass adds c.advance.result c.advance.ensures.event

@@ -7,7 +7,9 @@ use Rattle.serve_rounds.proofs.fetching.fetch_from.Given as goal
 abbrev pub invariant-votes : goal.invariant-votes
 invariant-votes g l = record {
   at : IsAt l.board l.pass;
-  adds : (a : Parts) → Adds (IsFetched (rules g.V.Verifier.may_accept g.V.Verifier.may_refuse) l.now) a l.fn.pass → Adds (IsFetched (rules g.V.Verifier.may_accept g.V.Verifier.may_refuse) l.now) a l.pass;
+  adds : (a : Parts)
+      → Adds (IsFetched (rules g.V.Verifier.may_accept g.V.Verifier.may_refuse) l.now) a l.fn.pass
+      → Adds (IsFetched (rules g.V.Verifier.may_accept g.V.Verifier.may_refuse) l.now) a l.pass;
   verifier : g.V.Verifier.faults l.fn.verifier ≤ g.V.Verifier.faults l.verifier;
   link : g.L.Link.faults l.fn.link ≤ g.L.Link.faults l.link;
 }

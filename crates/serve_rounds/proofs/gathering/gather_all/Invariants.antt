@@ -7,7 +7,9 @@ use Rattle.serve_rounds.proofs.gathering.gather_all.Given as goal
 abbrev pub invariant-peers : goal.invariant-peers
 invariant-peers g l = record {
   at : IsAt l.board l.pass;
-  adds : (a : Parts) → Adds (IsGathered (rules g.V.Verifier.may_accept g.V.Verifier.may_refuse)) a l.fn.pass → Adds (IsGathered (rules g.V.Verifier.may_accept g.V.Verifier.may_refuse)) a l.pass;
+  adds : (a : Parts)
+      → Adds (IsGathered (rules g.V.Verifier.may_accept g.V.Verifier.may_refuse)) a l.fn.pass
+      → Adds (IsGathered (rules g.V.Verifier.may_accept g.V.Verifier.may_refuse)) a l.pass;
   verifier : g.V.Verifier.faults l.fn.verifier ≤ g.V.Verifier.faults l.verifier;
   link : g.L.Link.faults l.fn.link ≤ g.L.Link.faults l.link;
 }

@@ -6,5 +6,7 @@ use Rattle.serve_rounds.proofs.signatures.sign_in_all.Given as goal
 abbrev pub invariant-signatures : goal.invariant-signatures
 invariant-signatures g l = record {
   at : IsAt l.board l.pass;
-  adds : (a : Parts) → Adds (IsGathered (rules g.V.Verifier.may_accept g.V.Verifier.may_refuse)) a l.fn.pass → Adds (IsGathered (rules g.V.Verifier.may_accept g.V.Verifier.may_refuse)) a l.pass;
+  adds : (a : Parts)
+      → Adds (IsGathered (rules g.V.Verifier.may_accept g.V.Verifier.may_refuse)) a l.fn.pass
+      → Adds (IsGathered (rules g.V.Verifier.may_accept g.V.Verifier.may_refuse)) a l.pass;
 }
