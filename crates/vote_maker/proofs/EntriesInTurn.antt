@@ -8,8 +8,11 @@ use Rattle.flag_rules.specs.declared.flags.Flags.{Flags}
 use Rattle.flag_rules.specs.declared.relay.RelayFacts.{RelayFacts}
 use Rattle.flag_rules.specs.declared.ruling.Ruling.{Ruling}
 use Rattle.vote_terms.specs.declared.entry.EntryFacts.{EntryFacts}
+use Rattle.vote_pool.specs.Kept.{signer_of}
 use Rattle.vote_maker.specs.Listings.{JudgedRelay, judged_relays}
-use Rattle.vote_maker.specs.Private.{AreAsMany, Keys, entries_from, entry_if, is_listed, keys_after}
+use Rattle.vote_maker.specs.Private.{AreAsMany, AreBetween, Keys, entries_from, entries_text, entry_if, is_listed}
+use Rattle.vote_maker.specs.Private.{keys_after}
+use Rattle.vote_maker.proofs.EntryTexts.{texts}
 use Rattle.vote_maker.proofs.Judged.{judged_at, judged_drop}
 
 module _ (ds : List Descriptor) (ks : List RelayFacts) (rs : List Ruling) (fs : List Flags) where
@@ -20,8 +23,8 @@ module _ (ds : List Descriptor) (ks : List RelayFacts) (rs : List Ruling) (fs : 
   pub at_place : (i : ℕ) (d : Descriptor) (k : RelayFacts) (r : Ruling) (f : Flags) (keys : Keys) → i < length ds
       → AreAsMany ds ks rs fs → d ≡ get_or ds i d → k ≡ get_or ks i k → r ≡ get_or rs i r → f ≡ get_or fs i f
       → entries_from keys (drop i relays)
-      ≡ entry_if (is_listed keys r d.identity_ed25519) d k f
-      ++ entries_from (keys_after keys r d.identity_ed25519) (drop (i + 1) relays)
+      ≡ entry_if (is_listed keys r (signer_of d.identity_ed25519)) d k f
+      ++ entries_from (keys_after keys r (signer_of d.identity_ed25519)) (drop (i + 1) relays)
   at_place i d k r f keys within many at_d at_k at_r at_f =
       let one : suc i ≡ i + 1 = omega arith in
       let there : drop i relays ≡ judged_at d k r f ∷ drop (i + 1) relays =
@@ -35,12 +38,12 @@ module _ (ds : List Descriptor) (ks : List RelayFacts) (rs : List Ruling) (fs : 
   -- with the entry of one more, if it has one
   pub one_more : (i : ℕ) (d : Descriptor) (k : RelayFacts) (r : Ruling) (f : Flags) (keys new : Keys) (listed : Bool)
       (out more all : List EntryFacts) → i < length ds → AreAsMany ds ks rs fs → d ≡ get_or ds i d → k ≡ get_or ks i k
-      → r ≡ get_or rs i r → f ≡ get_or fs i f → listed ≡ is_listed keys r d.identity_ed25519
-      → new ≡ keys_after keys r d.identity_ed25519 → more ≡ out ++ entry_if listed d k f
+      → r ≡ get_or rs i r → f ≡ get_or fs i f → listed ≡ is_listed keys r (signer_of d.identity_ed25519)
+      → new ≡ keys_after keys r (signer_of d.identity_ed25519) → more ≡ out ++ entry_if listed d k f
       → out ++ entries_from keys (drop i relays) ≡ all → more ++ entries_from new (drop (i + 1) relays) ≡ all
   one_more i d k r f keys new listed out more all within many at_d at_k at_r at_f its after put before =
-      let its_entry = entry_if (is_listed keys r d.identity_ed25519) d k f in
-      let rest = entries_from (keys_after keys r d.identity_ed25519) (drop (i + 1) relays) in
+      let its_entry = entry_if (is_listed keys r (signer_of d.identity_ed25519)) d k f in
+      let rest = entries_from (keys_after keys r (signer_of d.identity_ed25519)) (drop (i + 1) relays) in
       ap₂ (λ (l : List EntryFacts) (s : Keys). l ++ entries_from s (drop (i + 1) relays))
       (put ∙ ap (λ (b : Bool). out ++ entry_if b d k f) its) after
       ∙ append_assoc out its_entry rest
@@ -48,9 +51,21 @@ module _ (ds : List Descriptor) (ks : List RelayFacts) (rs : List Ruling) (fs : 
       ∙ before
 
 -- where no relay is left
-pub none_left : (judged : List JudgedRelay) (i : ℕ) (keys : Keys) (out all : List EntryFacts) → length judged ≤ i
-    → out ++ entries_from keys (drop i judged) ≡ all → out ≡ all
+pub none_left : (judged : List JudgedRelay) (i : ℕ) (keys : Keys) (out all : List ℕ) → length judged ≤ i
+    → out ++ entries_text (entries_from keys (drop i judged)) ≡ all → out ≡ all
 none_left judged i keys out all past before =
     sym (append-nil out)
-    ∙ ap (λ (l : List JudgedRelay). out ++ entries_from keys l) (sym (drop_all i judged past))
+    ∙ ap (λ (l : List JudgedRelay). out ++ entries_text (entries_from keys l)) (sym (drop_all i judged past))
+    ∙ before
+
+-- with the text of the entries of one more part
+pub one_more_part : (judged : List JudgedRelay) (start end : ℕ) (old new : Keys) (entries : List EntryFacts)
+    (out more all : List ℕ) → AreBetween judged start end old entries new → more ≡ out ++ entries_text entries
+    → out ++ entries_text (entries_from old (drop start judged)) ≡ all
+    → more ++ entries_text (entries_from new (drop end judged)) ≡ all
+one_more_part judged start end old new entries out more all between put before =
+    let rest = entries_from new (drop end judged) in
+    ap (λ (l : List ℕ). l ++ entries_text rest) put
+    ∙ append_assoc out (entries_text entries) (entries_text rest)
+    ∙ ap (λ (l : List ℕ). out ++ l) (sym (texts entries rest) ∙ ap (λ (l : List EntryFacts). entries_text l) between)
     ∙ before

@@ -1,4 +1,5 @@
 pub mod EntriesInTurn
+pub mod EntryTexts
 pub mod Judged
 pub mod Listed
 pub mod MadeFlags
@@ -6,4 +7,5 @@ pub mod MadeTexts
 pub mod Measured
 pub mod RuledEntries
 pub mod SignedTexts
+pub mod Signers
 pub mod Versions

@@ -17,6 +17,7 @@ use Rattle.dir_values.specs.Digests.{bytes_below, identity_below}
 use Rattle.ed_certs.specs.declared.certificate.EdCert.{EdCert}
 use Rattle.flag_rules.specs.Rulings.{is_reject}
 use Rattle.vote_terms.specs.declared.entry.EntryFacts.{EntryFacts}
+use Rattle.vote_pool.specs.Kept.{signer_of}
 use Rattle.vote_maker.specs.Listings.{JudgedRelay, entry_of_judged, goes_before, has_entry, made_entries, same_key}
 use Rattle.vote_maker.specs.Listings.{takes_key}
 use Rattle.vote_maker.specs.Private.{Keys, entries_from, is_free, is_listed, keys_after}
@@ -38,7 +39,7 @@ AreKeysOf keys before = (key : List ℕ) → set.contains keys key ≡ list_any 
 
 -- the keys with those of one more relay
 abbrev keys_with : Keys → JudgedRelay → Keys
-keys_with keys one = keys_after keys one.ruled.ruling one.descriptor.identity_ed25519
+keys_with keys one = keys_after keys one.ruled.ruling (signer_of one.descriptor.identity_ed25519)
 
 no_keys : AreKeysOf set.empty []
 no_keys key = set.contains-empty (slice_cmp nat_cmp) key
@@ -153,7 +154,7 @@ any_before before rest one below_it above =
 
 -- whether a key is free
 free_is : (keys : Keys) (before : List JudgedRelay) (one : JudgedRelay) → AreKeysOf keys before
-    → is_free keys one.descriptor.identity_ed25519
+    → is_free keys (signer_of one.descriptor.identity_ed25519)
     ≡ not (list_any (λ (o : JudgedRelay). takes_key o one) before)
 free_is keys before one are = by one.descriptor.identity_ed25519 refl
   where
@@ -175,20 +176,20 @@ free_is keys before one are = by one.descriptor.identity_ed25519 refl
         by_key (Some x) = refl
 
     by : (its : Option EdCert) → one.descriptor.identity_ed25519 ≡ its
-        → is_free keys one.descriptor.identity_ed25519
+        → is_free keys (signer_of one.descriptor.identity_ed25519)
         ≡ not (list_any (λ (o : JudgedRelay). takes_key o one) before)
     by None k =
         let none = list_any_none (λ (o : JudgedRelay). takes_key o one) before
         (λ i d lt. none_takes (get_or before i d) k) in
-        ap (λ (x : Option EdCert). is_free keys x) k ∙ ap not (sym none)
+        ap (λ (x : Option EdCert). is_free keys (signer_of x)) k ∙ ap not (sym none)
     by (Some certificate) k =
         let same = any_same (λ (o : JudgedRelay). takes_key o one) (holds certificate.signer) before
         (λ i d lt. takes_it (get_or before i d) certificate k) in
-        ap (λ (x : Option EdCert). is_free keys x) k ∙ ap not (are certificate.signer ∙ sym same)
+        ap (λ (x : Option EdCert). is_free keys (signer_of x)) k ∙ ap not (are certificate.signer ∙ sym same)
 
 listed_is : (keys : Keys) (before rest : List JudgedRelay) (one : JudgedRelay) → AreKeysOf keys before
     → AllBelow before one → All (λ (o : JudgedRelay). below one o ≡ true) rest
-    → is_listed keys one.ruled.ruling one.descriptor.identity_ed25519 ≡ has_entry (before ++ one ∷ rest) one
+    → is_listed keys one.ruled.ruling (signer_of one.descriptor.identity_ed25519) ≡ has_entry (before ++ one ∷ rest) one
 listed_is keys before rest one are below_it above =
     ap (λ (b : Bool). not (is_reject one.ruled.ruling) && b)
     (free_is keys before one are ∙ ap not (sym (any_before before rest one below_it above)))
@@ -216,7 +217,7 @@ walks keys all before (one ∷ rest) is are across pairs =
     let p = has_entry all in
     let below_it = All-head (AllBelow before) one rest across in
     let above = AllPairs-head (λ (a b : JudgedRelay). below a b ≡ true) one rest pairs in
-    let its = is_listed keys one.ruled.ruling one.descriptor.identity_ed25519 in
+    let its = is_listed keys one.ruled.ruling (signer_of one.descriptor.identity_ed25519) in
     let listed : its ≡ p one =
     listed_is keys before rest one are below_it above ∙ ap (λ (l : List JudgedRelay). has_entry l one) (sym is) in
     let next = walks (keys_with keys one) all (before ++ one ∷ []) rest

@@ -1,14 +1,18 @@
--- Of what is known, ruled and assigned there is as much as there are relays.
-use Rattle.std.proofs.Common.{◌≡◌, ℕ, List, length, ap, ◌∙◌}
+-- Of what is known, ruled and assigned there is as much as there are relays; and the entries that are made of it.
+use Rattle.std.proofs.Common.{◌≡◌, ℕ, List, [], ◌∷◌, length, refl, ap, ap₂, ◌∙◌}
 use Rattle.std.proofs.lemmas.List.{length-map}
 use Rattle.descriptor_doc.specs.declared.descriptor.Descriptor.{Descriptor}
 use Rattle.flag_rules.specs.Flags.{flags_of}
 use Rattle.flag_rules.specs.Relays.{ruled_relays}
 use Rattle.flag_rules.specs.declared.flags.Flags.{Flags}
+use Rattle.flag_rules.specs.declared.relay.Measured.{Measured}
 use Rattle.flag_rules.specs.declared.relay.RelayFacts.{RelayFacts}
+use Rattle.flag_rules.specs.declared.relay.RuledRelay.{RuledRelay}
 use Rattle.flag_rules.specs.declared.ruling.Ruling.{Ruling}
 use Rattle.station_frame.specs.declared.said.MeasuredRelay.{MeasuredRelay}
-use Rattle.vote_maker.specs.Private.{AreAsMany}
+use Rattle.vote_maker.specs.Listings.{judged_relays, made_entries}
+use Rattle.vote_maker.specs.Made.{entries_under}
+use Rattle.vote_maker.specs.Private.{AreAsMany, MeasureAlike}
 use Rattle.vote_maker.specs.Relays.{known_of, known_relays}
 use Rattle.vote_maker.proofs.Judged.{length-flags, length-ruled}
 
@@ -25,3 +29,23 @@ as_many measured ds now ks rs fs known one_each flags =
           ap (λ (l : List Flags). length l) flags ∙ length-flags now (ruled_relays ks rs) ∙ length-ruled ks rs one_each
           ∙ ks_are;
     }
+
+-- of relays of which the same was measured the same is known
+pub known_alike : (measured others : List MeasuredRelay) → MeasureAlike measured others → (ds : List Descriptor)
+    → known_relays others ds ≡ known_relays measured ds
+known_alike measured others alike [] = refl
+known_alike measured others alike (d ∷ ds) =
+    ap₂ (λ (k : RelayFacts) (l : List RelayFacts). k ∷ l)
+    (ap (λ (m : Measured). record (known_of measured d) { measured = m }) (alike d.identity))
+    (known_alike measured others alike ds)
+
+-- the entries of relays of which this is known and ruled, with these flags, are those under these rulings
+pub entries_ruled : (measured : List MeasuredRelay) (ds : List Descriptor) (now : ℕ) (ks : List RelayFacts)
+    (rs given : List Ruling) (fs : List Flags) → ks ≡ known_relays measured ds → rs ≡ given
+    → fs ≡ flags_of now (ruled_relays ks rs)
+    → made_entries (judged_relays ds (ruled_relays ks rs) fs) ≡ entries_under measured ds now given
+entries_ruled measured ds now ks rs given fs known is flags =
+    let ruled : ruled_relays ks rs ≡ ruled_relays (known_relays measured ds) given =
+    ap₂ (λ (k : List RelayFacts) (r : List Ruling). ruled_relays k r) known is in
+    ap₂ (λ (r : List RuledRelay) (f : List Flags). made_entries (judged_relays ds r f)) ruled
+    (flags ∙ ap (λ (r : List RuledRelay). flags_of now r) ruled)

@@ -8,10 +8,10 @@ use Rattle.key_port.specs.Answers.{Relation}
 use Rattle.key_port.specs.Signing.{GivesBy, SignerSteps}
 use Rattle.key_port.specs.declared.signer.SignAnswer.TheVariants as sign
 use Rattle.key_port.specs.declared.verifier.KeyKind.TheVariants as kind
-use Rattle.vote_terms.specs.declared.facts.VoteFacts.{VoteFacts}
-use Rattle.vote_text.specs.Made.{made_signed, made_text, signature_rest}
-use Rattle.vote_maker.specs.Made.{signature_by, with_signature}
-use Rattle.vote_maker.specs.Making.{IsSigned, made_digest, vote_limit}
+use Rattle.authority_certs.specs.declared.cert.Cert.{Cert}
+use Rattle.vote_text.specs.Made.{signature_rest}
+use Rattle.vote_maker.specs.Made.{signature_by}
+use Rattle.vote_maker.specs.Making.{vote_limit}
 use Rattle.vote_maker.specs.Private.{IsSignedText, RefusesToSign}
 use Rattle.vote_maker.specs.declared.refusal.MakeRefusal.{MakeRefusal}
 use Rattle.vote_maker.specs.declared.refusal.MakeRefusal.TheVariants.{TooLong}
@@ -32,38 +32,27 @@ in_turn o a k rest =
     ∙ append_assoc o a (space ∷ (k ++ line_feed ∷ rest))
     ∙ ap (λ (l : List ℕ). o ++ l) (sym (append_assoc a (space ∷ k) (line_feed ∷ rest)))
 
--- of what the vote says the signature is not signed
-pub signed_same : (facts : VoteFacts) (signature bytes : List ℕ)
-    → made_signed (with_signature facts signature) bytes ≡ made_signed facts bytes
-signed_same facts signature bytes = refl
-
-pub whole_text : (facts : VoteFacts) (bytes signature text whole : List ℕ) → text ≡ made_signed facts bytes
-    → whole ≡ text ++ signature_rest (signature_by facts.certificate signature)
-    → whole ≡ made_text (with_signature facts signature) bytes
-whole_text facts bytes signature text whole written more =
-    let rest = signature_rest (signature_by facts.certificate signature) in
-    more ∙ ap (λ (l : List ℕ). l ++ rest) (written ∙ sym (signed_same facts signature bytes))
-
-module _ {N : Type 0} (gives : Relation) (steps : SignerSteps N) (facts : VoteFacts) (bytes : List ℕ) where
-  pub signed_by : (text key digest signature : List ℕ) (old new : N) → text ≡ made_signed facts bytes
-      → key ≡ facts.certificate.signing_key → digest ≡ sha1 text
+module _ {N : Type 0} (gives : Relation) (steps : SignerSteps N) (cert : Cert) (text : List ℕ) where
+  pub signed_by : (key digest signature whole : List ℕ) (old new : N) → key ≡ cert.signing_key → digest ≡ sha1 text
       → GivesBy (gives kind.Signing key digest) (sign.Signed signature)
       → steps old kind.Signing key digest (sign.Signed signature) new
-      → IsSigned gives steps facts bytes signature old new
-  signed_by text key digest signature old new written its hash answer step =
-      let made = made_digest facts bytes in
-      let digest_is : digest ≡ made = hash ∙ ap (λ (l : List ℕ). sha1 l) written in
+      → whole ≡ text ++ signature_rest (signature_by cert signature)
+      → IsSignedText gives steps cert text whole old new
+  signed_by key digest signature whole old new its hash answer step more =
+      let made = sha1 text in
       record {
+        signature = signature;
         given = subst (λ (k : List ℕ). gives kind.Signing k made signature ≡ true) its
-            (subst (λ (d : List ℕ). gives kind.Signing key d signature ≡ true) digest_is answer.0);
+            (subst (λ (d : List ℕ). gives kind.Signing key d signature ≡ true) hash answer.0);
         short = answer.1;
         asked = subst (λ (k : List ℕ). steps old kind.Signing k made (sign.Signed signature) new) its
-            (subst (λ (d : List ℕ). steps old kind.Signing key d (sign.Signed signature) new) digest_is step);
+            (subst (λ (d : List ℕ). steps old kind.Signing key d (sign.Signed signature) new) hash step);
+        whole_is = more;
       }
 
-  pub too_long_by : (text : List ℕ) (why : MakeRefusal) (old new : N) → why ≡ TooLong (length text)
-      → vote_limit < length text → IsSignedText gives steps facts bytes text old new
-      → RefusesToSign gives steps facts bytes why old new
-  too_long_by text why old new is above signed =
-      subst (λ (w : MakeRefusal). RefusesToSign gives steps facts bytes w old new) (sym is)
-      (text, signed, refl, above)
+  pub too_long_by : (whole : List ℕ) (why : MakeRefusal) (old new : N) → why ≡ TooLong (length whole)
+      → vote_limit < length whole → IsSignedText gives steps cert text whole old new
+      → RefusesToSign gives steps cert text why old new
+  too_long_by whole why old new is above signed =
+      subst (λ (w : MakeRefusal). RefusesToSign gives steps cert text w old new) (sym is)
+      (whole, signed, refl, above)

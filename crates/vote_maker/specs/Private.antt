@@ -1,14 +1,18 @@
 -- What the private functions of this crate say.
-use Rattle.std.specs.Prelude.{◌≡◌, ◌⊎◌, ℕ, ◌<◌, Bool, true, false, not, ◌&&◌, List, [], ◌∷◌, ◌++◌}
-use Rattle.std.specs.Prelude.{length, AllPairs}
+use Rattle.std.specs.Prelude.{◌≡◌, ◌⊎◌, ℕ, ◌<◌, ◌≤◌, Bool, true, false, not, ◌&&◌, List, [], ◌∷◌, ◌++◌}
+use Rattle.std.specs.Prelude.{length, codes, drop, AllPairs}
 use Rattle.std.specs.Prelude.{Option, Some, None, if◌then◌else◌}
 use Rattle.std.specs.FinSet as set
 use Rattle.std.specs.Cmp.Lexicographic.{slice_cmp}
 use Rattle.std.specs.Ordering.{nat_cmp, is_lt}
 use Rattle.std.specs.declared.cmp.Ordering.{Ordering}
+use Rattle.sha1.specs.Sha1.{sha1}
 use Rattle.dir_values.specs.Digests.{identity_below}
 use Rattle.dir_values.specs.declared.digest.Fingerprint.{Fingerprint}
-use Rattle.ed_certs.specs.declared.certificate.EdCert.{EdCert}
+use Rattle.dirdoc_grammar.specs.Writing.{item_text, items_text}
+use Rattle.frame_terms.specs.declared.keyword.Keyword.TheVariants as the
+use Rattle.frame_values.specs.Items.{bare}
+use Rattle.authority_certs.specs.declared.cert.Cert.{Cert}
 use Rattle.descriptor_doc.specs.declared.descriptor.Descriptor.{Descriptor}
 use Rattle.flag_rules.specs.Rules.{AreAllowed}
 use Rattle.flag_rules.specs.Rulings.{is_reject}
@@ -16,17 +20,24 @@ use Rattle.flag_rules.specs.declared.flags.Flags.{Flags}
 use Rattle.flag_rules.specs.declared.relay.RelayFacts.{RelayFacts}
 use Rattle.flag_rules.specs.declared.ruling.Ruling.{Ruling}
 use Rattle.key_port.specs.Answers.{Relation}
-use Rattle.key_port.specs.Signing.{SignerSteps}
+use Rattle.key_port.specs.Signing.{SignerSteps, signature_limit}
 use Rattle.key_port.specs.declared.signer.SignAnswer.{SignAnswer}
 use Rattle.key_port.specs.declared.signer.SignAnswer.TheVariants as sign
+use Rattle.key_port.specs.declared.verifier.KeyKind.TheVariants as kind
+use Rattle.relay_entries.specs.declared.said.EdOpinion.{EdOpinion}
+use Rattle.relay_entries.specs.declared.said.EdOpinion.TheVariants as opinion
 use Rattle.station_frame.specs.declared.said.MeasuredRelay.{MeasuredRelay}
+use Rattle.station_input.specs.declared.facts.StationFacts.{StationFacts}
 use Rattle.vote_terms.specs.declared.entry.EntryFacts.{EntryFacts}
 use Rattle.vote_terms.specs.declared.facts.VoteFacts.{VoteFacts}
-use Rattle.vote_text.specs.Made.{made_text}
+use Rattle.vote_text.specs.Entries.{entries_items}
+use Rattle.vote_text.specs.Made.{made_signed, signature_rest}
+use Rattle.vote_text.specs.Texts.{authority_items, preamble_items}
+use Rattle.vote_pool.specs.Kept.{signer_of}
 use Rattle.vote_maker.specs.Entries.{made_entry}
 use Rattle.vote_maker.specs.Listings.{JudgedRelay}
-use Rattle.vote_maker.specs.Made.{Basis, entries_under, made, relays_in, with_signature}
-use Rattle.vote_maker.specs.Making.{AsksSigner, IsSigned, fails, vote_limit}
+use Rattle.vote_maker.specs.Made.{Basis, basis, entries_under, made, relays_in, signature_by}
+use Rattle.vote_maker.specs.Making.{fails, vote_limit}
 use Rattle.vote_maker.specs.Relays.{known_relays, measured_for}
 use Rattle.vote_maker.specs.declared.refusal.MakeRefusal.{MakeRefusal}
 use Rattle.vote_maker.specs.declared.refusal.MakeRefusal.TheVariants as refusal
@@ -56,23 +67,28 @@ MeasureAlike relays others = (identity : Fingerprint) → measured_for others id
 abbrev pub Keys : Type 0
 Keys = set.FinSet (slice_cmp nat_cmp)
 
--- whether no relay before has the key of a certificate
-abbrev pub is_free : Keys → Option EdCert → Bool
+-- whether no relay before has a key, where there is one
+abbrev pub is_free : Keys → Option (List ℕ) → Bool
 is_free keys None = true
-is_free keys (Some certificate) = not (set.contains keys certificate.signer)
+is_free keys (Some key) = not (set.contains keys key)
 
--- whether a relay has an entry behind others, of which these are the keys
-abbrev pub is_listed : Keys → Ruling → Option EdCert → Bool
-is_listed keys ruling certificate = not (is_reject ruling) && is_free keys certificate
+-- whether a relay with a key has an entry behind others, of which these are the keys
+abbrev pub is_listed : Keys → Ruling → Option (List ℕ) → Bool
+is_listed keys ruling key = not (is_reject ruling) && is_free keys key
 
--- the keys with that of a certificate
-abbrev pub with_key : Keys → Option EdCert → Keys
+-- the keys with one more, where there is one
+abbrev pub with_key : Keys → Option (List ℕ) → Keys
 with_key keys None = keys
-with_key keys (Some certificate) = set.insert keys certificate.signer
+with_key keys (Some key) = set.insert keys key
 
 -- the keys of relays with that of one more, unless it is rejected
-abbrev pub keys_after : Keys → Ruling → Option EdCert → Keys
-keys_after keys ruling certificate = if is_reject ruling then keys else with_key keys certificate
+abbrev pub keys_after : Keys → Ruling → Option (List ℕ) → Keys
+keys_after keys ruling key = if is_reject ruling then keys else with_key keys key
+
+-- the Ed25519 identity of a relay with a key, where there is one
+abbrev pub opinion_of_key : Option (List ℕ) → EdOpinion
+opinion_of_key None = opinion.None
+opinion_of_key (Some key) = opinion.Key key
 
 -- the entry of a relay, if it has one
 abbrev pub entry_if : Bool → Descriptor → RelayFacts → Flags → List EntryFacts
@@ -82,8 +98,14 @@ entry_if listed d known flags = if listed then made_entry d known flags ∷ [] e
 abbrev pub entries_from : Keys → List JudgedRelay → List EntryFacts
 entries_from keys [] = []
 entries_from keys (one ∷ relays) =
-    entry_if (is_listed keys one.ruled.ruling one.descriptor.identity_ed25519) one.descriptor one.ruled.facts one.flags
-    ++ entries_from (keys_after keys one.ruled.ruling one.descriptor.identity_ed25519) relays
+    entry_if (is_listed keys one.ruled.ruling (signer_of one.descriptor.identity_ed25519)) one.descriptor one.ruled.facts
+    one.flags
+    ++ entries_from (keys_after keys one.ruled.ruling (signer_of one.descriptor.identity_ed25519)) relays
+
+-- These are the entries of the relays from one place to another, behind others that have these keys, and then those keys.
+abbrev pub AreBetween : List JudgedRelay → ℕ → ℕ → Keys → List EntryFacts → Keys → Type 0
+AreBetween relays start end old entries new =
+    entries ++ entries_from new (drop end relays) ≡ entries_from old (drop start relays)
 
 -- there is as much of each: of what is known of relays, of rulings and of flags
 pub record AreAsMany (relays : List Descriptor) (known : List RelayFacts) (rulings : List Ruling)
@@ -94,18 +116,34 @@ pub record AreAsMany (relays : List Descriptor) (known : List RelayFacts) (rulin
 
 -- ---- what the vote says
 
--- These are the entries of relays under some rulings that are allowed.
-pub record HasEntriesUnder (allows : RelayFacts → Ruling → Bool) (measured : List MeasuredRelay)
-    (descriptors : List Descriptor) (now : ℕ) (entries : List EntryFacts) : Type 0 where
+-- the text of entries
+abbrev pub entries_text : List EntryFacts → List ℕ
+entries_text entries = items_text (entries_items entries)
+
+-- the text that is signed before its entries
+abbrev pub front_text : VoteFacts → List ℕ → List ℕ
+front_text facts bytes = items_text (preamble_items facts) ++ items_text (authority_items facts) ++ bytes
+
+-- the text that is signed behind its entries
+abbrev pub back_text : List ℕ
+back_text = item_text (bare the.DirectoryFooter []) ++ codes "directory-signature "
+
+-- what a vote says that is made of this, but for its entries
+abbrev pub said_around : StationFacts → ℕ → ℕ → VoteFacts
+said_around station valid_after now = made (basis station [] valid_after now) []
+
+-- The text of the entries of relays under some rulings that are allowed is appended.
+pub record AppendsEntriesUnder (allows : RelayFacts → Ruling → Bool) (measured : List MeasuredRelay)
+    (descriptors : List Descriptor) (now : ℕ) (old new : List ℕ) : Type 0 where
   pub rulings : List Ruling
   pub allowed : AreAllowed allows (known_relays measured descriptors) rulings
-  pub entries_are : entries ≡ entries_under measured descriptors now rulings
+  pub new_is : new ≡ old ++ entries_text (entries_under measured descriptors now rulings)
 
--- These are what is made of a basis, under some rulings that are allowed.
-pub record IsMadeOf (allows : RelayFacts → Ruling → Bool) (its : Basis) (facts : VoteFacts) : Type 0 where
+-- This is the text that is signed of what is made of a basis, under some rulings that are allowed.
+pub record IsSignedPart (allows : RelayFacts → Ruling → Bool) (its : Basis) (text : List ℕ) : Type 0 where
   pub rulings : List Ruling
   pub allowed : AreAllowed allows (relays_in its) rulings
-  pub facts_are : facts ≡ made its rulings
+  pub text_is : text ≡ made_signed (made its rulings) its.station.certificate_bytes
 
 -- ---- the certificate
 
@@ -117,22 +155,28 @@ IsOfCertificate refusal.VerifierFault = Unit {0}
 IsOfCertificate (refusal.TooLong count) = ⊥
 IsOfCertificate refusal.Memory = ⊥
 
--- ---- signing what is said
+-- ---- signing a text
 
--- The text is that of the vote with the signature that the signer gave.
-pub record IsSignedText {N : Type 0} (gives : Relation) (steps : SignerSteps N) (facts : VoteFacts)
-    (bytes text : List ℕ) (old new : N) : Type 0 where
+-- A signer is asked for the signature of a text by a certificate's signing key, and answers so.
+abbrev pub AsksFor : {N : Type 0} → SignerSteps N → Cert → List ℕ → N → SignAnswer → N → Type 0
+AsksFor steps cert text old result new = steps old kind.Signing cert.signing_key (sha1 text) result new
+
+-- The whole is the text with the signature that the signer gave.
+pub record IsSignedText {N : Type 0} (gives : Relation) (steps : SignerSteps N) (cert : Cert) (text whole : List ℕ)
+    (old new : N) : Type 0 where
   pub signature : List ℕ
-  pub signed : IsSigned gives steps facts bytes signature old new
-  pub text_is : text ≡ made_text (with_signature facts signature) bytes
+  pub given : gives kind.Signing cert.signing_key (sha1 text) signature ≡ true
+  pub short : length signature ≤ signature_limit
+  pub asked : AsksFor steps cert text old (sign.Signed signature) new
+  pub whole_is : whole ≡ text ++ signature_rest (signature_by cert signature)
 
--- Why a vote that says this is not signed: the signer failed; the text would be too long; want of memory, before the
--- signer was asked or behind that.
-abbrev pub RefusesToSign : {N : Type 0} → Relation → SignerSteps N → VoteFacts → List ℕ → MakeRefusal → N → N → Type 0
-RefusesToSign gives steps facts bytes (refusal.OwnCert found) old new = ⊥
-RefusesToSign gives steps facts bytes refusal.SignerFault old new = AsksSigner steps facts bytes old sign.Fault new
-RefusesToSign gives steps facts bytes refusal.VerifierFault old new = ⊥
-RefusesToSign gives steps facts bytes (refusal.TooLong count) old new =
-    (text : List ℕ) × IsSignedText gives steps facts bytes text old new × (count ≡ length text) × (vote_limit < count)
-RefusesToSign gives steps facts bytes refusal.Memory old new =
-    (new ≡ old) ⊎ ((result : SignAnswer) × AsksSigner steps facts bytes old result new)
+-- Why a text is not signed: the signer failed; the whole would be too long; want of memory, before the signer was asked or
+-- behind that.
+abbrev pub RefusesToSign : {N : Type 0} → Relation → SignerSteps N → Cert → List ℕ → MakeRefusal → N → N → Type 0
+RefusesToSign gives steps cert text (refusal.OwnCert found) old new = ⊥
+RefusesToSign gives steps cert text refusal.SignerFault old new = AsksFor steps cert text old sign.Fault new
+RefusesToSign gives steps cert text refusal.VerifierFault old new = ⊥
+RefusesToSign gives steps cert text (refusal.TooLong count) old new =
+    (whole : List ℕ) × IsSignedText gives steps cert text whole old new × (count ≡ length whole) × (vote_limit < count)
+RefusesToSign gives steps cert text refusal.Memory old new =
+    (new ≡ old) ⊎ ((result : SignAnswer) × AsksFor steps cert text old result new)

@@ -2,10 +2,10 @@
 ghost use Rattle.std.specs.Prelude.{◌≡◌, IfOk, [], ◌∷◌, take};
 ghost use Rattle.dir_values.specs.Ports.{summary_text};
 ghost use Rattle.vote_maker.specs.Entries as entries;
+ghost use Rattle.vote_maker.specs.Private as walks;
 
 use crate::copies::{copy, copy_if};
 use crate::version::version_of;
-use descriptor_doc::EdCert;
 use dir_bytes::{Memory, Seq, Text};
 use dir_values::{Digest2, PortSummary};
 use flag_rules::{Flags, RelayFacts};
@@ -61,11 +61,11 @@ fn micro_lines(alloc: Global, digest: &Digest2) -> Result<Seq<MicroFacts>, Memor
 }
 
 /// The Ed25519 identity, where there is one.
-fn opinion_of(certificate: &Option<EdCert>) -> EdOpinion
-    ensures { result ≡ entries.opinion_of certificate.now }
+fn opinion_of(key: &Option<[u8; 32]>) -> EdOpinion
+    ensures { result ≡ walks.opinion_of_key key.now }
 {
-    match certificate {
-        Some(certificate) => EdOpinion::Key(certificate.signer),
+    match key {
+        Some(key) => EdOpinion::Key(*key),
         None => EdOpinion::None,
     }
 }
@@ -84,6 +84,7 @@ fn bandwidths_of(known: &RelayFacts) -> Bandwidths
 ///
 /// # Errors
 /// `Memory` is want of memory.
+#[tactic(auto, using(crate::proofs::Signers::opinion_by_key))]
 pub(crate) fn made_entry<V: Verifier>(
     alloc: Global,
     entry: &PoolEntry<V>,
@@ -108,6 +109,6 @@ pub(crate) fn made_entry<V: Verifier>(
         bandwidths: Some(bandwidths_of(known)),
         policy: Some(policy_text(alloc, entry.summary())?),
         micros: micro_lines(alloc, entry.micro_digest())?,
-        ed: opinion_of(&descriptor.identity_ed25519),
+        ed: opinion_of(&descriptor.ed_key),
     })
 }

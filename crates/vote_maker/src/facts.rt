@@ -1,17 +1,17 @@
-// What the vote says.
-ghost use Rattle.std.specs.Prelude.{◌≡◌, ◌≤◌, [], IfOk};
+// What the vote says, and the text of it that is signed.
+ghost use Rattle.std.specs.Prelude.{◌≡◌, ◌≤◌, [], IfOk, OnOk};
 ghost use Rattle.dir_bytes.specs.Causes.{last_moment};
 ghost use Rattle.flag_rules.specs.Rules.{KeepsTo};
 ghost use Rattle.vote_schedule.specs.Moments.{valid_until};
 ghost use Rattle.vote_schedule.specs.Schedules.{IsSchedule};
 ghost use Rattle.vote_maker.specs.Made as terms;
-ghost use Rattle.vote_maker.specs.Private.{HasEntriesUnder, IsMadeOf};
+ghost use Rattle.vote_maker.specs.Private as walks;
 
 use crate::copies::{copy, copy_certificate, copy_if, copy_lists};
 use crate::entry::made_methods;
 use crate::known::known_relays;
-use crate::listing::entries_of;
 use crate::measures::Measures;
+use crate::parts::{back, front_of, push_entries_of};
 use authority_certs::Cert;
 use dir_bytes::{Memory, Seq, Text};
 use dir_values::{Algorithm, Digest1, FlagSet};
@@ -19,10 +19,10 @@ use flag_rules::{Flags, Hook, RelayFacts, Rules, Ruling, assign};
 use key_port::Verifier;
 use sha1::Sha1;
 use sha2::Digest;
-use station_input::{MeasuredRelay, StationFacts};
+use station_input::StationFacts;
 use std::alloc::Global;
 use vote_pool::Pool;
-use vote_terms::{EntryFacts, SignatureFacts, VoteFacts};
+use vote_terms::{SignatureFacts, VoteFacts};
 
 /// The flags that the vote knows.
 fn made_flags(alloc: Global) -> Result<FlagSet, Memory>
@@ -57,50 +57,53 @@ fn no_signature(alloc: Global, cert: &Cert) -> SignatureFacts
     }
 }
 
-/// The entries of a pool's relays, each of which the hook was asked of.
+/// Appends the text of the entries of a pool's relays, each of which the hook was asked of, to the front of the vote that says
+/// this around them.
 ///
 /// # Errors
 /// `Memory` is want of memory.
-fn ruled_entries<R: Rules, F: Fn(RelayFacts) -> Ruling, V: Verifier>(
+fn push_ruled<R: Rules, F: Fn(RelayFacts) -> Ruling, V: Verifier>(
+    out: &mut Vec<u8>,
     alloc: Global,
-    measured: &[MeasuredRelay],
+    around: VoteFacts,
+    station: &StationFacts,
     pool: &Pool<V>,
     hook: &Hook<R, F>,
     now: u64,
-) -> Result<Seq<EntryFacts>, Memory>
-    requires { KeepsTo R.allows F.pre F.post hook.now.rules hook.now.ask }
-    ensures { IfOk result (λ entries. HasEntriesUnder (R.allows hook.now.rules) measured.now pool.now.descriptors now entries) }
+) -> Result<(), Memory>
+    requires hook { KeepsTo R.allows F.pre F.post hook.now.rules hook.now.ask }
+    requires front { out.old.items ≡ walks.front_text around station.now.certificate_bytes }
+    ensures { OnOk result (walks.AppendsEntriesUnder (R.allows hook.now.rules) station.now.measured pool.now.descriptors now out.old.items out.new.items) }
 {
-    let measures = Measures::new(alloc, measured)?;
+    let measures = Measures::new(alloc, station.measured.as_slice())?;
     let known = known_relays(alloc, pool, &measures)?;
     let given = assign(alloc, &known, hook, now)?;
-    let entries = entries_of(
+    push_entries_of(
+        out,
         alloc,
+        around,
+        station.certificate_bytes.as_bytes(),
         pool,
         &known,
         given.rulings.as_slice(),
         given.flags.as_slice(),
     )?;
-    Ok(Seq::new(entries))
+    Ok(())
 }
 
-/// What the vote says of an authority that is given this, and holds these descriptors, for the period that begins
-/// then.
+/// What the vote says, but for its entries, of an authority that is given this, for the period that begins then.
 ///
 /// # Errors
 /// `Memory` is want of memory.
-pub(crate) fn made_facts<R: Rules, F: Fn(RelayFacts) -> Ruling, V: Verifier>(
+fn said_around(
     alloc: Global,
     station: &StationFacts,
-    pool: &Pool<V>,
-    hook: &Hook<R, F>,
     valid_after: u64,
     now: u64,
 ) -> Result<VoteFacts, Memory>
     requires schedule { IsSchedule (terms.schedule_in station.now) }
     requires moments { valid_until (terms.schedule_in station.now) valid_after ≤ last_moment }
-    requires hook { KeepsTo R.allows F.pre F.post hook.now.rules hook.now.ask }
-    ensures { IfOk result (λ facts. IsMadeOf (R.allows hook.now.rules) (terms.basis station.now pool.now.descriptors valid_after now) facts) }
+    ensures { IfOk result (λ facts. facts ≡ walks.said_around station.now valid_after now) }
 {
     Ok(VoteFacts {
         methods: Some(made_methods(alloc)?),
@@ -123,7 +126,33 @@ pub(crate) fn made_facts<R: Rules, F: Fn(RelayFacts) -> Ruling, V: Verifier>(
         random_previous: None,
         random_current: None,
         certificate: copy_certificate(alloc, &station.certificate)?,
-        entries: ruled_entries(alloc, station.measured.as_slice(), pool, hook, now)?,
+        entries: Seq::new(Vec::new(alloc)),
         signature: no_signature(alloc, &station.certificate),
     })
+}
+
+/// The text that is signed of the vote of an authority that is given this, and holds these descriptors, for the period that
+/// begins then. Few of its entries are held at once.
+///
+/// # Errors
+/// `Memory` is want of memory.
+pub(crate) fn signed_part<R: Rules, F: Fn(RelayFacts) -> Ruling, V: Verifier>(
+    alloc: Global,
+    station: &StationFacts,
+    pool: &Pool<V>,
+    hook: &Hook<R, F>,
+    valid_after: u64,
+    now: u64,
+) -> Result<Vec<u8>, Memory>
+    requires schedule { IsSchedule (terms.schedule_in station.now) }
+    requires moments { valid_until (terms.schedule_in station.now) valid_after ≤ last_moment }
+    requires hook { KeepsTo R.allows F.pre F.post hook.now.rules hook.now.ask }
+    ensures { IfOk result (λ text. walks.IsSignedPart (R.allows hook.now.rules) (terms.basis station.now pool.now.descriptors valid_after now) text.items) }
+{
+    let around = said_around(alloc, station, valid_after, now)?;
+    let certificate = station.certificate_bytes.as_bytes();
+    let mut out = front_of(alloc, &around, certificate, pool.len())?;
+    push_ruled(&mut out, alloc, around, station, pool, hook, now)?;
+    out.extend_from_slice(back())?;
+    Ok(out)
 }

@@ -8,6 +8,7 @@ mod known;
 mod listing;
 mod making;
 mod measures;
+mod parts;
 mod refusal;
 mod signing;
 mod version;

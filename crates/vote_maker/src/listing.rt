@@ -1,12 +1,11 @@
 // Which relays have an entry, and their entries.
-ghost use Rattle.std.specs.Prelude.{◌≡◌, ◌<◌, ◌++◌, IfOk, OnOk, length, slice_index_or};
+ghost use Rattle.std.specs.Prelude.{◌≡◌, ◌≤◌, ◌<◌, ◌++◌, IfOk, OnOk, length, slice_index_or};
 ghost use Rattle.flag_rules.specs.Relays.{ruled_relays};
 ghost use Rattle.flag_rules.specs.Rulings.{is_reject};
 ghost use Rattle.vote_maker.specs.Listings as listings;
 ghost use Rattle.vote_maker.specs.Private as walks;
 
 use crate::entry::made_entry;
-use descriptor_doc::EdCert;
 use dir_bytes::Memory;
 use flag_rules::{Flags, RelayFacts, Ruling};
 use key_port::Verifier;
@@ -27,20 +26,16 @@ fn is_rejected(ruling: Ruling) -> bool
 ///
 /// # Errors
 /// `Memory` is want of memory.
-fn note_relay(
-    keys: &mut KeySet,
-    ruling: Ruling,
-    certificate: &Option<EdCert>,
-) -> Result<bool, Memory>
-    ensures listed { IfOk result (λ listed. listed ≡ walks.is_listed keys.old ruling certificate.now) }
-    ensures keys { OnOk result (keys.new ≡ walks.keys_after keys.old ruling certificate.now) }
+fn note_relay(keys: &mut KeySet, ruling: Ruling, key: &Option<[u8; 32]>) -> Result<bool, Memory>
+    ensures listed { IfOk result (λ listed. listed ≡ walks.is_listed keys.old ruling key.now) }
+    ensures keys { OnOk result (keys.new ≡ walks.keys_after keys.old ruling key.now) }
 {
     if is_rejected(ruling) {
         return Ok(false);
     }
-    match certificate {
+    match key {
         None => Ok(true),
-        Some(certificate) => Ok(keys.insert(certificate.signer)?),
+        Some(key) => Ok(keys.insert(*key)?),
     }
 }
 
@@ -88,27 +83,31 @@ fn push_entry_if<V: Verifier>(
     Ok(())
 }
 
-/// The entries of a pool's relays, of which this is known and ruled, with these flags. Flags stand for all of them,
-/// also for those that have no entry.
+/// The entries of the relays of a pool from one place to another, of which this is known and ruled, with these flags, behind
+/// others that have these keys; theirs are put to them.
 ///
 /// # Errors
 /// `Memory` is want of memory.
-pub(crate) fn entries_of<V: Verifier>(
+pub(crate) fn entries_between<V: Verifier>(
+    keys: &mut KeySet,
     alloc: Global,
     pool: &Pool<V>,
     known: &[RelayFacts],
     rulings: &[Ruling],
     flags: &[Flags],
+    start: usize,
+    end: usize,
 ) -> Result<Vec<EntryFacts>, Memory>
-    requires { walks.AreAsMany pool.now.descriptors known.now rulings.now flags.now }
-    ensures { IfOk result (λ entries. entries.items ≡ listings.made_entries (listings.judged_relays pool.now.descriptors (ruled_relays known.now rulings.now) flags.now)) }
+    requires many { walks.AreAsMany pool.now.descriptors known.now rulings.now flags.now }
+    requires order { start ≤ end }
+    requires within { end ≤ length pool.now.descriptors }
+    ensures { IfOk result (λ entries. walks.AreBetween (listings.judged_relays pool.now.descriptors (ruled_relays known.now rulings.now) flags.now) start end keys.old entries.items keys.new) }
 {
-    let mut keys = KeySet::new(alloc);
-    let mut entries = Vec::with_capacity(alloc, pool.len())?;
-    'relays: for i in 0..pool.len() {
+    let mut entries = Vec::with_capacity(alloc, end - start)?;
+    'relays: for i in start..end {
         let entry = pool.entry(i);
-        let certificate = &entry.descriptor().identity_ed25519;
-        let listed = note_relay(&mut keys, ruling_at(rulings, i), certificate)?;
+        let key = &entry.descriptor().ed_key;
+        let listed = note_relay(keys, ruling_at(rulings, i), key)?;
         push_entry_if(
             &mut entries,
             alloc,

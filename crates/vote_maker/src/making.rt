@@ -10,7 +10,7 @@ ghost use Rattle.vote_maker.specs.Made as terms;
 ghost use Rattle.vote_maker.specs.Making as answers;
 ghost use Rattle.vote_maker.specs.Private.{IsOfCertificate};
 
-use crate::facts::made_facts;
+use crate::facts::signed_part;
 use crate::refusal::MakeRefusal;
 use crate::signing::signed_vote;
 use authority_certs::{Cert, CertAnswer, check};
@@ -75,7 +75,6 @@ pub fn make<R: Rules, F: Fn(RelayFacts) -> Ruling, V: Verifier, N: Signer>(
         Ok(()) => (),
         Err(refusal) => return Err(refusal),
     }
-    let facts = made_facts(alloc, station, pool, hook, valid_after, now)?;
-    let certificate = station.certificate_bytes.as_bytes();
-    signed_vote(alloc, &facts, certificate, signer)
+    let text = signed_part(alloc, station, pool, hook, valid_after, now)?;
+    signed_vote(alloc, text, &station.certificate, signer)
 }

@@ -14,8 +14,6 @@ use key_port::{KeyKind, SignAnswer, Signer};
 use sha1::Sha1;
 use sha2::Digest;
 use std::alloc::Global;
-use vote_terms::VoteFacts;
-use vote_text::write_signed;
 
 /// How many bytes a vote may have.
 const MAX_VOTE: u64 = 16_777_216;
@@ -52,32 +50,31 @@ fn if_fits(text: Vec<u8>) -> Result<Vec<u8>, MakeRefusal>
     Ok(text)
 }
 
-/// The text of the vote that says this, with these bytes of its certificate, signed by the signer with the
-/// certificate's signing key over the SHA-1 of what is signed. The signer is asked once.
+/// The text, signed by the signer with the certificate's signing key over its SHA-1. The signer is asked once.
 ///
 /// # Errors
 /// `SignerFault` only where the signer's count of faults rose, and wherever it is greater; `TooLong` exactly where
-/// the text is longer than a vote may be; `Memory` is want of memory, before the signer is asked or behind that.
+/// the signed text is longer than a vote may be; `Memory` is want of memory, before the signer is asked or behind that.
 pub(crate) fn signed_vote<N: Signer>(
     alloc: Global,
-    facts: &VoteFacts,
-    certificate: &[u8],
+    text: Vec<u8>,
+    cert: &Cert,
     signer: &mut N,
 ) -> Result<Vec<u8>, MakeRefusal>
-    ensures signed { IfOk result (λ text. IsSignedText N.may_give N.steps facts.now certificate.now text.items signer.old signer.new) }
-    ensures fits { IfOk result (λ text. length text.items ≤ vote_limit) }
-    ensures refused { IfErr result (λ refusal. RefusesToSign N.may_give N.steps facts.now certificate.now refusal signer.old signer.new) }
+    ensures signed { IfOk result (λ whole. IsSignedText N.may_give N.steps cert.now text.items whole.items signer.old signer.new) }
+    ensures fits { IfOk result (λ whole. length whole.items ≤ vote_limit) }
+    ensures refused { IfErr result (λ refusal. RefusesToSign N.may_give N.steps cert.now text.items refusal signer.old signer.new) }
     ensures fault { IfErr result (λ refusal. refusal ≡ MakeRefusal.SignerFault → Rose (N.faults signer.old) (N.faults signer.new)) }
     ensures faults { N.faults signer.old ≤ N.faults signer.new }
     ensures told { N.faults signer.old < N.faults signer.new → result ≡ Err MakeRefusal.SignerFault }
 {
-    let mut text = write_signed(alloc, facts, certificate)?;
     let digest = Sha1::digest(text.as_slice());
-    let key = facts.certificate.signing_key.as_bytes();
+    let key = cert.signing_key.as_bytes();
     match signer.sign(alloc, KeyKind::Signing, key, &digest) {
         SignAnswer::Signed(signature) => {
-            push_signature(&mut text, &facts.certificate, &signature)?;
-            if_fits(text)
+            let mut whole = text;
+            push_signature(&mut whole, cert, &signature)?;
+            if_fits(whole)
         }
         SignAnswer::Fault => Err(MakeRefusal::SignerFault),
         SignAnswer::Memory => Err(MakeRefusal::Memory),

@@ -4,62 +4,70 @@ ghost use Rattle.exit_summary.specs.Summaries.{summary_of};
 ghost use Rattle.key_port.specs.Answers.{rules};
 ghost use Rattle.descriptor_doc.specs.Checks.{IsVerified};
 ghost use Rattle.descriptor_doc.specs.Reading.{IsRead};
+ghost use Rattle.vote_pool.specs.Kept.{IsHeld, kept_of};
 ghost use Rattle.vote_pool.specs.Ranks.{rank_of_descriptor};
 ghost use Rattle.vote_pool.specs.Summaries.{micro_digest_of, micro_text_of};
 
+use crate::kept::KeptDescriptor;
 use crate::rank::DescriptorRank;
-use descriptor_doc::{CheckedDescriptor, Descriptor};
+use descriptor_doc::Descriptor;
 use dir_bytes::Text;
 use dir_values::{Digest2, Fingerprint, PortSummary};
 use key_port::Verifier;
-use std::marker::Model;
+use std::marker::{Model, PhantomData};
+use std::snapshot::Snapshot;
 
 /// What a pool keeps of a relay.
 #[derive(Drop)]
-pub(crate) struct Prepared<V: Verifier> {
-    pub(crate) descriptor: CheckedDescriptor<V>,
+pub(crate) struct Prepared {
+    pub(crate) kept: KeptDescriptor,
     pub(crate) summary: PortSummary,
     pub(crate) micro: Text,
     pub(crate) micro_digest: Digest2,
 }
 
-/// A relay's descriptor, which holds under a verifier, with the summary of its exit policy, and the text and the digest of
-/// its microdescriptor. Contracts see it as the descriptor. To move it is to move a pointer.
+/// What is kept of a relay's descriptor, which holds under a verifier, with the summary of its exit policy, and the text and
+/// the digest of its microdescriptor. Contracts see it as the descriptor. To move it is to move a pointer.
 #[derive(Drop)]
 pub struct PoolEntry<V: Verifier> {
-    prepared: Box<Prepared<V>>,
+    prepared: Box<Prepared>,
+    descriptor: Snapshot<Descriptor>,
+    verifier: PhantomData<V>,
 }
 
 impl<V: Verifier> Model for PoolEntry<V> {
+    ghost use Rattle.key_port.specs.Answers.{rules};
     ghost use Rattle.descriptor_doc.specs.declared.descriptor.Descriptor.{Descriptor};
-    ghost use Rattle.vote_pool.specs.Summaries.{IsPrepared};
+    ghost use Rattle.vote_pool.specs.Kept.{IsHeld};
 
     ghost Value = { Descriptor };
 
-    ghost view = { λ e. e.prepared.value.descriptor };
+    ghost view = { λ e. e.descriptor.value };
 
-    ghost invariant = { λ e. IsPrepared e.prepared.value.descriptor e.prepared.value.summary e.prepared.value.micro
-        e.prepared.value.micro_digest };
+    ghost invariant = { λ e. IsHeld (rules V.may_accept V.may_refuse) e.descriptor.value e.prepared.value.kept
+        e.prepared.value.summary e.prepared.value.micro e.prepared.value.micro_digest };
 }
 
 impl<V: Verifier> PoolEntry<V> {
-    /// What was prepared, as one that a pool may keep.
-    pub(crate) fn new(prepared: Box<Prepared<V>>) -> PoolEntry<V>
-        requires summary { prepared.value.summary ≡ summary_of prepared.value.descriptor.policy }
-        requires micro { prepared.value.micro ≡ micro_text_of prepared.value.descriptor }
-        requires digest { prepared.value.micro_digest ≡ micro_digest_of prepared.value.descriptor }
-        ensures { result ≡ prepared.value.descriptor }
+    /// What was prepared of a descriptor, as one that a pool may keep.
+    pub(crate) fn new(prepared: Box<Prepared>, descriptor: Snapshot<Descriptor>) -> PoolEntry<V>
+        requires held { IsHeld (rules V.may_accept V.may_refuse) descriptor.value prepared.value.kept prepared.value.summary prepared.value.micro prepared.value.micro_digest }
+        ensures { result ≡ descriptor.value }
     {
-        PoolEntry { prepared }
+        PoolEntry {
+            prepared,
+            descriptor,
+            verifier: PhantomData,
+        }
     }
 
-    /// The descriptor, which was read and holds.
-    pub fn descriptor(&self) -> &Descriptor
-        ensures descriptor { result.now ≡ self.now }
+    /// What is kept of the descriptor, which was read and holds.
+    pub fn descriptor(&self) -> &KeptDescriptor
+        ensures descriptor { result.now ≡ kept_of self.now }
         ensures read { IsRead self.now }
         ensures verified { IsVerified (rules V.may_accept V.may_refuse) self.now }
     {
-        self.prepared.descriptor.descriptor()
+        &self.prepared.kept
     }
 
     /// Which ports its exit policy opens to most addresses (dir-spec, the `p` line).

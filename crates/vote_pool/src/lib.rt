@@ -4,6 +4,7 @@
 mod answers;
 mod entry;
 mod keeping;
+mod kept;
 mod laws;
 mod pool;
 mod preparing;
@@ -11,6 +12,7 @@ mod rank;
 
 pub use answers::Keep;
 pub use entry::PoolEntry;
+pub use kept::KeptDescriptor;
 pub use laws::{changes_are_held, others_stay, replaced_are_older};
 pub use pool::Pool;
 pub use preparing::prepare;

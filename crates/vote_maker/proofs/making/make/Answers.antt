@@ -13,10 +13,9 @@ returns-clause-made g c =
     let checked : c.check_own.result ≡ Ok tt = search rules in
     let certified = certified_by (verifier_rules g.V.Verifier.may_accept g.V.Verifier.may_refuse) c.args.valid_after
     station.certificate c.check_own.result tt checked c.check_own.ensures.certificate in
-    let same : c.as_bytes-certificate.result.now ≡ station.certificate_bytes = search rules in
     ok_both c.signed_vote.result
-    (λ text signed fits. made_by g.N.Signer.may_give g.N.Signer.steps (g.R.Rules.allows c.args.hook.now.rules) its
-    c.in_ok-facts.facts c.as_bytes-certificate.result.now _ _ _ _ certified c.in_ok-facts.ensures same signed fits)
+    (λ whole signed fits. made_by g.N.Signer.may_give g.N.Signer.steps (g.R.Rules.allows c.args.hook.now.rules) its
+    c.in_ok-text.text.items _ _ _ _ certified c.in_ok-text.ensures signed fits)
     c.signed_vote.ensures.signed c.signed_vote.ensures.fits
 
 pub returns-clause-refused : goal.returns-clause-refused
@@ -26,15 +25,14 @@ returns-clause-refused g c =
     let checked : c.check_own.result ≡ Ok tt = search rules in
     let certified = certified_by (verifier_rules g.V.Verifier.may_accept g.V.Verifier.may_refuse) c.args.valid_after
     station.certificate c.check_own.result tt checked c.check_own.ensures.certificate in
-    let same : c.as_bytes-certificate.result.now ≡ station.certificate_bytes = search rules in
     IfErr-weaker c.signed_vote.result _ _
     (λ why is. refuses_by g.N.Signer.may_give g.N.Signer.steps (g.R.Rules.allows c.args.hook.now.rules) its
-    c.in_ok-facts.facts c.as_bytes-certificate.result.now _ why _ _ certified c.in_ok-facts.ensures same is)
+    c.in_ok-text.text.items _ why _ _ certified c.in_ok-text.ensures is)
     c.signed_vote.ensures.refused
 
 pub returns-clause-asked : goal.returns-clause-asked
 returns-clause-asked g c =
     let checked : c.check_own.result ≡ Ok tt = search rules in
     asked_by g.N.Signer.may_give g.N.Signer.steps g.V.Verifier.steps c.args.station.now.certificate _ _ tt
-    c.check_own.result c.in_ok-facts.facts c.as_bytes-certificate.result.now _ _ c.signed_vote.result checked
+    c.check_own.result c.args.station.now.certificate c.in_ok-text.text.items _ _ c.signed_vote.result checked
     c.check_own.ensures.asked c.signed_vote.ensures.refused

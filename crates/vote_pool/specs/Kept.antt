@@ -1,0 +1,41 @@
+-- What a pool keeps of a descriptor.
+use Rattle.std.specs.Prelude.{◌≡◌, ℕ, List, Option, Some, None}
+use Rattle.dir_values.specs.Ports.{Ports}
+use Rattle.dir_values.specs.declared.digest.Digest2.{Digest2}
+use Rattle.ed_certs.specs.declared.certificate.EdCert.{EdCert}
+use Rattle.key_port.specs.Answers.{Rules}
+use Rattle.descriptor_doc.specs.Checks.{IsChecked}
+use Rattle.descriptor_doc.specs.declared.descriptor.Descriptor.{Descriptor}
+use Rattle.vote_pool.specs.declared.kept.KeptDescriptor.{KeptDescriptor}
+use Rattle.vote_pool.specs.Summaries.{IsPrepared}
+
+-- the signer of a certificate, where there is one
+abbrev pub signer_of : Option EdCert → Option (List ℕ)
+signer_of None = None
+signer_of (Some certificate) = Some certificate.signer
+
+-- what is kept of a descriptor
+abbrev pub kept_of : Descriptor → KeptDescriptor
+kept_of d = record {
+  router = d.router;
+  ed_key = signer_of d.identity_ed25519;
+  platform = d.platform;
+  published = d.published;
+  uptime = d.uptime;
+  bandwidth = d.bandwidth;
+  hibernating = d.hibernating;
+  or_addresses = d.or_addresses;
+  tunnelled_dir_server = d.tunnelled_dir_server;
+  proto = d.proto;
+  identity = d.identity;
+  digest = d.digest;
+  text = d.text;
+}
+
+-- This is what is kept of a descriptor that was checked, the summary of its exit policy, and the text and the digest of
+-- its microdescriptor.
+pub record IsHeld (rules : Rules) (descriptor : Descriptor) (kept : KeptDescriptor) (summary : Ports) (micro : List ℕ)
+    (digest : Digest2) : Type 0 where
+  pub checked : IsChecked rules descriptor
+  pub kept_is : kept ≡ kept_of descriptor
+  pub prepared : IsPrepared descriptor summary micro digest
