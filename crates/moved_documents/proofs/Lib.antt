@@ -1,0 +1,3 @@
+pub mod MovedRows
+pub mod MovedMakes
+pub mod MovedReading
