@@ -49,16 +49,19 @@ beyond_moved n start None item = refl
 beyond_moved n start (Some limit) item =
     let size : (n + item.after) - (n + start) ≡ item.after - start = omega arith in
     let place : (n + start) + limit_number limit ≡ n + (start + limit_number limit) = omega arith in
-    (λ i. if nat_lt (limit_number limit) (size i) then Some (record { place = place i; reason = TooMany limit }) else None)
+    (λ i. if nat_lt (limit_number limit) (size i) then Some (record { place = place i; reason = TooMany limit })
+    else None)
     ∙ by (nat_lt (limit_number limit) (item.after - start))
   where
     by : (t : Bool)
         → (if t then Some (record { place = n + (start + limit_number limit); reason = TooMany limit }) else None)
-        ≡ moved_fault_if n (if t then Some (record { place = start + limit_number limit; reason = TooMany limit }) else None)
+        ≡ moved_fault_if n (if t then Some (record { place = start + limit_number limit; reason = TooMany limit })
+        else None)
     by true = refl
     by false = refl
 
-module _ {S K V X : Type 0} (tables : Tables S K V X) (move : ℕ → V → V) (moves : MovesSo tables move) (n : ℕ) (across : X) where
+module _ {S K V X : Type 0} (tables : Tables S K V X) (move : ℕ → V → V) (moves : MovesSo tables move) (n : ℕ)
+    (across : X) where
   abbrev pub result_moved : Result (Made S V) ReadRefusal → Result (Made S V) ReadRefusal
   result_moved r = moved_result n (moved_made move n) r
 
@@ -70,9 +73,11 @@ module _ {S K V X : Type 0} (tables : Tables S K V X) (move : ℕ → V → V) (
   beyond_inside_moved item None = refl
   beyond_inside_moved item (Some section) = beyond_moved n item.place ((tables.shape section).limit) item
 
-  beyond_inner_moved : (section : S) (one : Taken V) (taken : List (Taken V)) (around : Option (Group S V)) (item : Item)
+  beyond_inner_moved : (section : S) (one : Taken V) (taken : List (Taken V)) (around : Option (Group S V))
+      (item : Item)
       (word : Option Keyword)
-      → beyond_inner tables section (all_moved move n (one ∷ taken)) (moved_around move n around) (moved_item n item) word
+      → beyond_inner tables section (all_moved move n (one ∷ taken)) (moved_around move n around)
+      (moved_item n item) word
       ≡ moved_fault_if n (beyond_inner tables section (one ∷ taken) around item word)
   beyond_inner_moved section one taken None item None = refl
   beyond_inner_moved section one taken None item (Some keyword) =
@@ -84,12 +89,14 @@ module _ {S K V X : Type 0} (tables : Tables S K V X) (move : ℕ → V → V) (
 
   -- ---- an item of a row of the section that is open
 
-  goes_on_moved : (section : S) (taken : List (Taken V)) (around : Option (Group S V)) (item : Item) (row : Row K) (a : Again)
+  goes_on_moved : (section : S) (taken : List (Taken V)) (around : Option (Group S V)) (item : Item) (row : Row K)
+      (a : Again)
       → goes_on tables across (open_moved section taken around) (moved_item n item) row a
       ≡ result_moved (goes_on tables across (opened section taken around) item row a)
   goes_on_moved section taken around item row again.Nothing =
       let inside = inner tables section row.keyword in
-      accepted_moved tables move moves n across row taken item (enters inside) (enters inside) (enters_moved move n inside)
+      accepted_moved tables move moves n across row taken item (enters inside) (enters inside)
+      (enters_moved move n inside)
   goes_on_moved section taken around item row again.Section =
       let there = as_made (Opens section) (accept tables across row [] (moved_item n item)) in
       let here = as_made (Opens section) (accept tables across row [] item) in
@@ -100,7 +107,8 @@ module _ {S K V X : Type 0} (tables : Tables S K V X) (move : ℕ → V → V) (
       ∙ unless_moved move n item.place lacks here
   goes_on_moved section taken around item row again.Document =
       let lacks = lacking (tables.rows section) taken in
-      ap (λ (k : Option Keyword). unless (n + item.place) k (Ok Stops)) (lacking_moved move n (tables.rows section) taken)
+      ap (λ (k : Option Keyword). unless (n + item.place) k (Ok Stops))
+      (lacking_moved move n (tables.rows section) taken)
       ∙ unless_moved move n item.place lacks (Ok Stops)
 
   in_section_moved : (section : S) (taken : List (Taken V)) (around : Option (Group S V)) (item : Item) (row : Row K)
@@ -120,7 +128,8 @@ module _ {S K V X : Type 0} (tables : Tables S K V X) (move : ℕ → V → V) (
       again_ = begins_again tables section row
 
       by : (t : Bool)
-          → (if t then unless (n + item.place) (lacking_but (tables.rows section) row.keyword (all_moved move n taken)) there
+          → (if t then unless (n + item.place) (lacking_but (tables.rows section) row.keyword
+          (all_moved move n taken)) there
           else goes_on tables across (open_moved section taken around) (moved_item n item) row again_)
           ≡ result_moved (if t then unless item.place (lacking_but (tables.rows section) row.keyword taken) here
           else goes_on tables across (opened section taken around) item row again_)
@@ -136,7 +145,8 @@ module _ {S K V X : Type 0} (tables : Tables S K V X) (move : ℕ → V → V) (
 
   -- ---- an item of none of its rows
 
-  elsewhere_moved : (section : S) (taken : List (Taken V)) (around : Option (Group S V)) (item : Item) (keyword : Keyword)
+  elsewhere_moved : (section : S) (taken : List (Taken V)) (around : Option (Group S V)) (item : Item)
+      (keyword : Keyword)
       (other : Option S)
       → elsewhere tables across (open_moved section taken around) (moved_item n item) keyword other
       ≡ result_moved (elsewhere tables across (opened section taken around) item keyword other)
@@ -172,7 +182,8 @@ module _ {S K V X : Type 0} (tables : Tables S K V X) (move : ℕ → V → V) (
       ∙ by (tables.ignores row.kind item)
     where
       by : (t : Bool)
-          → (if t then Ok Passes else in_section tables across (open_moved section taken around) (moved_item n item) row)
+          → (if t then Ok Passes else in_section tables across (open_moved section taken around) (moved_item n item)
+          row)
           ≡ result_moved (if t then Ok Passes else in_section tables across (opened section taken around) item row)
       by true = refl
       by false = in_section_moved section taken around item row

@@ -6,7 +6,8 @@ use Rattle.std.proofs.Math.Seq.{drop-append-add}
 use Rattle.item_terms.specs.Items.{Contents, Item, contents, items_from, nothing}
 use Rattle.item_terms.specs.declared.fault.DocFault.{DocFault}
 use Rattle.frame_terms.specs.Decisions.{made_by}
-use Rattle.frame_terms.specs.Documents.{Document, after_made, after_noted, at_end, closed_at, document_of, go_on, group}
+use Rattle.frame_terms.specs.Documents.{Document, after_made, after_noted, at_end, closed_at, document_of, go_on}
+use Rattle.frame_terms.specs.Documents.{group}
 use Rattle.frame_terms.specs.Documents.{missing_at_end, note_of_made, onto, read_items}
 use Rattle.frame_terms.specs.Order.{first_of, following, must_open}
 use Rattle.frame_terms.specs.Tables.{Tables}
@@ -38,7 +39,8 @@ module _ {S K V X : Type 0} (tables : Tables S K V X) (move : ℕ → V → V) (
   onto_moved g (Err refusal) = refl
 
   note_moved : (made : Made S V) (across : X)
-      → note_of_made tables (moved_made move n made) across ≡ moved_or n (λ after. after) (note_of_made tables made across)
+      → note_of_made tables (moved_made move n made) across
+      ≡ moved_or n (λ after. after) (note_of_made tables made across)
   note_moved Passes across = refl
   note_moved (Pushes one) across = moves.noted n across one
   note_moved (Opens next one) across = moves.noted n across one
@@ -88,7 +90,8 @@ module _ {S K V X : Type 0} (tables : Tables S K V X) (move : ℕ → V → V) (
 
   -- ---- where the input ends
 
-  at_end_moved : (length_ : ℕ) (section : S) (taken : List (Taken V)) (around : Option (Group S V)) (fault : Option DocFault)
+  at_end_moved : (length_ : ℕ) (section : S) (taken : List (Taken V)) (around : Option (Group S V))
+      (fault : Option DocFault)
       → at_end tables (n + length_) (opened section (all_moved move n taken) (moved_around move n around))
       (moved_fault_if n fault)
       ≡ document_moved (at_end tables length_ (opened section taken around) fault)
@@ -123,7 +126,8 @@ module _ {S K V X : Type 0} (tables : Tables S K V X) (move : ℕ → V → V) (
       (made_by tables across (opened section taken around) item)
     where
       there : X → Open S V → Result (Document S V) ReadRefusal
-      there remembered next = read_items tables (n + length_) remembered next (moved_fault_if n fault) (moved_items n items)
+      there remembered next = read_items tables (n + length_) remembered next (moved_fault_if n fault)
+          (moved_items n items)
 
       here : X → Open S V → Result (Document S V) ReadRefusal
       here remembered next = read_items tables length_ remembered next fault items

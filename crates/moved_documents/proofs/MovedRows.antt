@@ -1,5 +1,6 @@
 -- An item of a row of a section is taken the same so many bytes further on.
-use Rattle.std.proofs.Common.{◌≡◌, ℕ, ◌+◌, Bool, true, false, List, [], ◌∷◌, length, Option, Some, None, Result, Ok, Err}
+use Rattle.std.proofs.Common.{◌≡◌, ℕ, ◌+◌, Bool, true, false, List, [], ◌∷◌, length, Option, Some, None, Result, Ok}
+use Rattle.std.proofs.Common.{Err}
 use Rattle.std.proofs.Common.{refl, ap, ◌∙◌, arith}
 use Rattle.std.specs.Prelude.{map, not, ◌&&◌, ◌||◌, if◌then◌else◌}
 use Rattle.std.specs.List.{find}
@@ -28,7 +29,8 @@ module _ {V : Type 0} (move : ℕ → V → V) (n : ℕ) where
   abbrev pub all_moved : List (Taken V) → List (Taken V)
   all_moved taken = map (moved_taken move n) taken
 
-  pub stands_moved : (keyword : Keyword) (taken : List (Taken V)) → stands keyword (all_moved taken) ≡ stands keyword taken
+  pub stands_moved : (keyword : Keyword) (taken : List (Taken V))
+      → stands keyword (all_moved taken) ≡ stands keyword taken
   stands_moved keyword [] = refl
   stands_moved keyword (one ∷ taken) = ap (λ (t : Bool). same one.keyword keyword || t) (stands_moved keyword taken)
 
@@ -96,7 +98,8 @@ module _ {S V : Type 0} (move : ℕ → V → V) (n : ℕ) where
 
 -- ---- an item of a row
 
-module _ {S K V X : Type 0} (tables : Tables S K V X) (move : ℕ → V → V) (moves : MovesSo tables move) (n : ℕ) (across : X) where
+module _ {S K V X : Type 0} (tables : Tables S K V X) (move : ℕ → V → V) (moves : MovesSo tables move) (n : ℕ)
+    (across : X) where
   pub accept_moved : (row : Row K) (taken : List (Taken V)) (item : Item)
       → accept tables across row (all_moved move n taken) (moved_item n item)
       ≡ moved_result n (moved_taken move n) (accept tables across row taken item)
