@@ -1,0 +1,13 @@
+// What holds of the bytes of a vote inside an input.
+ghost use Rattle.whole_votes.specs.Whole.{FaultyVotesStand, WholeVotesStand};
+
+/// A law: bytes that are a whole vote are that vote, wherever they stand in an input, and whatever follows them.
+pub fn whole_votes_stand()
+    ensures { WholeVotesStand }
+{}
+
+/// A law: bytes that are faulty are refused for one and the same fault, wherever they stand in an input, and whatever
+/// follows them.
+pub fn faulty_votes_stand()
+    ensures { FaultyVotesStand }
+{}
