@@ -1,0 +1,4 @@
+pub mod Lasts
+pub mod LastPart
+pub mod EndedVotes
+pub mod BlankVotes
