@@ -25,7 +25,12 @@ fn a_link_gets_what_a_peer_sends(rt: HostRuntime) -> Result<(), Fail> {
     let peer = format!(in alloc; "{address}")?;
     let (answer, answered) = thread::join(
         &rt,
-        || TcpLink::new(&rt).exchange(alloc, peer.as_bytes(), b"GET / HTTP/1.0\r\n\r\n", 100),
+        || TcpLink::new(alloc, &rt).exchange(
+            alloc,
+            peer.as_bytes(),
+            b"GET / HTTP/1.0\r\n\r\n",
+            100,
+        ),
         || answer_one(&listener),
     );
     match answer {
@@ -34,7 +39,7 @@ fn a_link_gets_what_a_peer_sends(rt: HostRuntime) -> Result<(), Fail> {
     }
     // Nobody listens, and no address.
     for nobody in [b"127.0.0.1:1".as_slice(), b"nowhere"] {
-        match TcpLink::new(&rt).exchange(alloc, nobody, b"GET / HTTP/1.0\r\n\r\n", 100) {
+        match TcpLink::new(alloc, &rt).exchange(alloc, nobody, b"GET / HTTP/1.0\r\n\r\n", 100) {
             LinkAnswer::Fault => {}
             _ => return Err(Fail::new("an answer of nobody")),
         }

@@ -15,25 +15,77 @@ use std::time::Duration;
 
 /// How long a connection may take to be made, and a read or a write to wait.
 fn step() -> Duration {
-    Duration::from_secs(10)
+    Duration::from_secs(5)
 }
 
 /// How long a request may take to be sent, and a response to come.
 fn whole() -> Duration {
-    Duration::from_secs(60)
+    Duration::from_secs(20)
 }
 
-/// A link over TCP. It fails where the peer takes too long.
+/// How long a peer is left alone once it has failed.
+fn rest() -> Duration {
+    Duration::from_secs(30)
+}
+
+/// A peer that has failed, and how long it is left alone.
+#[derive(Drop)]
+struct Resting {
+    peer: Vec<u8>,
+    time: Deadline,
+}
+
+/// A link over TCP. It fails where the peer takes too long, and then at once for a while, so that one slow peer does not hold up
+/// what is asked of the others.
 #[derive(Drop)]
 pub struct TcpLink<'a, R> {
     runtime: &'a R,
+    /// The peers that failed lately, the first of them first.
+    resting: Vec<Resting>,
     faults: u64,
 }
 
 impl<'a, R: Net + Clock> TcpLink<'a, R> {
     /// A link that has not failed yet.
-    pub fn new(runtime: &'a R) -> TcpLink<'a, R> {
-        TcpLink { runtime, faults: 0 }
+    pub fn new(alloc: Global, runtime: &'a R) -> TcpLink<'a, R> {
+        TcpLink {
+            runtime,
+            resting: Vec::new(alloc),
+            faults: 0,
+        }
+    }
+
+    /// Whether a peer failed so lately that it is left alone.
+    fn rests(&self, peer: &[u8]) -> bool {
+        for resting in &self.resting {
+            if resting.peer.as_slice() == peer && !resting.time.is_over(self.runtime) {
+                return true;
+            }
+        }
+        false
+    }
+
+    /// Forgets the peers that have been left alone long enough.
+    fn forget(&mut self)
+        ensures { self.new.faults ≡ self.old.faults }
+    {
+        for _ in 0..self.resting.len() {
+            match self.resting.first() {
+                Some(first) if first.time.is_over(self.runtime) => drop(self.resting.remove(0)),
+                _ => break,
+            }
+        }
+    }
+
+    /// Leaves a peer alone from now on, where there is memory to remember it.
+    fn let_rest(&mut self, alloc: Global, peer: &[u8])
+        ensures { self.new.faults ≡ self.old.faults }
+    {
+        self.forget();
+        if let Ok(peer) = peer.to_vec(alloc) {
+            let time = Deadline::new(self.runtime, rest());
+            let _ = self.resting.push(Resting { peer, time });
+        }
     }
 
     /// A connection to a peer, twice: to read and to write.
@@ -74,6 +126,18 @@ impl<'a, R: Net + Clock> TcpLink<'a, R> {
             Err(ReadAllFault::Memory) => LinkAnswer::Memory,
         }
     }
+
+    /// What a peer sends. One that fails is left alone for a while.
+    fn ask_once(&mut self, alloc: Global, peer: &[u8], request: &[u8], limit: u64) -> LinkAnswer
+        ensures answer { GotWithin limit result }
+        ensures faults { self.new.faults ≡ self.old.faults }
+    {
+        let answer = self.ask(alloc, peer, request, limit);
+        if let LinkAnswer::Fault = &answer {
+            self.let_rest(alloc, peer);
+        }
+        answer
+    }
 }
 
 impl<'a, R: Net + Clock> Link for TcpLink<'a, R> {
@@ -84,7 +148,11 @@ impl<'a, R: Net + Clock> Link for TcpLink<'a, R> {
     ghost steps = { λ before peer request limit answer after. ⊤ };
 
     fn exchange(&mut self, alloc: Global, peer: &[u8], request: &[u8], limit: u64) -> LinkAnswer {
-        let answer = self.ask(alloc, peer, request, limit);
+        let answer = if self.rests(peer) {
+            LinkAnswer::Fault
+        } else {
+            self.ask_once(alloc, peer, request, limit)
+        };
         if let LinkAnswer::Fault = &answer {
             self.faults = self.faults.saturating_add(1);
         }

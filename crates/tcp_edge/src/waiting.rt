@@ -94,18 +94,9 @@ impl Waiting {
         self.missing == 0 || self.ended || self.broken
     }
 
-    /// Reads what has come, unless there are too many bytes, and tells how the connection stands.
-    pub(crate) fn visit<R: Clock>(
-        &mut self,
-        runtime: &R,
-        piece: &mut [u8],
-        crowded: bool,
-    ) -> Visit {
-        let moved = if crowded && self.bytes.len() > SMALL {
-            false
-        } else {
-            self.read_on(piece)
-        };
+    /// Reads what has come, and tells how the connection stands.
+    pub(crate) fn visit<R: Clock>(&mut self, runtime: &R, piece: &mut [u8]) -> Visit {
+        let moved = self.read_on(piece);
         if self.broken || (self.ended && self.bytes.is_empty()) {
             Visit::Broken
         } else if self.is_settled() || self.deadline.is_over(runtime) {
@@ -120,6 +111,11 @@ impl Waiting {
     /// How many bytes it holds.
     pub(crate) fn held(&self) -> usize {
         self.bytes.len()
+    }
+
+    /// Whether it holds more than a connection may always hold.
+    pub(crate) fn is_large(&self) -> bool {
+        self.bytes.len() > SMALL
     }
 
     /// Its two ends: what has arrived, and the connection.

@@ -6,7 +6,7 @@ use std::rt::Clock;
 /// How many connections there may be. The oldest goes where one more comes.
 const ROOM: usize = 256;
 
-/// How many bytes all may hold together before only those that hold few are read on.
+/// How many bytes all may hold together. Where they hold more, the oldest of those that hold much go.
 const HELD: usize = 67108864;
 
 /// The connections that wait.
@@ -51,17 +51,43 @@ impl WaitingRoom {
         let _ = self.waiting.push(waiting);
     }
 
-    /// Whether those that wait hold as much as they may together.
+    /// Whether those that wait hold more than they may together.
     fn is_crowded(&self) -> bool {
         let mut held = 0usize;
         for waiting in &self.waiting {
             held = held.saturating_add(waiting.held());
         }
-        held >= HELD
+        held > HELD
+    }
+
+    /// The place of the oldest that holds much.
+    fn oldest_large(&self) -> Option<usize> {
+        let mut place = 0usize;
+        for waiting in &self.waiting {
+            if waiting.is_large() {
+                return Some(place);
+            }
+            place = place.saturating_add(1);
+        }
+        None
+    }
+
+    /// Where those that wait hold more than they may together, lets the oldest of those that hold much go.
+    fn thin_out(&mut self) {
+        for _ in 0..ROOM {
+            if !self.is_crowded() {
+                break;
+            }
+            let Some(place) = self.oldest_large() else {
+                break;
+            };
+            drop(self.take(place));
+        }
     }
 
     /// Begins a round, and tells whether something came in the one before.
     pub(crate) fn begin_round(&mut self) -> bool {
+        self.thin_out();
         let moved = self.moved;
         self.moved = false;
         self.place = 0;
@@ -74,12 +100,11 @@ impl WaitingRoom {
         runtime: &R,
         piece: &mut [u8],
     ) -> Option<Waiting> {
-        let crowded = self.is_crowded();
         for _ in self.place..self.waiting.len() {
             let Some(waiting) = self.waiting.get_mut(self.place) else {
                 break;
             };
-            match waiting.visit(runtime, piece, crowded) {
+            match waiting.visit(runtime, piece) {
                 Visit::Ready => return self.take(self.place),
                 Visit::Broken => drop(self.take(self.place)),
                 Visit::Came => {
