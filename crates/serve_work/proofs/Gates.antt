@@ -1,0 +1,68 @@
+-- What the gates of workers tell of all gates.
+use Rattle.std.proofs.Common.{◌≡◌, ℕ, ◌<◌, List, map, length, sym, ap, ◌∙◌, subst, arith, true}
+use Rattle.std.specs.Prelude.{All, Bool, Option, slice_index_or}
+use Rattle.std.proofs.lemmas.List.{get_or-map, length-map}
+use Rattle.std.proofs.lemmas.List.Elements.{All-map, All-same}
+use Rattle.vote_pool.specs.Pools.{Pooled}
+use Rattle.period_terms.specs.declared.state.State.{State}
+use Rattle.gate_workers.specs.declared.running.Ran.{Ran}
+use Rattle.gate_workers.specs.declared.running.Ran.TheVariants as ran
+use Rattle.gate_workers.specs.declared.worker.Worker.{Worker}
+use Rattle.gate_workers.specs.Workers.{GateRose, RanTo}
+use Rattle.board_terms.specs.Boards.{Locks, Parts, IsAt, Leaves}
+use Rattle.serve_work.specs.declared.serving.Served.{Served}
+use Rattle.serve_work.specs.declared.serving.Served.TheVariants as served
+use Rattle.serve_work.specs.Serving.{EachClosed, GatesRan, HaveGone, LeavesBoard, Reports, Serves, SomeRose}
+
+module _ {G K : Type 0} (faults : G → ℕ) (closed : G → Bool) (ws ws' : List (Worker G K)) (gates gates' : List G)
+    (was : map (λ w. w.gate) ws ≡ gates) (is : gates' ≡ map (λ w. w.gate) ws') (long : length ws' ≡ length ws) where
+  each_closed : All (λ (w : Worker G K). closed w.gate ≡ true) ws' → EachClosed closed gates'
+  each_closed all =
+      All-same (λ g. closed g ≡ true) gates' (map (λ w. w.gate) ws') is
+      (All-map (λ g. closed g ≡ true) (λ (w : Worker G K). w.gate) ws' all)
+
+  some_rose : GateRose faults closed ws ws' → SomeRose faults gates gates'
+  some_rose rose =
+      let gate : Worker G K → G = λ w. w.gate in
+      let there : rose.place < length ws' = omega (arith, rose.within, long) in
+      record {
+        place = rose.place;
+        gate = rose.worker.gate;
+        gate_then = rose.worker_then.gate;
+        within = omega (arith, rose.within, length-map ws gate, ap length was);
+        was = subst (λ l. rose.worker.gate ≡ slice_index_or l rose.place rose.worker.gate) was
+            (ap gate rose.was ∙ sym (get_or-map gate ws rose.place rose.worker rose.worker.gate rose.within));
+        is = subst (λ l. rose.worker_then.gate ≡ slice_index_or l rose.place rose.worker_then.gate) (sym is)
+            (ap gate rose.is ∙ sym (get_or-map gate ws' rose.place rose.worker_then rose.worker_then.gate there));
+        rose = rose.rose;
+      }
+
+  -- how the workers ran is how the gates were worked
+  pub gates_ran : (answer : Ran) → RanTo faults closed ws ws' answer → GatesRan faults closed gates gates' answer
+  gates_ran ran.Deaf rose = some_rose rose
+  gates_ran ran.Failed rose = some_rose rose
+  gates_ran ran.Closed all = each_closed all
+
+module _ {G : Type 0} (faults : G → ℕ) (closed : G → Bool) (gates gates' : List G) (board : Locks)
+    (began ended : List Parts) (left : State) (kept : Pooled) (all : EachClosed closed gates')
+    (at : All (IsAt board) ended) (count : length ended ≡ length began) (gone : HaveGone began ended)
+    (leaves : Leaves board ended left kept) (old new : Option (List ℕ)) (before now : ℕ) where
+  left_such : (IsSuch : State → Type 0) → IsSuch left → LeavesBoard board began IsSuch
+  left_such IsSuch such = record {
+    ended = ended;
+    left = left;
+    kept = kept;
+    at = at;
+    count = count;
+    gone = gone;
+    leaves = leaves;
+    such = such;
+  }
+
+  -- how serving ends where all gates are closed
+  pub serves_closed : (result : Served) → Reports old new before now left result
+      → Serves faults closed gates gates' board began old new before now result
+  serves_closed served.Whole told = (all, left_such (λ s. Reports old new before now s served.Whole) told)
+  serves_closed served.WriteFault told = (all, left_such (λ s. Reports old new before now s served.WriteFault) told)
+  serves_closed served.NoMemory told = told
+  serves_closed served.GateFault told = absurd told

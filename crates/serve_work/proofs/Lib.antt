@@ -1,0 +1,5 @@
+pub mod Gates
+pub mod Hiring
+pub mod Places
+pub mod Written
+mod Sent

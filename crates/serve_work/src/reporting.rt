@@ -1,0 +1,27 @@
+// The report on the station that all workers left.
+ghost use Rattle.serve_work.specs.Serving.{Reports};
+
+use crate::serving::Served;
+use dir_bytes::{Sink, WriteAll, write_all};
+use key_port::Verifier;
+use period_core::Station;
+use period_report::write;
+use std::alloc::Global;
+
+/// Writes the report on a station.
+pub(crate) fn report<V: Verifier, K: Sink>(
+    alloc: Global,
+    station: &Station<V>,
+    sink: &mut K,
+) -> Served
+    ensures { Reports (K.written sink.old) (K.written sink.new) (K.faults sink.old) (K.faults sink.new) station.now
+        result }
+{
+    let Ok(text) = write(alloc, station) else {
+        return Served::NoMemory;
+    };
+    match write_all(sink, &text) {
+        WriteAll::Done => Served::Whole,
+        WriteAll::Failed { .. } => Served::WriteFault,
+    }
+}
