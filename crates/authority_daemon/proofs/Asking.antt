@@ -12,7 +12,7 @@ use Rattle.exit_status.specs.Stops.{Answered}
 use Rattle.station_commands.specs.Voting.{IsOfStation}
 use Rattle.authority_daemon.specs.Commands.{Answers, IsEarly, May, MakeVoteBy}
 use Rattle.authority_daemon.specs.Runs.{first_count}
-use Rattle.authority_daemon.specs.World.{TellsFaults}
+use Rattle.authority_daemon.specs.Moments.{TellsFaults}
 
 module _ {X : Type 0} where
   -- what is told of the first afterwards

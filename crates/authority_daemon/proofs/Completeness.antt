@@ -15,7 +15,8 @@ use Rattle.station_command_laws.proofs.FilesNotRefused as file
 use Rattle.report_command.proofs.NotRefused as report
 use Rattle.authority_daemon.specs.Commands.{Answers, Answerable, May}
 use Rattle.authority_daemon.specs.Runs.{Ends, KeepsLimit, Told}
-use Rattle.authority_daemon.specs.World.{AnswersWhatItMust, IsRun, Moment}
+use Rattle.authority_daemon.specs.Moments.{Moment}
+use Rattle.authority_daemon.specs.World.{AnswersWhatItMust, IsRun}
 
 -- it is the verifier's or the signer's
 abbrev IsOfKeys : Refusal → Type 0
@@ -37,8 +38,9 @@ not_refused its (command.MakeVote measures.File) now bytes old new why can answe
 not_refused its (command.Rehearse wanted) now bytes old new why can answer = absurd answer
 not_refused its (command.Report wanted) now bytes old new why can answer =
     inl (report.not_refused its.rules wanted bytes why can answer)
+not_refused its (command.Serve wanted) now bytes old new why can answer = absurd can
 
-module _ {S C V N : Type 0} (its : May N) (given : Option Command) (old new : Moment S C V N) where
+module _ {S C V N G L : Type 0} (its : May N) (given : Option Command) (old new : Moment S C V N G L) where
   abbrev refused : Refusal → Status
   refused why = status.Refused why
 

@@ -14,7 +14,7 @@ use Rattle.std.specs.Bool.{OnTrue}
 use Rattle.authority_daemon.specs.Runs.{Ends, HasEnded, Told, input_limit, input_of, reads_input}
 use Rattle.authority_daemon.specs.Commands.{May}
 use Rattle.authority_daemon.specs.Inside.{IsAnswer}
-use Rattle.authority_daemon.specs.World.{Moment, TellsFaults}
+use Rattle.authority_daemon.specs.Moments.{Moment, TellsFaults}
 
 -- a refusal, as what a command returns
 abbrev as_stop : Refusal → Result (Vec ℕ) Stop
@@ -75,7 +75,7 @@ tells_refusal before now why other tells = record {
 }
 
 -- what a call says that stopped so
-pub as_refused : {S C V N : Type 0} (its : May N) (c : Command) (bytes : List ℕ) (old new : Moment S C V N)
+pub as_refused : {S C V N G L : Type 0} (its : May N) (c : Command) (bytes : List ℕ) (old new : Moment S C V N G L)
     (given : Stop) (why : Refusal)
     → given ≡ stop.Refused why → IsAnswer its c bytes old new (Err given) → IsAnswer its c bytes old new (as_stop why)
 as_refused its c bytes old new given why is told = subst (λ (s : Stop). IsAnswer its c bytes old new (Err s)) is told

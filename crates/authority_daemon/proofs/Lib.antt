@@ -1,3 +1,5 @@
 pub mod Completeness
 pub mod Ending
 pub mod Asking
+pub mod ServedRuns
+pub mod Choosing

@@ -50,6 +50,12 @@ Answers its (command.Show named) now bytes old new answer = ShowAnswers named by
 Answers its (command.MakeVote bandwidths) now bytes old new answer = MakeVoteBy its bandwidths now bytes old new answer
 Answers its (command.Rehearse wanted) now bytes old new answer = RehearseAnswers wanted answer
 Answers its (command.Report wanted) now bytes old new answer = ReportAnswers its.rules wanted bytes answer
+Answers its (command.Serve wanted) now bytes old new answer = ⊥
+
+-- whether a command writes a text that it makes of its input: each but `serve`, of which `IsServed` says what it does
+abbrev pub writes_text : Command → Bool
+writes_text (command.Serve wanted) = false
+writes_text _ = true
 
 -- whether a command verifies signatures, a line for each command
 abbrev pub verifies : Command → Bool
@@ -59,6 +65,7 @@ verifies (command.Show named) = false
 verifies (command.MakeVote bandwidths) = true
 verifies (command.Rehearse wanted) = false
 verifies (command.Report wanted) = true
+verifies (command.Serve wanted) = true
 
 -- whether words that give this command, or none, have signatures verified
 abbrev pub verifies_if : Option Command → Bool
@@ -73,6 +80,7 @@ signs (command.Show kind) = false
 signs (command.MakeVote bandwidths) = true
 signs (command.Rehearse wanted) = false
 signs (command.Report wanted) = false
+signs (command.Serve wanted) = true
 
 -- whether words that give this command, or none, have something signed
 abbrev pub signs_if : Option Command → Bool
@@ -87,6 +95,7 @@ asks_clock (command.Show kind) = false
 asks_clock (command.MakeVote bandwidths) = true
 asks_clock (command.Rehearse wanted) = false
 asks_clock (command.Report wanted) = false
+asks_clock (command.Serve wanted) = true
 
 -- whether words that give this command, or none, ask a clock
 abbrev pub asks_clock_if : Option Command → Bool
@@ -101,6 +110,7 @@ IsEarly (command.Show named) why = Unit {0}
 IsEarly (command.MakeVote bandwidths) why = IsOfStation why
 IsEarly (command.Rehearse wanted) why = Unit {0}
 IsEarly (command.Report wanted) why = report.IsOfDocuments why
+IsEarly (command.Serve wanted) why = ⊥
 
 -- the inputs that a command has to answer with a text at a moment: a line for each command
 abbrev pub Answerable : Rules → Command → ℕ → List ℕ → Type 0
@@ -111,3 +121,4 @@ Answerable rules (command.MakeVote measures.Station) now bytes = CanMakeVote rul
 Answerable rules (command.MakeVote measures.File) now bytes = CanMakeVoteWithFile rules now bytes
 Answerable rules (command.Rehearse wanted) now bytes = Unit {0}
 Answerable rules (command.Report wanted) now bytes = CanReport rules wanted bytes
+Answerable rules (command.Serve wanted) now bytes = ⊥

@@ -1,5 +1,5 @@
 -- What the private functions of this crate say.
-use Rattle.std.specs.Prelude.{◌≡◌, ℕ, List, drop, Some, Result, Ok, Err, IfErr, false}
+use Rattle.std.specs.Prelude.{◌≡◌, ℕ, List, drop, Result, Ok, Err, IfErr, false}
 use Rattle.std.specs.Global.{Vec}
 use Rattle.std.specs.Bool.{OnTrue}
 use Rattle.dir_bytes.specs.Causes.{Counts}
@@ -9,15 +9,17 @@ use Rattle.exit_status.specs.declared.stop.Stop.{Stop}
 use Rattle.exit_status.specs.declared.stop.Stop.TheVariants as stop
 use Rattle.exit_status.specs.Stops.{Answered}
 use Rattle.station_commands.specs.Voting.{IsBeforeSigner}
-use Rattle.authority_daemon.specs.declared.program.Outside.{Outside}
+use Rattle.serve_command.specs.Passed.{Outside}
 use Rattle.authority_daemon.specs.Commands.{Answers, IsEarly, May, asks_clock, signs, verifies}
-use Rattle.authority_daemon.specs.World.{Moment, TellsFaults}
+use Rattle.authority_daemon.specs.Moments.{Moment, TellsFaults}
 
--- The source and the two sinks are as they were.
-pub record LeavesStreams {S K E C V N : Type 0} (old new : Outside S K E C V N) : Type 0 where
+-- The source, the two sinks, the gates and the link are as they were.
+pub record LeavesStreams {S K E C V N G L : Type 0} (old new : Outside S K E C V N G L) : Type 0 where
   pub source : new.source ≡ old.source
   pub sink : new.sink ≡ old.sink
   pub errors : new.errors ≡ old.errors
+  pub gates : new.gates ≡ old.gates
+  pub link : new.link ≡ old.link
 
 -- there was memory for an answer
 abbrev pub IsAnswered : Result (Vec ℕ) Stop → Type 0
@@ -26,7 +28,7 @@ IsAnswered (Err (stop.Refused why)) = Unit {0}
 IsAnswered (Err stop.Memory) = ⊥
 
 -- What a command answers to an input, and what it asks of what stands outside.
-pub record IsAnswer {S C V N : Type 0} (its : May N) (c : Command) (bytes : List ℕ) (old new : Moment S C V N)
+pub record IsAnswer {S C V N G L : Type 0} (its : May N) (c : Command) (bytes : List ℕ) (old new : Moment S C V N G L)
     (result : Result (Vec ℕ) Stop) : Type 0 where
   pub answer : Answered (Answers its c new.last bytes old.signer new.signer) result
   pub verifier : TellsFaults old.verifier_faults new.verifier_faults (result ≡ Err (stop.Refused refusal.Verifier))

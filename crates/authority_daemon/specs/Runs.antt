@@ -38,6 +38,7 @@ reads_input (command.Show named) = true
 reads_input (command.MakeVote bandwidths) = true
 reads_input (command.Rehearse wanted) = false
 reads_input (command.Report wanted) = true
+reads_input (command.Serve wanted) = true
 
 -- whether words that give this command, or none, have the input read
 abbrev pub reads_input_if : Option Command → Bool

@@ -1,45 +1,22 @@
--- What stands outside of the program, and what a whole run says of it.
-use Rattle.std.specs.Prelude.{◌≡◌, ℕ, ◌<◌, List, drop, Option, Some, false}
+-- What a whole run says of the words and of what stands outside.
+use Rattle.std.specs.Prelude.{◌≡◌, drop, Option, Some, false}
 use Rattle.dir_bytes.specs.Causes.{Rose}
 use Rattle.key_port.specs.Answers.{Rules}
 use Rattle.daemon_words.specs.declared.command.Command.{Command}
+use Rattle.daemon_words.specs.declared.command.Command.TheVariants as command
+use Rattle.authority_daemon.specs.Served.{IsServed}
 use Rattle.exit_status.specs.declared.status.Refusal.TheVariants as refusal
 use Rattle.exit_status.specs.declared.status.Status.{Status}
 use Rattle.exit_status.specs.declared.status.Status.TheVariants as status
 use Rattle.authority_daemon.specs.Commands.{Answers, May, asks_clock_if, signs_if, verifies_if}
 use Rattle.authority_daemon.specs.Runs.{HasAsked, Ends, IsBeforeChecks, IsBeforeSigning, IsDoneOrMemory, KeepsLimit}
+use Rattle.authority_daemon.specs.Moments.{Moment, Telling, TellsFaults}
 use Rattle.authority_daemon.specs.Runs.{KnowsWords, MustAnswer}
 use Rattle.authority_daemon.specs.Runs.{ReadsThrough, StopsReading, Told, WritesOnlyAnswers, input_of, reads_input_if}
 
--- What stands outside at a moment, but for the errors sink: objects, what they tell, and how often they have failed. Where
--- there are several of a kind it is the first that fails.
-pub record Moment (S C V N : Type 0) : Type 0 where
-  -- the source, and the bytes that it has left
-  pub source : S
-  pub left : Option (List ℕ)
-  pub read_faults : ℕ
-  -- what was written to the sink
-  pub written : Option (List ℕ)
-  pub write_faults : ℕ
-  -- the clocks, the moment that the first gave last, and how often it was asked
-  pub clocks : List C
-  pub last : ℕ
-  pub asks : ℕ
-  -- the verifiers
-  pub verifiers : List V
-  pub verifier_faults : ℕ
-  -- the signer
-  pub signer : N
-  pub signer_faults : ℕ
-
--- Where a run ends so, the count of an object's faults rose; and where the count is greater than before, the run ends so.
-pub record TellsFaults (before now : ℕ) (ends_so : Type 0) : Type 0 where
-  pub cause : ends_so → Rose before now
-  pub told : before < now → ends_so
-
--- What a run says that ends with a status, of the words, which give this command or none, and of what stands outside before
--- and after it.
-pub record IsRun {S C V N : Type 0} (its : May N) (given : Option Command) (old new : Moment S C V N)
+-- What a run without workers says that ends with a status, of the words, which give this command or none, and of what
+-- stands outside before and after it.
+pub record IsRun {S C V N G L : Type 0} (its : May N) (given : Option Command) (old new : Moment S C V N G L)
     (s : Status) : Type 0 where
   -- bad words are exactly those that give no command
   pub words : KnowsWords given s
@@ -75,10 +52,19 @@ pub record IsRun {S C V N : Type 0} (its : May N) (given : Option Command) (old 
   -- a command that has nothing signed leaves the signer as it was, and so does one that refuses something before
   pub unsigned : signs_if given ≡ false → new.signer ≡ old.signer
   pub unasked_signer : IsBeforeSigning s → new.signer ≡ old.signer
+  -- no gate and no other authority is asked
+  pub ungated : new.gates ≡ old.gates
+  pub unlinked : new.link ≡ old.link
+
+-- What a run says: with `serve` that of an authority that serves, and else that of a command without workers.
+abbrev pub Runs : {S C V N G L : Type 0} → May N → Telling C G → Option Command → Moment S C V N G L
+    → Moment S C V N G L → Status → Type 0
+Runs its tells (Some (command.Serve wanted)) old new s = IsServed its tells wanted old new s
+Runs its tells given old new s = IsRun its given old new s
 
 -- An input that has to be answered is, unless there is no memory or something outside failed.
-abbrev pub AnswersWhatItMust : {S C V N : Type 0} → Rules → Option Command → Moment S C V N → Moment S C V N → Status
-    → Type 0
+abbrev pub AnswersWhatItMust : {S C V N G L : Type 0} → Rules → Option Command → Moment S C V N G L → Moment S C V N G L
+    → Status → Type 0
 AnswersWhatItMust rules given old new s =
     MustAnswer rules given new.last old.left → ¬ Rose old.read_faults new.read_faults
     → ¬ Rose old.write_faults new.write_faults → ¬ Rose old.verifier_faults new.verifier_faults

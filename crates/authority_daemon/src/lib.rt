@@ -1,7 +1,12 @@
 //! The directory authority's daemon and tool: the words, the input, the text that is written, and the status.
 #![tactic(auto)]
 
+mod outside;
 mod program;
+mod serving;
+mod texts;
 
 pub use exit_status::{Refusal, Status};
-pub use program::{Outside, Stands, run};
+pub use outside::Stands;
+pub use program::run;
+pub use serve_command::Outside;

@@ -40,6 +40,7 @@ at_moment bytes now (stop.Refused (refusal.Report why)) is = absurd is
 at_moment bytes now (stop.Refused (refusal.Station why)) is = absurd is
 at_moment bytes now (stop.Refused refusal.Verifier) is = absurd is
 at_moment bytes now (stop.Refused refusal.Signer) is = absurd is
+at_moment bytes now (stop.Refused refusal.Gate) is = absurd is
 
 -- one that is too old is refused
 pub old_at : (bytes : List ℕ) (now : ℕ) (front : Front) (why : Stop) → GivesFront bytes (Ok front) → IsOld front.file now

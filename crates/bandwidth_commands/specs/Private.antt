@@ -1,4 +1,4 @@
--- What the private functions of this crate say.
+-- What the calls say that the command is made of.
 use Rattle.std.specs.Prelude.{◌≡◌, ℕ, ◌≤◌, List, length, Some, Result, Ok, Err}
 use Rattle.bandwidth_file.specs.declared.file.BandFile.{BandFile}
 use Rattle.bandwidth_front.specs.Fronts.{IsFront, front_fault}

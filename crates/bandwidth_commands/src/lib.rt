@@ -5,4 +5,6 @@ mod behind;
 mod front;
 mod making;
 
+pub use behind::station_behind;
+pub use front::file_of;
 pub use making::make_vote_with_file;

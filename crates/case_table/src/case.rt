@@ -1,5 +1,6 @@
 // A case: what a run is given, what stands outside of it, and what it is to give.
-use std::alloc::Global;
+use crate::worker::{Worker, plain_worker};
+use std::alloc::{AllocError, Global};
 
 /// How what stands outside a run behaves: where reads end, how much a sink takes, and the numbers of the calls that
 /// fail, from 1.
@@ -13,12 +14,14 @@ pub struct Outer {
     pub writes: Vec<u64>,
     /// The writes to the errors sink that fail.
     pub errors: Vec<u64>,
-    /// The moments that the clock gives, in order; the last of them again and again, and 0 where there is none.
-    pub clock: Vec<u64>,
-    /// The verifier's answers that fail.
-    pub verifies: Vec<u64>,
     /// The signer's answers that fail.
     pub signs: Vec<u64>,
+    /// The workers, each with its clock, its verifier and its gate.
+    pub workers: Vec<Worker>,
+    /// What the link gives, in order; the last of them again and again.
+    pub replies: Vec<Vec<u8>>,
+    /// The link's exchanges that fail.
+    pub exchanges: Vec<u64>,
     /// How many bytes a write takes at most.
     pub piece: u64,
     /// How many bytes the sink has room for.
@@ -42,6 +45,10 @@ pub struct Case {
     pub outer: Outer,
     /// The text that is to be written.
     pub text: Vec<u8>,
+    /// The marks behind which alone that text is compared, where there is one.
+    pub marks: Vec<String>,
+    /// The responses that are to come, by the numbers of their connections.
+    pub responses: Vec<Vec<u8>>,
     /// The line that is to be written to the errors sink.
     pub line: Vec<u8>,
     /// The number of the status that is to come.
@@ -52,8 +59,8 @@ pub struct Case {
 const ROOM: usize = 2_097_152;
 
 /// A case of this name, with no words and no input, in which nothing fails and nothing is to be written.
-pub fn plain_case(alloc: Global, name: String) -> Case {
-    Case {
+pub fn plain_case(alloc: Global, name: String) -> Result<Case, AllocError> {
+    Ok(Case {
         name,
         words: Vec::new(alloc),
         input: Vec::new(alloc),
@@ -63,15 +70,18 @@ pub fn plain_case(alloc: Global, name: String) -> Case {
             reads: Vec::new(alloc),
             writes: Vec::new(alloc),
             errors: Vec::new(alloc),
-            clock: Vec::new(alloc),
-            verifies: Vec::new(alloc),
             signs: Vec::new(alloc),
+            workers: vec![in alloc; plain_worker(alloc)]?,
+            replies: Vec::new(alloc),
+            exchanges: Vec::new(alloc),
             piece: 7,
             room: ROOM,
             errors_room: ROOM,
         },
         text: Vec::new(alloc),
+        marks: Vec::new(alloc),
+        responses: Vec::new(alloc),
         line: Vec::new(alloc),
         status: 0,
-    }
+    })
 }

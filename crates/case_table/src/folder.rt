@@ -1,6 +1,7 @@
 // A case that stands in a folder.
 use crate::case::Case;
-use crate::texts::{lines_of, numbers_of};
+use crate::outside::take_outside;
+use crate::texts::lines_of;
 use anyhow::Result;
 use std::fs;
 use std::str::from_utf8;
@@ -19,7 +20,7 @@ pub fn take_folder(rt: &HostRuntime, case: &mut Case, folder: &str) -> Result<()
     case.line = file("stderr")?;
     case.status = from_utf8(&file("status")?)?.trim().parse::<u64>()?;
     if let Ok(moments) = file("clock") {
-        case.outer.clock = numbers_of(alloc, from_utf8(&moments)?)?;
+        take_outside(alloc, &mut case.outer, "clock", from_utf8(&moments)?)?;
     }
     Ok(())
 }

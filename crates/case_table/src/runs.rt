@@ -1,9 +1,18 @@
 // A run of a case.
-use crate::case::Case;
+use crate::case::{Case, Outer};
+use crate::differences::{response_difference, text_difference};
+use crate::gates::{Answer, CaseGate, gate};
+use crate::worker::Worker;
 use authority_daemon::{Outside, run};
-use dir_bytes::{MemoryClock, MemorySink, MemorySource};
+use dir_bytes::{MemoryClock, MemorySink, MemorySource, Text};
+use dir_http::MemoryLink;
 use key_port::TestKeys;
 use std::alloc::{AllocError, Global};
+use std::sync::{OnceLock, Wait};
+use std::thread::Threads;
+
+/// How many workers there may be.
+const WORKERS: usize = 16;
 
 fn sink(
     alloc: Global,
@@ -23,37 +32,151 @@ fn clock(moments: Vec<u64>) -> Result<MemoryClock, AllocError> {
     Ok(MemoryClock::new(moments))
 }
 
-/// What a case gives that it is not to give; an empty text where it gives what it is to.
-pub fn difference(alloc: Global, case: Case) -> Result<String, AllocError> {
-    let outer = case.outer;
-    let mut outside = Outside {
-        source: MemorySource::new(case.input, outer.cuts, outer.reads),
-        sink: sink(alloc, outer.room, outer.piece, outer.writes)?,
-        errors: sink(alloc, outer.errors_room, outer.piece, outer.errors)?,
-        clocks: vec![in alloc; clock(outer.clock)?]?,
-        verifiers: vec![in alloc; TestKeys::new(outer.verifies)]?,
-        signer: TestKeys::new(outer.signs),
-    };
-    let number = run(alloc, &case.words, &mut outside).number() as u64;
-    let line = String::from_utf8_lossy(alloc, &outside.errors.written)?;
-    let line = line.trim_end();
-    if number != case.status {
-        return format!(in alloc; "status {number}, {line}");
+fn link(alloc: Global, replies: Vec<Vec<u8>>, failing: Vec<u64>) -> Result<MemoryLink, AllocError> {
+    let mut texts = Vec::new(alloc);
+    for reply in replies {
+        texts.push(Text::new(reply))?;
     }
-    if outside.errors.written != case.line {
-        return format!(in alloc; "line {line}");
-    }
-    if outside.sink.written != case.text {
-        let place = common_length(&outside.sink.written, &case.text);
-        return format!(in alloc; "text from {place} on");
-    }
-    Ok(String::new(alloc))
+    Ok(MemoryLink::new(alloc, texts, failing))
 }
 
-// How many bytes two texts have in common at their front.
-fn common_length(one: &[u8], other: &[u8]) -> usize {
-    one.iter()
-        .zip(other)
-        .take_while(|(one, other)| one == other)
-        .count()
+// A place for the response of each connection.
+fn places(alloc: Global, count: usize) -> Result<Vec<Answer>, AllocError> {
+    let mut answers = Vec::new(alloc);
+    for _ in 0..count {
+        answers.push(OnceLock::new())?;
+    }
+    Ok(answers)
+}
+
+// What workers have, each a clock, a verifier and a gate.
+#[derive(Drop)]
+struct Staff<'a> {
+    clocks: Vec<MemoryClock>,
+    verifiers: Vec<TestKeys>,
+    gates: Vec<CaseGate<'a>>,
+}
+
+fn staff_of<'a>(
+    alloc: Global,
+    workers: Vec<Worker>,
+    answers: &'a [Answer],
+) -> Result<Staff<'a>, AllocError> {
+    let mut clocks = Vec::new(alloc);
+    let mut verifiers = Vec::new(alloc);
+    let mut gates = Vec::new(alloc);
+    for worker in workers {
+        clocks.push(clock(worker.clock)?)?;
+        verifiers.push(TestKeys::new(worker.verifies))?;
+        gates.push(gate(alloc, worker.gives, worker.gates, answers)?)?;
+    }
+    Ok(Staff {
+        clocks,
+        verifiers,
+        gates,
+    })
+}
+
+// How a run ends: the number of its status, the line and the text.
+#[derive(Drop)]
+struct End {
+    status: u64,
+    line: Vec<u8>,
+    text: Vec<u8>,
+}
+
+// Runs words over an input and what stands outside. None where there are no workers, or too many.
+fn end_of<H: Threads + Wait + Sync>(
+    rt: &H,
+    alloc: Global,
+    words: &[String],
+    input: Vec<u8>,
+    outer: Outer,
+    answers: &[Answer],
+) -> Result<Option<End>, AllocError> {
+    let Outer {
+        cuts,
+        reads,
+        writes,
+        errors,
+        signs,
+        workers,
+        replies,
+        exchanges,
+        piece,
+        room,
+        errors_room,
+    } = outer;
+    let Staff {
+        clocks,
+        verifiers,
+        gates,
+    } = staff_of(alloc, workers, answers)?;
+    let count = gates.len();
+    if count == 0 || count > WORKERS || clocks.len() != count || verifiers.len() != count {
+        return Ok(None);
+    }
+    let mut outside = Outside {
+        source: MemorySource::new(input, cuts, reads),
+        sink: sink(alloc, room, piece, writes)?,
+        errors: sink(alloc, errors_room, piece, errors)?,
+        clocks,
+        verifiers,
+        signer: TestKeys::new(signs),
+        gates,
+        link: link(alloc, replies, exchanges)?,
+    };
+    let status = run(rt, alloc, words, &mut outside).number() as u64;
+    let Outside {
+        source: _,
+        sink,
+        errors,
+        clocks: _,
+        verifiers: _,
+        signer: _,
+        gates: _,
+        link: _,
+    } = outside;
+    Ok(Some(End {
+        status,
+        line: errors.written,
+        text: sink.written,
+    }))
+}
+
+/// What a case gives that it is not to give; an empty text where it gives what it is to.
+pub fn difference<H: Threads + Wait + Sync>(
+    rt: &H,
+    alloc: Global,
+    case: Case,
+) -> Result<String, AllocError> {
+    let Case {
+        name: _,
+        words,
+        input,
+        old: _,
+        outer,
+        text,
+        marks,
+        responses,
+        line,
+        status,
+    } = case;
+    let answers = places(alloc, responses.len())?;
+    let Some(end) = end_of(rt, alloc, &words, input, outer, &answers)? else {
+        return String::from_str(alloc, "another number of workers");
+    };
+    let said = String::from_utf8_lossy(alloc, &end.line)?;
+    let said = said.trim_end();
+    if end.status != status {
+        return format!(in alloc; "status {}, {said}", end.status);
+    }
+    if end.line != line {
+        return format!(in alloc; "line {said}");
+    }
+    let other = text_difference(alloc, &end.text, &text, &marks)?;
+    if !other.is_empty() {
+        return Ok(other);
+    }
+    response_difference(alloc, &answers, &responses)
 }

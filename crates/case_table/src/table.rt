@@ -4,9 +4,12 @@ use crate::folder::take_folder;
 use crate::input::take_input;
 use crate::outside::take_outside;
 use crate::runs::difference;
+use crate::serving::take_serving;
 use crate::wanted::take_wanted;
 use anyhow::{Context, Result, bail};
 use std::fs;
+use std::sync::Wait;
+use std::thread::Threads;
 
 /// How many cases there were, and how many of them gave what they are to give.
 #[derive(Drop)]
@@ -17,10 +20,15 @@ pub struct Tally {
     pub all: u64,
 }
 
-/// Runs the cases of a table, and prints a line for each.
-pub fn run_table(rt: &HostRuntime, name: &str, tally: &mut Tally) -> Result<()> {
+/// Runs the cases of a table over a runtime with threads, and prints a line for each.
+pub fn run_table<H: Threads + Wait + Sync>(
+    rt: &HostRuntime,
+    threads: &H,
+    name: &str,
+    tally: &mut Tally,
+) -> Result<()> {
     let table = fs::read_to_string(rt, name).with_context(|| name)?;
-    let mut case = plain_case(rt.alloc(), String::new(rt.alloc()));
+    let mut case = plain_case(rt.alloc(), String::new(rt.alloc()))?;
     'lines: for line in table.lines() {
         if line.is_empty() || line.starts_with("#") {
             continue 'lines;
@@ -28,12 +36,12 @@ pub fn run_table(rt: &HostRuntime, name: &str, tally: &mut Tally) -> Result<()> 
         let (key, rest) = line.split_once(":").unwrap_or((line, ""));
         let rest = rest.strip_prefix(" ").unwrap_or(rest);
         if key == "case" || key == "folder" {
-            finish(rt, case, tally)?;
-            case = plain_case(rt.alloc(), String::from_str(rt.alloc(), rest)?);
+            finish(rt, threads, case, tally)?;
+            case = plain_case(rt.alloc(), String::from_str(rt.alloc(), rest)?)?;
         }
         take(rt, &mut case, key, rest).with_context(|| line)?;
     }
-    finish(rt, case, tally)
+    finish(rt, threads, case, tally)
 }
 
 // Takes a line of a table.
@@ -50,6 +58,7 @@ fn take(rt: &HostRuntime, case: &mut Case, key: &str, rest: &str) -> Result<()> 
     if take_input(rt, case, key, rest)?
         || take_wanted(rt, case, key, rest)?
         || take_outside(rt.alloc(), &mut case.outer, key, rest)?
+        || take_serving(rt, case, key, rest)?
     {
         return Ok(());
     }
@@ -57,13 +66,18 @@ fn take(rt: &HostRuntime, case: &mut Case, key: &str, rest: &str) -> Result<()> 
 }
 
 // Runs a case that has begun, and prints whether it gives what it is to.
-fn finish(rt: &HostRuntime, case: Case, tally: &mut Tally) -> Result<()> {
+fn finish<H: Threads + Wait + Sync>(
+    rt: &HostRuntime,
+    threads: &H,
+    case: Case,
+    tally: &mut Tally,
+) -> Result<()> {
     if case.name.is_empty() {
         return Ok(());
     }
     tally.all = tally.all.saturating_add(1);
     let name = String::from_str(rt.alloc(), &case.name)?;
-    let other = difference(rt.alloc(), case)?;
+    let other = difference(threads, rt.alloc(), case)?;
     if other.is_empty() {
         tally.right = tally.right.saturating_add(1);
         println!(rt; "{name} ok")?;

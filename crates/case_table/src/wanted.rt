@@ -18,6 +18,7 @@ pub fn take_wanted(rt: &HostRuntime, case: &mut Case, key: &str, rest: &str) -> 
         "stderr" => case.line = text_of(alloc, rest)?.into_bytes(),
         "place" => take_place(alloc, case, &text_of(alloc, rest)?)?,
         "status" => case.status = rest.parse::<u64>()?,
+        "behind" => case.marks.push(text_of(alloc, rest)?)?,
         _ => return Ok(false),
     }
     Ok(true)

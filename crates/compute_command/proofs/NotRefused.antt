@@ -57,3 +57,4 @@ not_refused rules wanted bytes (refusal.Bandwidth why) can a = absurd a
 not_refused rules wanted bytes (refusal.Station why) can a = absurd a
 not_refused rules wanted bytes (refusal.Report why) can a = absurd a
 not_refused rules wanted bytes refusal.Signer can a = absurd a
+not_refused rules wanted bytes refusal.Gate can a = absurd a

@@ -72,6 +72,7 @@ ComputeAnswers rules wanted bytes (Err (refusal.Bandwidth why)) = ⊥
 ComputeAnswers rules wanted bytes (Err (refusal.Station why)) = ⊥
 ComputeAnswers rules wanted bytes (Err (refusal.Report why)) = ⊥
 ComputeAnswers rules wanted bytes (Err refusal.Signer) = ⊥
+ComputeAnswers rules wanted bytes (Err refusal.Gate) = ⊥
 
 -- The input is acceptable votes of more than half of the roster, and the verifier may refuse none of their signatures.
 pub record CanCompute (rules : Rules) (wanted : Compute) (bytes : List ℕ) : Type 0 where

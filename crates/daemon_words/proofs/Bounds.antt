@@ -6,15 +6,18 @@ use Rattle.std.proofs.lemmas.Bool.Decides.{nat_tests}
 use Rattle.clap.specs.Words.{Row, Text, first_of}
 use Rattle.dir_bytes.specs.Fields.{number}
 use Rattle.dir_values.specs.declared.digest.Fingerprint.{Fingerprint}
-use Rattle.daemon_words.specs.Rehearsals.{IsWithinBounds, is_within, numbers_of, rehearse_in, rehearse_with, rehearsing}
+use Rattle.daemon_words.specs.Rehearsals.{IsWithinBounds, is_within, numbers_of, rehearse_in, rehearse_with}
 use Rattle.daemon_words.specs.Reports.{report_in}
-use Rattle.daemon_words.specs.Words.{KeepsBounds, command_named, compute_in, compute_with, computing, flavours_in, measures_in, subject_in}
+use Rattle.daemon_words.specs.Serving.{serve_in}
+use Rattle.daemon_words.specs.Words.{KeepsBounds, command_named, compute_with, computing, flavours_in, measures_in}
+use Rattle.daemon_words.specs.Words.{serve_with, subject_in}
 use Rattle.daemon_words.specs.declared.command.Command.{Command}
 use Rattle.daemon_words.specs.declared.command.Command.TheVariants as command
 use Rattle.daemon_words.specs.declared.command.Flavours.{Flavours}
 use Rattle.daemon_words.specs.declared.command.Subject.{Subject}
 use Rattle.daemon_words.specs.declared.rehearsal.Rehearse.{Rehearse}
 use Rattle.daemon_words.specs.declared.report.Report.{Report}
+use Rattle.daemon_words.specs.declared.serving.Serve.{Serve}
 
 -- what holds either way holds of a choice
 either : (b : Bool) {A : Type 0} (P : A → Type 0) (first second : A) → P first → P second
@@ -77,6 +80,10 @@ report_keeps : (wanted : Option Report) → Keeps (option_map command.Report wan
 report_keeps None = tt
 report_keeps (Some wanted) = tt
 
+serve_keeps : (wanted : Option Serve) → Keeps (option_map command.Serve wanted)
+serve_keeps None = tt
+serve_keeps (Some wanted) = tt
+
 -- a line for each command
 pub named_keeps : (name : Text) (values : List Row) → Keeps (command_named name values)
 named_keeps name values =
@@ -86,4 +93,6 @@ named_keeps name values =
     (either (bytes_eq name (codes "make-vote")) Keeps (Some (command.MakeVote (measures_in values))) _ tt
     (either (bytes_eq name (codes "rehearse")) Keeps _ _ (rehearse_keeps (rehearse_in values)
     (of_texts (first_of (codes "seed") values) (first_of (codes "relays") values) (first_of (codes "authorities") values)))
-    (either (bytes_eq name (codes "report")) Keeps _ None (report_keeps (report_in values)) tt)))))
+    (either (bytes_eq name (codes "report")) Keeps _ _ (report_keeps (report_in values))
+    (either (bytes_eq name (codes "serve")) Keeps (serve_with values) None
+    (serve_keeps (serve_in values (measures_in values))) tt))))))

@@ -39,6 +39,10 @@ of_kind name = with_rule (new_app name) (needed_word (codes "kind"))
 abbrev pub make_vote : App
 make_vote = with_rule (new_app (codes "make-vote")) (flag (codes "bandwidth"))
 
+-- the command `serve` with its options, which stand in any order
+abbrev pub serve : App
+serve = with_rule (with_rule (new_app (codes "serve")) (needed_option (codes "listen"))) (flag (codes "bandwidth"))
+
 -- the command `rehearse` with three words, in this order
 abbrev pub rehearse : App
 rehearse =
@@ -54,8 +58,9 @@ program = let plain = new_app (codes "authority_daemon") in record plain {
 -- the program with its commands
 abbrev pub command_line : App
 command_line =
-    with_subcommand (with_subcommand (with_subcommand (with_subcommand (with_subcommand (with_subcommand program compute.top)
-    (of_kind (codes "check")).top) (of_kind (codes "show")).top) make_vote.top) rehearse.top) report.top
+    with_subcommand (with_subcommand (with_subcommand (with_subcommand (with_subcommand (with_subcommand (with_subcommand
+    program compute.top) (of_kind (codes "check")).top) (of_kind (codes "show")).top) make_vote.top) rehearse.top)
+    report.top) serve.top
 
 -- what is wrong with the words: nothing, where they are of this command line
 unfoldable pub faults : List (String Global) → Kinds

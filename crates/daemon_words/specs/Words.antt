@@ -7,6 +7,7 @@ use Rattle.dir_values.specs.declared.digest.Fingerprint.{Fingerprint}
 use Rattle.daemon_words.specs.CommandLine.{faults, command_in}
 use Rattle.daemon_words.specs.Rehearsals.{IsWithinBounds, rehearse_in}
 use Rattle.daemon_words.specs.Reports.{report_in}
+use Rattle.daemon_words.specs.Serving.{serve_in}
 use Rattle.daemon_words.specs.Values.{roster, moment}
 use Rattle.daemon_words.specs.declared.command.Command.{Command}
 use Rattle.daemon_words.specs.declared.command.Command.TheVariants as command
@@ -89,6 +90,10 @@ measures_of (Some word) = measures_named word
 abbrev pub measures_in : List Row → Measures
 measures_in values = measures_of (first_of (codes "bandwidth") values)
 
+-- `serve` with the values of its options
+abbrev pub serve_with : List Row → Option Command
+serve_with options = option_map command.Serve (serve_in options (measures_in options))
+
 -- the command of a name, with the values of its options: a line for each command
 abbrev pub command_named : Text → List Row → Option Command
 command_named name options =
@@ -98,7 +103,8 @@ command_named name options =
     else (if bytes_eq name (codes "make-vote") then Some (command.MakeVote (measures_in options))
     else (if bytes_eq name (codes "rehearse") then option_map command.Rehearse (rehearse_in options)
     else (if bytes_eq name (codes "report") then option_map command.Report (report_in options)
-    else None)))))
+    else (if bytes_eq name (codes "serve") then serve_with options
+    else None))))))
 
 -- the command that was named, if nothing is wrong with the words
 abbrev pub command_read : Kinds → Option (Text × List Row) → Option Command

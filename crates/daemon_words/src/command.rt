@@ -6,6 +6,7 @@ ghost use Rattle.daemon_words.specs.Words as grammar;
 use crate::command_line::matches_of;
 use crate::rehearsal::{Rehearse, rehearse_in};
 use crate::report::{Report, report_in};
+use crate::serving::{Serve, serve_in};
 use crate::values::{read_moment, read_roster};
 use clap::ArgMatches;
 use dir_bytes::Memory;
@@ -84,6 +85,8 @@ pub enum Command {
     Rehearse(Rehearse),
     /// Reads votes and a consensus, and writes which authority misses what.
     Report(Report),
+    /// Reads what a station is given, and serves as its authority.
+    Serve(Serve),
 }
 
 /// The command that the words give, without the program's name in front, or nothing where they are not of the grammar.
@@ -116,8 +119,17 @@ fn command_named(
         "make-vote" => Ok(Some(Command::MakeVote(measures_in(options)))),
         "rehearse" => Ok(rehearse_in(options).map(Command::Rehearse)),
         "report" => Ok(report_in(alloc, options)?.map(Command::Report)),
+        "serve" => serve_with(alloc, options),
         _ => Ok(None),
     }
+}
+
+/// `serve` with its options.
+fn serve_with(alloc: Global, options: &ArgMatches<'_>) -> Result<Option<Command>, Memory>
+    ensures { IfOk result (λ command. command ≡ grammar.serve_with (rows_of (found_of options.now))) }
+{
+    let bandwidths = measures_in(options);
+    Ok(serve_in(alloc, options, bandwidths)?.map(Command::Serve))
 }
 
 /// What stands among the values to be checked or shown.

@@ -35,6 +35,7 @@ fn command_line<'a>(alloc: Global) -> Result<Command<'a>, AllocError>
     let make_vote = make_vote(alloc)?;
     let rehearse = rehearse(alloc)?;
     let report = report(alloc)?;
+    let serve = serve(alloc)?;
     Command::new(alloc, "authority_daemon")
         .no_binary_name(true)
         .disable_help_flag(true)
@@ -45,7 +46,8 @@ fn command_line<'a>(alloc: Global) -> Result<Command<'a>, AllocError>
         .subcommand(show)?
         .subcommand(make_vote)?
         .subcommand(rehearse)?
-        .subcommand(report)
+        .subcommand(report)?
+        .subcommand(serve)
 }
 
 /// The command `compute` with its options.
@@ -83,6 +85,16 @@ fn make_vote<'a>(alloc: Global) -> Result<Command<'a>, AllocError>
     ensures local { IfOk result (λ command. (out-Command command).has_globals ≡ false) }
 {
     Command::new(alloc, "make-vote").arg(flag(alloc, "bandwidth"))
+}
+
+/// The command `serve` with its options.
+fn serve<'a>(alloc: Global) -> Result<Command<'a>, AllocError>
+    ensures app { IfOk result (λ command. app_of command ≡ command_line.serve) }
+    ensures local { IfOk result (λ command. (out-Command command).has_globals ≡ false) }
+{
+    Command::new(alloc, "serve")
+        .arg(needed_option(alloc, "listen"))?
+        .arg(flag(alloc, "bandwidth"))
 }
 
 /// The command `rehearse` with its three words.

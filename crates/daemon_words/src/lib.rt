@@ -6,9 +6,11 @@ mod command_line;
 mod keys;
 mod rehearsal;
 mod report;
+mod serving;
 mod values;
 
 pub use command::{Command, Compute, Flavours, Kind, Measures, Subject, command_of};
 pub use keys::{Keys, keys_of};
 pub use rehearsal::Rehearse;
 pub use report::Report;
+pub use serving::Serve;

@@ -6,5 +6,5 @@ mod program;
 use std::process::ExitCode;
 
 fn main(rt: HostRuntime) -> ExitCode {
-    program::program(&rt)
+    program::program(&rt, &rt)
 }

@@ -1,5 +1,5 @@
-// `authority_daemon::run` over the real input, output and errors, the system's clock and a key service.
-ghost use Rattle.std.specs.Prelude.{◌<◌, vec_len, IfOk};
+// `authority_daemon::run` over the real input, output and errors, the system's clock, sockets and a key service.
+ghost use Rattle.std.specs.Prelude.{◌≡◌, vec_len, IfOk};
 
 use authority_daemon::{Outside, run};
 use daemon_words::{Keys, keys_of};
@@ -7,9 +7,12 @@ use dir_bytes::{StdSink, StdSource, SystemClock};
 use exit_status::{Status, report};
 use key_port::{ServiceKeys, Signer, TestKeys, UnixDial, Verifier};
 use std::alloc::{AllocError, Global};
-use std::net::Net;
+use std::net::{Net, TcpListener};
 use std::process::ExitCode;
+use std::sync::{OnceLock, Wait};
+use std::thread::Threads;
 use std::{env, io};
+use tcp_edge::{TcpGate, TcpLink};
 
 /// Where the key service listens.
 const KEY_SERVICE: &str = "/run/dirauth-keys";
@@ -28,7 +31,7 @@ fn words(rt: &HostRuntime) -> io::Result<Vec<String>> {
 
 /// The system's clock, for each worker.
 fn clocks<'a>(rt: &'a HostRuntime) -> Result<Vec<SystemClock<&'a HostRuntime>>, AllocError>
-    ensures { IfOk result (λ clocks. 0 < vec_len clocks) }
+    ensures { IfOk result (λ clocks. vec_len clocks ≡ 4) }
 {
     let mut clocks = Vec::new(rt.alloc());
     clocks.push(SystemClock::new(rt))?;
@@ -40,7 +43,7 @@ fn clocks<'a>(rt: &'a HostRuntime) -> Result<Vec<SystemClock<&'a HostRuntime>>, 
 
 /// The test scheme, for each worker.
 fn test_keys(alloc: Global) -> Result<Vec<TestKeys>, AllocError>
-    ensures { IfOk result (λ verifiers. 0 < vec_len verifiers) }
+    ensures { IfOk result (λ verifiers. vec_len verifiers ≡ 4) }
 {
     let mut verifiers = Vec::new(alloc);
     verifiers.push(TestKeys::new(Vec::new(alloc)))?;
@@ -69,7 +72,7 @@ fn service_keys<'a, N: Net>(
     alloc: Global,
     net: &'a N,
 ) -> Result<Vec<ServiceKeys<UnixDial<&'a N>>>, AllocError>
-    ensures { IfOk result (λ verifiers. 0 < vec_len verifiers) }
+    ensures { IfOk result (λ verifiers. vec_len verifiers ≡ 4) }
 {
     let mut verifiers = Vec::new(alloc);
     verifiers.push(one_service(alloc, net)?)?;
@@ -79,16 +82,37 @@ fn service_keys<'a, N: Net>(
     Ok(verifiers)
 }
 
-/// Runs the words with these verifiers and this signer over the real input, output, errors and clock.
-fn run_with<V: Verifier + Drop, N: Signer + Drop>(
+/// The gates of the workers, over one listener. The first gives no connection, so that its worker is always free for the duties
+/// of the authority.
+fn gates<'a>(
+    rt: &'a HostRuntime,
+    listener: &'a OnceLock<TcpListener>,
+) -> Result<Vec<TcpGate<'a, HostRuntime>>, AllocError>
+    ensures { IfOk result (λ gates. vec_len gates ≡ 4) }
+{
+    let mut gates = Vec::new(rt.alloc());
+    gates.push(TcpGate::idling(rt.alloc(), rt, listener))?;
+    gates.push(TcpGate::serving(rt.alloc(), rt, listener))?;
+    gates.push(TcpGate::serving(rt.alloc(), rt, listener))?;
+    gates.push(TcpGate::serving(rt.alloc(), rt, listener))?;
+    Ok(gates)
+}
+
+/// Runs the words with these verifiers and this signer over the real input, output, errors, clocks and sockets.
+fn run_with<H: Threads + Wait + Sync, V: Verifier + Send + Sync + Drop, N: Signer + Send + Drop>(
+    workers: &H,
     rt: &HostRuntime,
     words: &[String],
     verifiers: Result<Vec<V>, AllocError>,
     signer: Result<N, AllocError>,
 ) -> Status
-    requires { IfOk verifiers (λ verifiers. 0 < vec_len verifiers) }
+    requires { IfOk verifiers (λ verifiers. vec_len verifiers ≡ 4) }
 {
-    let (Ok(verifiers), Ok(signer), Ok(clocks)) = (verifiers, signer, clocks(rt)) else {
+    let listener = OnceLock::new();
+    let (Ok(clocks), Ok(gates)) = (clocks(rt), gates(rt, &listener)) else {
+        return want_of_memory(rt);
+    };
+    let (Ok(verifiers), Ok(signer)) = (verifiers, signer) else {
         return want_of_memory(rt);
     };
     let mut outside = Outside {
@@ -98,11 +122,13 @@ fn run_with<V: Verifier + Drop, N: Signer + Drop>(
         clocks,
         verifiers,
         signer,
+        gates,
+        link: TcpLink::new(rt.alloc(), rt),
     };
-    run(rt.alloc(), words, &mut outside)
+    run(workers, rt.alloc(), words, &mut outside)
 }
 
-/// Says that there was no memory for the words, the verifiers or the clocks.
+/// Says that there was no memory for the words or for what stands outside.
 fn want_of_memory(rt: &HostRuntime) -> Status {
     let mut errors = StdSink::new(rt.stderr());
     report(&mut errors, Status::Memory);
@@ -110,22 +136,30 @@ fn want_of_memory(rt: &HostRuntime) -> Status {
 }
 
 /// Runs the words, with the verifiers and the signer that they choose.
-fn run_words(rt: &HostRuntime, words: &[String]) -> Status {
+fn run_words<H: Threads + Wait + Sync>(workers: &H, rt: &HostRuntime, words: &[String]) -> Status {
     let alloc = rt.alloc();
     let (keys, words) = keys_of(words);
     match keys {
-        Keys::Test => run_with(rt, words, test_keys(alloc), Ok(test_signer(alloc))),
-        Keys::Service => run_with(rt, words, service_keys(alloc, rt), one_service(alloc, rt)),
+        Keys::Test => run_with(workers, rt, words, test_keys(alloc), Ok(test_signer(alloc))),
+        Keys::Service => run_with(
+            workers,
+            rt,
+            words,
+            service_keys(alloc, rt),
+            one_service(alloc, rt),
+        ),
     }
 }
 
 /// Runs the words behind the program's name, and gives the exit code of the status.
-pub(crate) fn program(rt: &HostRuntime) -> ExitCode {
+///
+/// Workers begin by what `workers` allows.
+pub(crate) fn program<H: Threads + Wait + Sync>(workers: &H, rt: &HostRuntime) -> ExitCode {
     let status = match words(rt) {
-        Ok(words) => run_words(rt, &words),
+        Ok(words) => run_words(workers, rt, &words),
         Err(error) if error.kind() == io::ErrorKind::OutOfMemory => want_of_memory(rt),
         // Words that are no text are none of the grammar, and no words are none either.
-        Err(_) => run_words(rt, &[]),
+        Err(_) => run_words(workers, rt, &[]),
     };
     status.exit_code()
 }

@@ -20,6 +20,7 @@ refusal_parts (refusal.Report why) = report_parts why
 refusal_parts refusal.Verifier = codes "verifier fault" ∷ end ∷ []
 refusal_parts (refusal.Bandwidth why) = bandwidth_parts why
 refusal_parts refusal.Signer = codes "signer fault" ∷ end ∷ []
+refusal_parts refusal.Gate = codes "gate fault" ∷ end ∷ []
 
 -- the parts of a status's line
 abbrev pub parts : Status → List (List ℕ)
@@ -46,6 +47,7 @@ refusal_number (refusal.Report why) = report_number why
 refusal_number refusal.Verifier = 8
 refusal_number (refusal.Bandwidth why) = bandwidth_number why
 refusal_number refusal.Signer = 10
+refusal_number refusal.Gate = 11
 
 -- the number of a status
 abbrev pub number_of : Status → ℕ

@@ -27,6 +27,8 @@ pub enum Refusal {
     Bandwidth(BandwidthRefusal),
     /// The signer failed.
     Signer,
+    /// A gate failed.
+    Gate,
 }
 
 /// How a run ends.
@@ -85,6 +87,7 @@ impl Refusal {
             Refusal::Verifier => 8,
             Refusal::Bandwidth(refusal) => refusal.number(),
             Refusal::Signer => 10,
+            Refusal::Gate => 11,
         }
     }
 }

@@ -47,5 +47,6 @@ fn report_refusal<E: Sink>(errors: &mut E, refusal: Refusal)
         Refusal::Verifier => write_parts(errors, &[b"verifier fault", b"\n"]),
         Refusal::Bandwidth(refusal) => report_bandwidth(errors, refusal),
         Refusal::Signer => write_parts(errors, &[b"signer fault", b"\n"]),
+        Refusal::Gate => write_parts(errors, &[b"gate fault", b"\n"]),
     }
 }

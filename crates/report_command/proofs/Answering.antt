@@ -70,6 +70,7 @@ module _ (rules : Rules) (wanted : Report) (votes : List ReadVote) (consensus : 
       inr (record { acceptable = acceptable; period = a.0; flavour = a.1 })
   of_held now (Err (stop.Refused (refusal.Bandwidth why))) acceptable is a = absurd a
   of_held now (Err (stop.Refused refusal.Signer)) acceptable is a = absurd a
+  of_held now (Err (stop.Refused refusal.Gate)) acceptable is a = absurd a
 
   -- a vote is refused, or the verifier failed at one
   pub of_stop : (asked : Compute) (why : Stop) → asked.roster ≡ wanted.roster → asked.valid_after ≡ wanted.valid_after
@@ -83,6 +84,7 @@ module _ (rules : Rules) (wanted : Report) (votes : List ReadVote) (consensus : 
   of_stop asked (stop.Refused refusal.Verifier) roster period s = inl (rw (sym roster, sym period) s)
   of_stop asked (stop.Refused (refusal.Bandwidth why)) roster period s = absurd s
   of_stop asked (stop.Refused refusal.Signer) roster period s = absurd s
+  of_stop asked (stop.Refused refusal.Gate) roster period s = absurd s
 
   -- ---- an input
 
@@ -106,6 +108,7 @@ module _ (rules : Rules) (wanted : Report) (votes : List ReadVote) (consensus : 
       record { votes = votes; rest = rest; consensus = consensus; reads = reads; says = a }
   of_input bytes (Err (stop.Refused (refusal.Bandwidth why))) reads a = absurd a
   of_input bytes (Err (stop.Refused refusal.Signer)) reads a = absurd a
+  of_input bytes (Err (stop.Refused refusal.Gate)) reads a = absurd a
 
   -- no answer to what an input says is one to what its documents are
   pub not_of_documents : (result : Result (Vec ℕ) Stop) → AnswersWith rules wanted votes consensus rest result
@@ -121,6 +124,7 @@ module _ (rules : Rules) (wanted : Report) (votes : List ReadVote) (consensus : 
   not_of_documents (Err (stop.Refused refusal.Verifier)) a = λ of. absurd of
   not_of_documents (Err (stop.Refused (refusal.Bandwidth why))) a = λ of. absurd of
   not_of_documents (Err (stop.Refused refusal.Signer)) a = λ of. absurd of
+  not_of_documents (Err (stop.Refused refusal.Gate)) a = λ of. absurd of
 
 -- the votes are not read
 pub of_votes : (rules : Rules) (wanted : Report) (bytes : List ℕ) (why : Stop) → ReadsVotes (votes_of bytes) (Err why)
@@ -135,6 +139,7 @@ of_votes rules wanted bytes (stop.Refused (refusal.Report report.Flavour)) a = a
 of_votes rules wanted bytes (stop.Refused refusal.Verifier) a = absurd a
 of_votes rules wanted bytes (stop.Refused (refusal.Bandwidth why)) a = absurd a
 of_votes rules wanted bytes (stop.Refused refusal.Signer) a = absurd a
+of_votes rules wanted bytes (stop.Refused refusal.Gate) a = absurd a
 
 -- the consensus is not read
 pub of_consensus : (rules : Rules) (wanted : Report) (bytes rest : List ℕ) (votes : List ReadVote) (at : ℕ) (why : Stop)
@@ -160,3 +165,4 @@ of_consensus rules wanted bytes rest votes at (stop.Refused (refusal.Report why)
 of_consensus rules wanted bytes rest votes at (stop.Refused refusal.Verifier) read is a = absurd a
 of_consensus rules wanted bytes rest votes at (stop.Refused (refusal.Bandwidth why)) read is a = absurd a
 of_consensus rules wanted bytes rest votes at (stop.Refused refusal.Signer) read is a = absurd a
+of_consensus rules wanted bytes rest votes at (stop.Refused refusal.Gate) read is a = absurd a

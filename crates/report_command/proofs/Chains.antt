@@ -78,6 +78,7 @@ first_fails end [] None (refusal.Station other) all is stops = absurd cc
 first_fails end [] None refusal.Verifier all is stops = absurd cc
 first_fails end [] None (refusal.Bandwidth other) all is stops = absurd cc
 first_fails end [] None refusal.Signer all is stops = absurd cc
+first_fails end [] None refusal.Gate all is stops = absurd cc
 first_fails end [] (Some fault) (refusal.Document other) all is stops = stops
 first_fails end [] (Some fault) (refusal.Report other) all is stops = absurd cc
 first_fails end [] (Some fault) (refusal.Votes other) all is stops = absurd cc
@@ -85,6 +86,7 @@ first_fails end [] (Some fault) (refusal.Station other) all is stops = absurd cc
 first_fails end [] (Some fault) refusal.Verifier all is stops = absurd cc
 first_fails end [] (Some fault) (refusal.Bandwidth other) all is stops = absurd cc
 first_fails end [] (Some fault) refusal.Signer all is stops = absurd cc
+first_fails end [] (Some fault) refusal.Gate all is stops = absurd cc
 first_fails end (item ∷ items) fault why all is stops = absurd cc
 
 -- nothing may stand there

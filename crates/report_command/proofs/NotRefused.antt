@@ -76,3 +76,4 @@ not_refused rules wanted bytes (refusal.Report report.Flavour) can a =
 not_refused rules wanted bytes refusal.Verifier can a = refl
 not_refused rules wanted bytes (refusal.Bandwidth why) can a = absurd a
 not_refused rules wanted bytes refusal.Signer can a = absurd a
+not_refused rules wanted bytes refusal.Gate can a = absurd a

@@ -31,17 +31,17 @@ one_place : (bytes : List ℕ) (a b : BandFile) (m n : ℕ) (first : IsFront byt
     → second.place ≡ first.place
 one_place bytes a b m n first second = ap place_in (sym second.ends ∙ first.ends)
 
-one_front : (bytes : List ℕ) (a b : BandFile) (m n : ℕ) → IsFront bytes a m → IsFront bytes b n → b ≡ a
+pub one_front : (bytes : List ℕ) (a b : BandFile) (m n : ℕ) → IsFront bytes a m → IsFront bytes b n → b ≡ a
 one_front bytes a b m n first second =
     one_file (take first.place bytes) b a
     (subst (λ (p : ℕ). IsBandFile (take p bytes) b) (one_place bytes a b m n first second) second.file_is) first.file_is
 
-one_start : (bytes : List ℕ) (a b : BandFile) (m n : ℕ) → IsFront bytes a m → IsFront bytes b n → n ≡ m
+pub one_start : (bytes : List ℕ) (a b : BandFile) (m n : ℕ) → IsFront bytes a m → IsFront bytes b n → n ≡ m
 one_start bytes a b m n first second =
     second.behind ∙ ap (λ (p : ℕ). p + end_size) (one_place bytes a b m n first second) ∙ sym first.behind
 
 -- it has no fault
-no_fault : (bytes : List ℕ) (file : BandFile) (start : ℕ) (fault : BandFault) → IsFront bytes file start
+pub no_fault : (bytes : List ℕ) (file : BandFile) (start : ℕ) (fault : BandFault) → IsFront bytes file start
     → front_fault bytes ≡ Some fault → ⊥
 no_fault bytes file start fault front is =
     not_there (fault_before bytes (Some front.place)) fault front.file_is.sound
@@ -55,6 +55,7 @@ file_holds rules now bytes (refusal.Station why) can refuses = absurd refuses
 file_holds rules now bytes (refusal.Report why) can refuses = absurd refuses
 file_holds rules now bytes refusal.Verifier can refuses = absurd refuses
 file_holds rules now bytes refusal.Signer can refuses = absurd refuses
+file_holds rules now bytes refusal.Gate can refuses = absurd refuses
 file_holds rules now bytes (refusal.Bandwidth (bandwidth.Fault fault)) can refuses =
     absurd (no_fault bytes can.file can.start fault can.begins.front refuses)
 file_holds rules now bytes (refusal.Bandwidth (bandwidth.Old timestamp)) can refuses =
@@ -62,7 +63,7 @@ file_holds rules now bytes (refusal.Bandwidth (bandwidth.Old timestamp)) can ref
     absurd (can.begins.young (subst (λ (f : BandFile). IsOld f now) same refuses.old))
 
 -- nor has what stands behind it
-not_faulty_behind : (bytes : List ℕ) (file : BandFile) (start : ℕ) (given : StationFacts) (used : ℕ) (why : Refusal)
+pub not_faulty_behind : (bytes : List ℕ) (file : BandFile) (start : ℕ) (given : StationFacts) (used : ℕ) (why : Refusal)
     → station_behind file start bytes ≡ Ok (given, used) → IsFaultyBehind file start bytes (Err why) → IsOfKeys why
 not_faulty_behind bytes file start given used (refusal.Document why) read is = absurd is
 not_faulty_behind bytes file start given used (refusal.Votes why) read is = absurd is
@@ -76,6 +77,7 @@ not_faulty_behind bytes file start given used (refusal.Report why) read is = abs
 not_faulty_behind bytes file start given used refusal.Verifier read is = absurd is
 not_faulty_behind bytes file start given used (refusal.Bandwidth why) read is = absurd is
 not_faulty_behind bytes file start given used refusal.Signer read is = absurd is
+not_faulty_behind bytes file start given used refusal.Gate read is = absurd is
 
 module _ {N : Type 0} (gives : Relation) (steps : SignerSteps N) where
   behind : (rules : Rules) (now : ℕ) (bytes : List ℕ) (old new : N) (why : Refusal)

@@ -45,7 +45,7 @@ use Rattle.station_command_laws.proofs.OneBasis.{one_basis, one_station, one_use
 
 -- ---- the station
 
-not_faulty : (bytes : List ℕ) (given : StationFacts) (used : ℕ) (why : Refusal) → station_of bytes ≡ Ok (given, used)
+pub not_faulty : (bytes : List ℕ) (given : StationFacts) (used : ℕ) (why : Refusal) → station_of bytes ≡ Ok (given, used)
     → IsFaulty bytes (Err why) → IsOfKeys why
 not_faulty bytes given used (refusal.Document why) read is = absurd is
 not_faulty bytes given used (refusal.Votes why) read is = absurd is
@@ -59,8 +59,9 @@ not_faulty bytes given used refusal.Verifier read is = absurd is
 not_faulty bytes given used (refusal.Bandwidth why) read is = absurd is
 not_faulty bytes given used (refusal.Report why) read is = absurd is
 not_faulty bytes given used refusal.Signer read is = absurd is
+not_faulty bytes given used refusal.Gate read is = absurd is
 
-in_order : (given : StationFacts) (schedule : Schedule) (why : Refusal) → IsInOrder given schedule → HasWord given why
+pub in_order : (given : StationFacts) (schedule : Schedule) (why : Refusal) → IsInOrder given schedule → HasWord given why
     → IsOfKeys why
 in_order given schedule (refusal.Document why) order has = absurd has
 in_order given schedule (refusal.Votes why) order has = absurd has
@@ -81,6 +82,7 @@ in_order given schedule refusal.Verifier order has = absurd has
 in_order given schedule (refusal.Bandwidth why) order has = absurd has
 in_order given schedule (refusal.Report why) order has = absurd has
 in_order given schedule refusal.Signer order has = absurd has
+in_order given schedule refusal.Gate order has = absurd has
 
 -- ---- the descriptors
 
@@ -90,7 +92,7 @@ one_holds rules d clause.Identity ok free refused = false≢true (sym refused �
 one_holds rules d clause.Signature ok free refused = false≢true (sym free.signed ∙ refused.1)
 one_holds rules d clause.Ed25519 ok free refused = false≢true (sym free.ed_signed ∙ refused.2)
 
-has_pool : (rules : Rules) (start : ℕ) (bytes : List ℕ) (pool : Pooled) (why : Refusal)
+pub has_pool : (rules : Rules) (start : ℕ) (bytes : List ℕ) (pool : Pooled) (why : Refusal)
     (is : IsPoolOf rules start bytes pool) → All (IsNotRefused rules) is.descriptors
     → RefusesDescriptors rules start bytes why → IsOfKeys why
 has_pool rules start bytes pool (refusal.Document why) is free refuses =
@@ -131,10 +133,11 @@ has_pool rules start bytes pool refusal.Verifier is free refuses = inl refl
 has_pool rules start bytes pool (refusal.Bandwidth why) is free refuses = absurd refuses
 has_pool rules start bytes pool (refusal.Report why) is free refuses = absurd refuses
 has_pool rules start bytes pool refusal.Signer is free refuses = absurd refuses
+has_pool rules start bytes pool refusal.Gate is free refuses = absurd refuses
 
 -- ---- the period
 
-has_period : (rules : Rules) (now : ℕ) (given : StationFacts) (used : ℕ) (bytes : List ℕ) (its : Basis) (why : Refusal)
+pub has_period : (rules : Rules) (now : ℕ) (given : StationFacts) (used : ℕ) (bytes : List ℕ) (its : Basis) (why : Refusal)
     → IsBasisOf rules now given used bytes its → HasNoPeriod (schedule_in given) now why → IsOfKeys why
 has_period rules now given used bytes its (refusal.Document why) is none = absurd none
 has_period rules now given used bytes its (refusal.Votes why) is none = absurd none
@@ -154,6 +157,7 @@ has_period rules now given used bytes its refusal.Verifier is none = absurd none
 has_period rules now given used bytes its (refusal.Bandwidth why) is none = absurd none
 has_period rules now given used bytes its (refusal.Report why) is none = absurd none
 has_period rules now given used bytes its refusal.Signer is none = absurd none
+has_period rules now given used bytes its refusal.Gate is none = absurd none
 
 -- ---- the vote
 

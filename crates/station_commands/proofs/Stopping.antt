@@ -70,6 +70,7 @@ stops_there rules start bytes place number pool full have more (stop.Refused ref
 )
 stops_there rules start bytes place number pool full have more (stop.Refused (refusal.Votes why)) stops = absurd stops
 stops_there rules start bytes place number pool full have more (stop.Refused refusal.Signer) stops = absurd stops
+stops_there rules start bytes place number pool full have more (stop.Refused refusal.Gate) stops = absurd stops
 stops_there rules start bytes place number pool full have more (stop.Refused (refusal.Bandwidth why)) stops = absurd stops
 stops_there rules start bytes place number pool full have more (stop.Refused (refusal.Report why)) stops = absurd stops
 stops_there rules start bytes place number pool full have more (stop.Refused (refusal.Station (station.Fault why))) stops =
@@ -115,6 +116,7 @@ not_of_station rules start bytes (stop.Refused (refusal.Document why)) gives of 
 not_of_station rules start bytes (stop.Refused (refusal.Votes why)) gives of = of
 not_of_station rules start bytes (stop.Refused refusal.Verifier) gives of = of
 not_of_station rules start bytes (stop.Refused refusal.Signer) gives of = of
+not_of_station rules start bytes (stop.Refused refusal.Gate) gives of = of
 not_of_station rules start bytes (stop.Refused (refusal.Bandwidth why)) gives of = gives
 not_of_station rules start bytes (stop.Refused (refusal.Report why)) gives of = of
 not_of_station rules start bytes (stop.Refused (refusal.Station (station.Fault why))) gives of = gives
@@ -135,6 +137,7 @@ period_not_of_station schedule now (stop.Refused (refusal.Document other)) is of
 period_not_of_station schedule now (stop.Refused (refusal.Votes other)) is of = of
 period_not_of_station schedule now (stop.Refused refusal.Verifier) is of = of
 period_not_of_station schedule now (stop.Refused refusal.Signer) is of = of
+period_not_of_station schedule now (stop.Refused refusal.Gate) is of = of
 period_not_of_station schedule now (stop.Refused (refusal.Bandwidth other)) is of = is
 period_not_of_station schedule now (stop.Refused (refusal.Report other)) is of = of
 period_not_of_station schedule now (stop.Refused (refusal.Station (station.Fault other))) is of = is

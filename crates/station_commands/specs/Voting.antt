@@ -126,6 +126,7 @@ IsOfStation _ = ⊥
 abbrev pub IsBeforeSigner : Stop → Type 0
 IsBeforeSigner stop.Memory = ⊥
 IsBeforeSigner (stop.Refused refusal.Signer) = ⊥
+IsBeforeSigner (stop.Refused refusal.Gate) = ⊥
 IsBeforeSigner (stop.Refused (refusal.Station station.MadeVote)) = ⊥
 IsBeforeSigner (stop.Refused _) = Unit {0}
 

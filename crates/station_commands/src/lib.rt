@@ -7,5 +7,7 @@ mod order;
 mod told;
 mod voting;
 
-pub use descriptors::from_place;
-pub use making::{make_vote, vote_from};
+pub use descriptors::{from_place, pool_of};
+pub use making::{make_vote, period_of, station_of, vote_from};
+pub use order::{members_of, schedule_of};
+pub use told::{cert_refused, station_refused};

@@ -23,7 +23,10 @@ use std::alloc::Global;
 use vote_schedule::{Config, next_valid_after};
 
 /// What a station is given, and the place behind it, where its descriptors begin.
-fn station_of(alloc: Global, bytes: &Bytes) -> Result<(StationFacts, usize), Stop>
+///
+/// # Errors
+/// `Refused` by `Station`: its first fault. `Memory` is want of memory.
+pub fn station_of(alloc: Global, bytes: &Bytes) -> Result<(StationFacts, usize), Stop>
     requires { length bytes.now < 2 ^ 61 }
     ensures gives { voting.GivesStation bytes.now result }
     ensures others { IsOfNoKeys result }
@@ -38,7 +41,10 @@ fn station_of(alloc: Global, bytes: &Bytes) -> Result<(StationFacts, usize), Sto
 }
 
 /// When the next consensus of a schedule becomes valid, of which a vote can still be made at the moment `now`.
-fn period_of(schedule: &Config, now: u64) -> Result<u64, Stop>
+///
+/// # Errors
+/// `Refused` by `EndOfTime`, where there is none any more.
+pub fn period_of(schedule: &Config, now: u64) -> Result<u64, Stop>
     ensures gives { voting.GivesPeriod schedule.now now result }
     ensures schedule { IsSchedule schedule.now }
     ensures others { IsOfNoKeys result }

@@ -12,7 +12,7 @@ use std::alloc::Global;
 use vote_schedule::Config;
 
 /// The identities of the authorities of the network.
-fn members_of(alloc: Global, authorities: &[Peer]) -> Result<Vec<Fingerprint>, Memory>
+pub fn members_of(alloc: Global, authorities: &[Peer]) -> Result<Vec<Fingerprint>, Memory>
     ensures { IfOk result (λ members. members.items ≡ order.identities_of authorities.now) }
 {
     let mut members = Vec::with_capacity(alloc, authorities.len())?;

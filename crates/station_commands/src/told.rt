@@ -41,7 +41,7 @@ fn cert_word(word: CertWord) -> Stop
 }
 
 /// That the own certificate does not hold; it is not asked of one that does.
-fn cert_refused(answer: CertAnswer) -> Stop
+pub fn cert_refused(answer: CertAnswer) -> Stop
     ensures { result ≡ told.cert_refused answer }
 {
     match answer {

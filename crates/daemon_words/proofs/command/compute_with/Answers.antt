@@ -1,4 +1,4 @@
-use Rattle.std.proofs.Common.{sym, ap, ap₂, ◌∙◌, ℕ, List}
+use Rattle.std.proofs.Common.{sym, ap₂, ◌∙◌, ℕ, List}
 use Rattle.std.proofs.lemmas.Result.{IfOk-weaker}
 use Rattle.clap.specs.Words.{found_of}
 use Rattle.daemon_words.specs.Words.{compute_of}

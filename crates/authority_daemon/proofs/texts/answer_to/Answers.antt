@@ -2,7 +2,7 @@ use Rattle.std.proofs.Common.{◌<◌, length, rules}
 use Rattle.authority_daemon.specs.Commands.{asks_clock, may}
 use Rattle.authority_daemon.proofs.Asking.{behind_stay, counted, first_is, none_asked, tells, vote_answered}
 use Rattle.authority_daemon.proofs.Ending.{on_true}
-use Rattle.authority_daemon.proofs.program.answer_to.Goals as goal
+use Rattle.authority_daemon.proofs.texts.answer_to.Goals as goal
 
 pub returns-in-MakeVote-clause-answer : goal.returns-in-MakeVote-clause-answer
 returns-in-MakeVote-clause-answer g c =

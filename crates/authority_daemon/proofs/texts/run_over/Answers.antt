@@ -5,7 +5,7 @@ use Rattle.exit_status.specs.declared.stop.Stop.TheVariants as stop
 use Rattle.authority_daemon.specs.Commands.{Answers, may}
 use Rattle.authority_daemon.specs.Runs.{first_count}
 use Rattle.authority_daemon.proofs.Ending.{as_refused, done, failed, has_ended, is_within, over_input, refused, tells_refusal}
-use Rattle.authority_daemon.proofs.program.run_over.Goals as goal
+use Rattle.authority_daemon.proofs.texts.run_over.Goals as goal
 
 pub returns-in-Done-clause-run : goal.returns-in-Done-clause-run
 returns-in-Done-clause-run g c =
@@ -44,6 +44,8 @@ returns-in-Done-clause-run g c =
       untimed = search rules;
       unsigned = search rules;
       unasked_signer = search rules;
+      ungated = search rules;
+      unlinked = search rules;
     }
 
 pub returns-in-Ok-answer-clause-run : goal.returns-in-Ok-answer-clause-run
@@ -84,6 +86,8 @@ returns-in-Ok-answer-clause-run g c =
       untimed = search rules;
       unsigned = search rules;
       unasked_signer = search rules;
+      ungated = search rules;
+      unlinked = search rules;
     }
 
 pub returns-clause-run : goal.returns-clause-run
@@ -122,4 +126,6 @@ returns-clause-run g c =
       untimed = search rules;
       unsigned = search rules;
       unasked_signer = told.unasked_signer;
+      ungated = search rules;
+      unlinked = search rules;
     }

@@ -1,0 +1,73 @@
+-- What an authority starts with, call by call.
+use Rattle.std.proofs.Common.{◌≡◌, ℕ, List, length, Some, None, Ok, refl, subst, ◌∙◌, arith}
+use Rattle.std.specs.Prelude.{◌≢◌, All}
+use Rattle.key_port.specs.Answers.{Rules}
+use Rattle.authority_certs.specs.Checks.{IsCertified}
+use Rattle.daemon_words.specs.declared.command.Measures.{Measures}
+use Rattle.station_input.specs.declared.facts.StationFacts.{StationFacts}
+use Rattle.vote_pool.specs.Pools.{Pooled}
+use Rattle.vote_schedule.specs.Schedules.{IsSchedule, Schedule}
+use Rattle.vote_maker.specs.Made.{basis, schedule_in}
+use Rattle.period_terms.specs.Schedules.{next_valid_after}
+use Rattle.period_terms.specs.declared.state.State.{State}
+use Rattle.period_terms.proofs.NextPeriods.{answers_one, next_is_next}
+use Rattle.board_terms.specs.Boards.{IsAt, IsNew, Locks, Parts}
+use Rattle.station_commands.specs.Voting.{GivesPeriod, HasPool}
+use Rattle.serve_command.specs.Private.{CanBeginBy, IsReadIn, IsReady}
+use Rattle.serve_command.specs.Starting.{IsStartOf}
+
+-- the next period can begin
+pub period_ahead : (rules : Rules) (now : ℕ) (given : StationFacts) (used : ℕ) (bytes : List ℕ) (schedule : Schedule)
+    (pool : Pooled) → CanBeginBy rules now given used bytes schedule pool
+    → next_valid_after (schedule_in given) 0 now ≢ None
+period_ahead rules now given used bytes schedule pool can none =
+    let its = can.can.its in
+    let is : IsSchedule (schedule_in given) = subst IsSchedule can.schedule_is can.times in
+    let next : Some its.valid_after ≡ next_valid_after (schedule_in given) 0 now =
+    answers_one (schedule_in given) 0 now (Some its.valid_after) (next_valid_after (schedule_in given) 0 now)
+    (can.can.basis.next, can.can.basis.life) (next_is_next (schedule_in given) 0 now is) in
+    let clash : Some its.valid_after ≡ None = next ∙ none in
+    cc clash
+
+-- an authority can begin
+pub can_begin : (rules : Rules) (now : ℕ) (given : StationFacts) (used : ℕ) (bytes : List ℕ) (schedule : Schedule)
+    (pool : Pooled) (valid_after : ℕ) → HasPool rules given used bytes pool → schedule ≡ schedule_in given
+    → IsSchedule schedule → GivesPeriod schedule now (Ok valid_after) → IsCertified rules valid_after given.certificate
+    → CanBeginBy rules now given used bytes schedule pool
+can_begin rules now given used bytes schedule pool valid_after has same times next certified =
+    let there = subst (λ (s : Schedule). GivesPeriod s now (Ok valid_after)) same next in
+    record {
+      can = record {
+        its = basis given pool.descriptors valid_after now;
+        basis = record {
+          pool = pool;
+          has_pool = has;
+          station_is = refl;
+          descriptors_are = refl;
+          next = there.0;
+          life = there.1;
+          moment_is = refl;
+        };
+        pool_is = refl;
+        certified = certified;
+      };
+      schedule_is = same;
+      times = times;
+    }
+
+-- board and passes are ready
+pub is_ready : (rules : Rules) (from : Measures) (now : ℕ) (bytes : List ℕ) (count : ℕ) (given : StationFacts)
+    (used : ℕ) (schedule : Schedule) (start : State) (pool : Pooled) (board : Locks) (passes : List Parts)
+    → IsReadIn from now bytes given used → CanBeginBy rules now given used bytes schedule pool
+    → IsStartOf given now start → (board.station.start ≡ start) × (board.pool.start ≡ pool)
+    → (board.station.passes ≡ count) × (board.pool.passes ≡ count) × (length passes ≡ count)
+    → All (IsNew board) passes → All (IsAt board) passes → IsReady rules from now bytes count board passes
+is_ready rules from now bytes count given used schedule start pool board passes reads can starts begun counts new at =
+    record {
+      its = record { given = given; start = start; pool = pool };
+      starts = record { used = used; stands = reads.stands; begins = can.can; start_is = starts };
+      is_board = record { station = begun.0; pool = begun.1; new = new; length_is = counts.2 };
+      at = at;
+      stations = omega (arith, counts.0, counts.2);
+      pools = omega (arith, counts.1, counts.2);
+    }

@@ -1,0 +1,5 @@
+pub mod Starting
+pub mod Serving
+pub mod Answerable
+pub mod Private
+pub mod Passed

@@ -1,0 +1,43 @@
+-- What the private functions of this crate say.
+use Rattle.std.specs.Prelude.{◌≡◌, ◌≤◌, ℕ, List, All, length}
+use Rattle.key_port.specs.Answers.{Rules}
+use Rattle.flag_rules.specs.Rules.{AreApart}
+use Rattle.daemon_words.specs.declared.command.Measures.{Measures}
+use Rattle.exit_status.specs.declared.status.Refusal.{Refusal}
+use Rattle.exit_status.specs.declared.stop.Stop.{Stop}
+use Rattle.exit_status.specs.declared.stop.Stop.TheVariants as stop
+use Rattle.station_input.specs.declared.facts.StationFacts.{StationFacts}
+use Rattle.vote_pool.specs.Pools.{Pooled}
+use Rattle.vote_schedule.specs.Schedules.{IsSchedule, Schedule}
+use Rattle.vote_maker.specs.Made.{schedule_in}
+use Rattle.board_terms.specs.Boards.{IsAt, Locks, Parts}
+use Rattle.serve_command.specs.Serving.{IsBoardOf}
+use Rattle.serve_command.specs.Starting.{CanBegin, StandsIn, Starting, StartsAs}
+
+-- a call stopped for a reason of this kind, or there was no memory
+abbrev pub StopsFor : (Refusal → Type 0) → Stop → Type 0
+StopsFor Refuses stop.Memory = Unit {0}
+StopsFor Refuses (stop.Refused why) = Refuses why
+
+-- What was read is what a station is given, and stands within the input; no two of its rules are of one relay.
+pub record IsReadIn (from : Measures) (now : ℕ) (bytes : List ℕ) (given : StationFacts) (used : ℕ) : Type 0 where
+  pub stands : StandsIn from now bytes given used
+  pub within : used ≤ length bytes
+  pub apart : AreApart given.rules
+
+-- An authority can begin with this pool by this schedule.
+pub record CanBeginBy (rules : Rules) (now : ℕ) (given : StationFacts) (used : ℕ) (bytes : List ℕ) (schedule : Schedule)
+    (pool : Pooled) : Type 0 where
+  pub can : CanBegin rules now given used bytes pool
+  pub schedule_is : schedule ≡ schedule_in given
+  pub times : IsSchedule schedule
+
+-- Board and passes are of an authority that starts as the input has it, and all passes of the board are there.
+pub record IsReady (rules : Rules) (from : Measures) (now : ℕ) (bytes : List ℕ) (count : ℕ) (board : Locks)
+    (passes : List Parts) : Type 0 where
+  pub its : Starting
+  pub starts : StartsAs rules from now bytes its
+  pub is_board : IsBoardOf its count board passes
+  pub at : All (IsAt board) passes
+  pub stations : board.station.passes ≤ length passes
+  pub pools : board.pool.passes ≤ length passes

@@ -1,0 +1,62 @@
+// An authority that is ready to serve.
+ghost use Rattle.std.specs.Prelude.{◌≡◌, ◌<◌, ◌^◌, Err, IfErr, IfOk, length};
+ghost use Rattle.dir_bytes.specs.Causes.{Rose};
+ghost use Rattle.key_port.specs.Answers.{rules};
+ghost use Rattle.serve_command.specs.Private.{IsReady, StopsFor};
+ghost use Rattle.serve_command.specs.Starting.{RefusesToServe};
+
+use crate::beginning::beginning_of;
+use crate::starting::start;
+use crate::station::station_in;
+use bytes::Bytes;
+use daemon_words::Measures;
+use exit_status::{Refusal, Stop};
+use flag_rules::OperatorList;
+use key_port::Verifier;
+use serve_board::{Board, Pass};
+use station_input::StationFacts;
+use std::alloc::Global;
+
+/// What workers serve with: what their station is given, its operator's rules, a board, and a pass of it for each.
+pub(crate) struct Ready<V: Verifier> {
+    pub(crate) station: StationFacts,
+    pub(crate) operator: OperatorList,
+    pub(crate) board: Board<V>,
+    pub(crate) passes: Vec<Pass<V>>,
+}
+
+/// What so many workers serve with, as an input has it at the moment `now`.
+///
+/// # Errors
+/// `Refused` by the first that applies: those of `station_in`, and then those of `beginning_of`. `Memory` is want of
+/// memory.
+pub(crate) fn prepare<V: Verifier>(
+    alloc: Global,
+    measures: Measures,
+    bytes: &Bytes,
+    now: u64,
+    workers: u32,
+    verifier: &mut V,
+) -> Result<Ready<V>, Stop>
+    requires short { length bytes.now < 2 ^ 61 }
+    requires some { 0 < workers }
+    ensures ready { IfOk result (λ ready. IsReady (rules V.may_accept V.may_refuse) measures now bytes.now workers
+        ready.board ready.passes.items) }
+    ensures stops { IfErr result (λ why.
+        StopsFor (RefusesToServe (rules V.may_accept V.may_refuse) measures now bytes.now) why) }
+    ensures fault { result ≡ Err (Stop.Refused Refusal.Verifier)
+        → Rose (V.faults verifier.old) (V.faults verifier.new) }
+    ensures told { V.faults verifier.old < V.faults verifier.new → result ≡ Err (Stop.Refused Refusal.Verifier) }
+{
+    let (station, used) = station_in(alloc, measures, now, bytes)?;
+    let operator = OperatorList::new(station.rules.as_slice().to_vec(alloc)?);
+    let (schedule, pool) = beginning_of(alloc, bytes, &station, used, now, verifier)?;
+    let started = start(alloc, &station, schedule, now)?;
+    let (board, passes) = Board::new(alloc, started, pool, workers)?;
+    Ok(Ready {
+        station,
+        operator,
+        board,
+        passes,
+    })
+}
