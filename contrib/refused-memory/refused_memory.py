@@ -14,20 +14,21 @@ import subprocess
 import sys
 import tempfile
 
-# The C library's requests, counted; the one whose number is REFUSED_AT is refused.
+# The C library's requests, counted in a page of the file REQUESTS, so that they are told however the program ends; the one
+# whose number is REFUSED_AT is refused.
 SHIM = r"""
 #include <errno.h>
 #include <fcntl.h>
 #include <stddef.h>
 #include <stdlib.h>
+#include <sys/mman.h>
 #include <unistd.h>
 extern void *__libc_malloc(size_t);
 extern void *__libc_calloc(size_t, size_t);
 extern void *__libc_realloc(void *, size_t);
-static unsigned long requests, refused_at;
-static int counting;
+static unsigned long refused_at, *requests;
 static int is_refused(void) {
-  if (!counting || __atomic_add_fetch(&requests, 1, __ATOMIC_SEQ_CST) != refused_at) return 0;
+  if (!requests || __atomic_add_fetch(requests, 1, __ATOMIC_SEQ_CST) != refused_at) return 0;
   errno = ENOMEM;
   return 1;
 }
@@ -35,20 +36,13 @@ void *malloc(size_t n) { return is_refused() ? NULL : __libc_malloc(n); }
 void *calloc(size_t n, size_t m) { return is_refused() ? NULL : __libc_calloc(n, m); }
 void *realloc(void *p, size_t n) { return is_refused() ? NULL : __libc_realloc(p, n); }
 __attribute__((constructor)) static void begin(void) {
-  const char *at = getenv("REFUSED_AT");
+  const char *at = getenv("REFUSED_AT"), *path = getenv("REQUESTS");
   if (at) refused_at = strtoul(at, NULL, 10);
-  counting = 1;
-}
-__attribute__((destructor)) static void end(void) {
-  const char *path = getenv("REQUESTS");
-  char digits[24];
-  int place = sizeof digits;
-  unsigned long left = requests;
-  counting = 0;
-  if (!path) return;
-  do digits[--place] = '0' + left % 10; while (left /= 10);
-  int file = open(path, O_WRONLY | O_CREAT | O_TRUNC, 0600);
-  if (file >= 0 && write(file, digits + place, sizeof digits - place) >= 0) close(file);
+  int file = path ? open(path, O_RDWR | O_CREAT | O_TRUNC, 0600) : -1;
+  if (file < 0 || ftruncate(file, sizeof *requests)) return;
+  void *page = mmap(NULL, sizeof *requests, PROT_READ | PROT_WRITE, MAP_SHARED, file, 0);
+  close(file);
+  if (page != MAP_FAILED) requests = page;
 }
 """
 WANTED = {b"want of memory\n": "status 1, want of memory", b"": "status 1, no line"}
@@ -64,7 +58,7 @@ def build(compiler, folder):
 
 
 def run(library, words, data, at, counts):
-    """How a run ends, and how many requests it made, where it lived to tell."""
+    """How a run ends, and how many requests it made."""
     env = dict(os.environ, LD_PRELOAD=library, REFUSED_AT=str(at), REQUESTS=counts)
     if os.path.exists(counts):
         os.remove(counts)
@@ -74,8 +68,8 @@ def run(library, words, data, at, counts):
         return None, b"", b"", None
     requests = None
     if os.path.exists(counts):
-        with open(counts) as file:
-            requests = int(file.read() or 0)
+        with open(counts, "rb") as file:
+            requests = int.from_bytes(file.read(), sys.byteorder)
     return done.returncode, done.stdout, done.stderr, requests
 
 
