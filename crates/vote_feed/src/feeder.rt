@@ -209,6 +209,17 @@ impl VoteFeeder {
         read(self.alloc, &bytes, 0)
     }
 
+    /// The bytes that were taken.
+    ///
+    /// # Errors
+    /// `Memory` is want of memory.
+    pub fn into_bytes(self) -> Result<Vec<u8>, Memory>
+        ensures { IfOk result (λ bytes. bytes.items ≡ self) }
+    {
+        let bytes = with_beside(self.bytes, self.beside)?;
+        Ok(bytes)
+    }
+
     /// How many bytes are kept: those that were taken, and never more than a vote may have.
     pub fn held(&self) -> usize
         ensures { result ≡ min (length self.now) max_vote }
