@@ -1,5 +1,5 @@
 -- The text that was written is that of the consensus of the held votes.
-use Rattle.std.proofs.Common.{◌≡◌, ℕ, true, List, length, Result, Ok, sym, ap, ◌∙◌, subst}
+use Rattle.std.proofs.Common.{◌≡◌, ℕ, true, List, length, Result, Ok, Err, refl, sym, ap, ◌∙◌, subst}
 use Rattle.std.specs.Prelude.{All}
 use Rattle.std.specs.Global.{Vec}
 use Rattle.frame_terms.specs.declared.fault.ReadRefusal.{ReadRefusal}
@@ -12,11 +12,15 @@ use Rattle.compute_terms.specs.Consensuses.{consensus}
 use Rattle.consensus_terms.specs.declared.consensus.Consensus.{Consensus}
 use Rattle.daemon_words.specs.declared.command.Compute.{Compute}
 use Rattle.daemon_words.specs.declared.command.Kind.{Kind}
-use Rattle.exit_status.specs.Stops.{of_kind}
+use Rattle.exit_status.specs.Stops.{Answered, of_kind}
+use Rattle.exit_status.specs.declared.status.Refusal.TheVariants as refusal
+use Rattle.exit_status.specs.declared.stop.Stop.{Stop}
+use Rattle.exit_status.specs.declared.stop.Stop.TheVariants as stop
+use Rattle.exit_status.specs.declared.vote_refusal.VoteListRefusal.TheVariants as list
 use Rattle.exit_status.proofs.WentOn.{went_on}
 use Rattle.compute_command.specs.Votes.{votes_of}
-use Rattle.compute_command.specs.Answers.{Computes, texts_of}
-use Rattle.compute_command.specs.Private.{ReadsVotes}
+use Rattle.compute_command.specs.Answers.{ComputeAnswers, Computes, texts_of}
+use Rattle.compute_command.specs.Private.{ReadsVotes, WritesText}
 
 -- the votes that were read
 pub votes_read : (kind : Kind) (all : Result (List ReadVote) ReadRefusal) (read : Result (Vec ReadVote) ReadRefusal)
@@ -41,3 +45,31 @@ computes rules wanted bytes text votes now roster c read acceptable held_is rost
       (c_is ∙ ap (λ (r : ℕ). consensus r now) roster_is
       ∙ ap (λ (h : List ReadVote). consensus (length wanted.roster) h) held_is);
 }
+
+-- what was written, or that they are too few, answers the votes that were read
+pub text_answers : (rules : Rules) (wanted : Compute) (bytes : List ℕ) (votes now : List ReadVote) (result : Result (Vec ℕ) Stop)
+    → votes_of bytes ≡ Ok votes → All (λ vote. IsAcceptable rules wanted.roster wanted.valid_after vote) votes
+    → now ≡ held votes → WritesText wanted now result → Answered (ComputeAnswers rules wanted bytes) result
+text_answers rules wanted bytes votes now (Ok text) read acceptable held_is is =
+    computes rules wanted bytes text.items votes now (length wanted.roster) (consensus (length wanted.roster) now) read
+    acceptable held_is refl is.0 refl is.1
+text_answers rules wanted bytes votes now (Err stop.Memory) read acceptable held_is is = tt
+text_answers rules wanted bytes votes now (Err (stop.Refused (refusal.Votes (list.TooFew count roster)))) read acceptable
+    held_is is = record {
+      votes = votes;
+      read = read;
+      acceptable = acceptable;
+      count_is = is.1 ∙ ap (λ (h : List ReadVote). length h) held_is;
+      roster_is = is.2;
+      few =
+          ap (λ (n : ℕ). over n roster) is.1 ∙ ap (λ (n : ℕ). over (length now) n) is.2 ∙ is.0;
+    }
+text_answers rules wanted bytes votes now (Err (stop.Refused (refusal.Votes (list.Vote number word)))) read acceptable held_is
+    is = absurd is
+text_answers rules wanted bytes votes now (Err (stop.Refused (refusal.Document why))) read acceptable held_is is = absurd is
+text_answers rules wanted bytes votes now (Err (stop.Refused (refusal.Station why))) read acceptable held_is is = absurd is
+text_answers rules wanted bytes votes now (Err (stop.Refused (refusal.Report why))) read acceptable held_is is = absurd is
+text_answers rules wanted bytes votes now (Err (stop.Refused (refusal.Bandwidth why))) read acceptable held_is is = absurd is
+text_answers rules wanted bytes votes now (Err (stop.Refused refusal.Verifier)) read acceptable held_is is = absurd is
+text_answers rules wanted bytes votes now (Err (stop.Refused refusal.Signer)) read acceptable held_is is = absurd is
+text_answers rules wanted bytes votes now (Err (stop.Refused refusal.Gate)) read acceptable held_is is = absurd is

@@ -4,3 +4,15 @@ pub mod Chains
 pub mod Computing
 pub mod NotRefused
 pub mod Faults
+pub mod TailLines
+pub mod TailEnds
+pub mod NextVotes
+pub mod Furthers
+pub mod Rests
+pub mod Beyonds
+pub mod Checks
+pub mod Turning
+pub mod Stages
+pub mod Arrivals
+pub mod Sources
+pub mod Reasons

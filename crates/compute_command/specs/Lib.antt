@@ -2,3 +2,9 @@ pub mod Votes
 pub mod Answers
 pub mod Accepting
 pub mod Private
+pub mod Tails
+pub mod Furthers
+pub mod Beyonds
+pub mod Rests
+pub mod Checked
+pub mod Arriving

@@ -38,7 +38,7 @@ fn word_of(refusal: VoteRefusal) -> Option<VoteWord>
 }
 
 /// What refusing the vote with this number says.
-fn refused(number: u64, refusal: VoteRefusal) -> Refusal
+pub(crate) fn refused(number: u64, refusal: VoteRefusal) -> Refusal
     ensures { result ≡ words.refusal_of number refusal }
 {
     match word_of(refusal) {

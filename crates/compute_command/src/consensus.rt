@@ -5,7 +5,7 @@ ghost use Rattle.dir_bytes.specs.Causes.{Rose};
 ghost use Rattle.key_port.specs.Answers.{rules};
 ghost use Rattle.exit_status.specs.Stops.{Answered};
 ghost use Rattle.compute_command.specs.Answers.{ComputeAnswers, IsOfDocuments, texts_of};
-ghost use Rattle.compute_command.specs.Private.{GivesConsensus};
+ghost use Rattle.compute_command.specs.Private.{GivesConsensus, WritesText};
 
 use crate::accepting::accept;
 use crate::reading::votes_of;
@@ -39,8 +39,18 @@ pub fn compute<V: Verifier>(
 {
     let votes = of_kind(Kind::Vote, votes_of(alloc, bytes))?;
     let accepted = accept(alloc, wanted, votes, verifier)?;
+    text_of(alloc, wanted, &accepted)
+}
+
+/// The texts of the consensus of the held votes in the flavours that are wanted, or why there are none.
+///
+/// # Errors
+/// `Refused` where they are not of more than half of the roster. `Memory` is want of memory.
+pub(crate) fn text_of(alloc: Global, wanted: &Compute, accepted: &Accepted) -> Result<Vec<u8>, Stop>
+    ensures { WritesText wanted.now accepted.now.votes result }
+{
     let roster = wanted.roster.len() as u32;
-    let consensus = consensus_of(alloc, roster, &accepted)?;
+    let consensus = consensus_of(alloc, roster, accepted)?;
     let text = texts_of(alloc, &consensus, wanted.flavours)?;
     Ok(text)
 }

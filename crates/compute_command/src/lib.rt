@@ -2,8 +2,18 @@
 #![tactic(auto)]
 
 mod accepting;
+mod arriving;
+mod beyond;
+mod checking;
 mod consensus;
+mod from_source;
+mod further;
+mod halt;
 mod reading;
+mod rest;
+mod tail;
 
 pub use accepting::accept;
 pub use consensus::compute;
+pub use from_source::compute_from;
+pub use halt::Halt;

@@ -1,20 +1,34 @@
 // The votes that an input is.
 ghost use Rattle.std.specs.Prelude.{◌≡◌, ◌≤◌, ◌<◌, ◌^◌, IfOk, length, vec_len};
+ghost use Rattle.dirdoc_grammar.specs.Seen.{seen};
 ghost use Rattle.compute_command.specs.Votes as votes;
 ghost use Rattle.compute_command.specs.Private.{ReadsVotes};
 
 use bytes::Bytes;
-use dirdoc_grammar::Items;
+use dirdoc_grammar::{Item, Items};
 use frame_reader::first_fault;
 use frame_terms::{FrameFault, FrameReason, Limit, ReadRefusal};
 use std::alloc::Global;
 use vote_doc::{Vote, VoteFrame, read};
 
 /// How many votes an input may have.
-const MOST_VOTES: usize = 64;
+pub(crate) const MOST_VOTES: usize = 64;
 
 /// More bytes than an input has.
-const NO_LIMIT: u64 = 2_305_843_009_213_693_952;
+pub(crate) const NO_LIMIT: u64 = 2_305_843_009_213_693_952;
+
+/// Why the first item of a vote too many is refused: it begins no vote, or there are too many.
+pub(crate) fn item_too_many(item: &Item<'_>) -> FrameFault
+    ensures { result ≡ votes.item_too_many (seen item.now) }
+{
+    match first_fault(VoteFrame, item) {
+        Some(fault) => fault,
+        None => FrameFault {
+            place: item.place,
+            reason: FrameReason::TooMany(Limit::Votes),
+        },
+    }
+}
 
 /// Nothing where only blank lines follow a place, and else why one more vote is refused.
 fn one_more(bytes: &[u8], place: usize) -> Option<ReadRefusal>
@@ -25,13 +39,7 @@ fn one_more(bytes: &[u8], place: usize) -> Option<ReadRefusal>
     match Items::starting_at(bytes, place as u64, NO_LIMIT).next() {
         Ok(None) => None,
         Err(fault) => Some(ReadRefusal::from(fault)),
-        Ok(Some(item)) => Some(ReadRefusal::Frame(match first_fault(VoteFrame, &item) {
-            Some(fault) => fault,
-            None => FrameFault {
-                place: item.place,
-                reason: FrameReason::TooMany(Limit::Votes),
-            },
-        })),
+        Ok(Some(item)) => Some(ReadRefusal::Frame(item_too_many(&item))),
     }
 }
 

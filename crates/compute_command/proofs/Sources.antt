@@ -1,0 +1,216 @@
+-- The command over a source: what was read of it, and what it answers then.
+use Rattle.std.proofs.Common.{◌≡◌, ◌∙◌, ℕ, ◌+◌, ◌<◌, ◌≤◌, ◌^◌, List, [], ◌++◌, length, Option, Some, None}
+use Rattle.std.proofs.Common.{Result, Ok, Err}
+use Rattle.std.proofs.Common.{refl, sym, ap, subst, inl, inr, arith, length-append, append-nil}
+use Rattle.std.specs.Global.{Vec}
+use Rattle.std.specs.Io.KnownBytes.{Consumes, IsAtEnd, Keeps}
+use Rattle.dir_bytes.specs.Causes.{Rose}
+use Rattle.dir_bytes.specs.Streams.{TakesAtMost}
+use Rattle.dir_bytes.proofs.Appending.{consumes_more}
+use Rattle.key_port.specs.Answers.{Rules}
+use Rattle.vote_doc.specs.Holdings.{Holding}
+use Rattle.daemon_words.specs.declared.command.Compute.{Compute}
+use Rattle.exit_status.specs.Stops.{Answered}
+use Rattle.exit_status.specs.declared.status.Refusal.{Refusal}
+use Rattle.exit_status.specs.declared.status.Refusal.TheVariants as refusal
+use Rattle.exit_status.specs.declared.stop.Stop.{Stop}
+use Rattle.exit_status.specs.declared.stop.Stop.TheVariants as stop
+use Rattle.exit_status.specs.declared.vote_refusal.VoteListRefusal.TheVariants as list
+use Rattle.compute_command.specs.declared.arriving.Arriving.{Arriving}
+use Rattle.compute_command.specs.declared.halt.Halt.{Halt}
+use Rattle.compute_command.specs.declared.halt.Halt.TheVariants as halt
+use Rattle.compute_command.specs.Answers.{ComputeAnswers}
+use Rattle.compute_command.specs.Arriving.{ComputesFrom, EndsAll, EndsSo, HasReadVotes, HasWhole}
+use Rattle.compute_command.specs.Arriving.{TellsEnd, TellsVerifier}
+use Rattle.compute_command.specs.Checked.{TellsFirst}
+use Rattle.compute_command.specs.Private.{WritesText}
+use Rattle.compute_command.proofs.Computing.{text_answers}
+
+-- what was written, or why it was not
+abbrev pub halted : Result (Vec ℕ) Stop → Result (Vec ℕ) Halt
+halted (Ok text) = Ok text
+halted (Err why) = Err (halt.Stops why)
+
+-- ---- pieces of a source
+
+-- with one piece more
+pub takes_most : (old mid new : Option (List ℕ)) (bytes piece : List ℕ) (most : ℕ) → Consumes old mid bytes
+    → Consumes mid new piece → length bytes + length piece ≤ most → TakesAtMost old new most
+takes_most old mid new bytes piece most taken more few =
+    (bytes ++ piece, consumes_more old mid new bytes piece taken more, omega (arith, length-append bytes piece, few))
+
+keeps_taken : (old mid new : Option (List ℕ)) (bytes : List ℕ) → Consumes old mid bytes → Keeps mid new
+    → Consumes old new bytes
+keeps_taken None mid new bytes taken same = tt
+keeps_taken (Some all) None new bytes taken same = absurd taken
+keeps_taken (Some all) (Some left) None bytes taken same = absurd same
+keeps_taken (Some all) (Some left) (Some more) bytes taken same = taken ∙ ap (λ (l : List ℕ). bytes ++ l) (sym same)
+
+-- with none more
+pub keeps_most : (old mid new : Option (List ℕ)) (bytes : List ℕ) (most : ℕ) → Consumes old mid bytes → Keeps mid new
+    → length bytes ≤ most → TakesAtMost old new most
+keeps_most old mid new bytes most taken same few = (bytes, keeps_taken old mid new bytes taken same, few)
+
+-- no byte has come
+pub none_taken : (old : Option (List ℕ)) → Consumes old old []
+none_taken None = tt
+none_taken (Some all) = refl
+
+-- all bytes have come
+pub has_whole : (old mid new : Option (List ℕ)) (bytes : List ℕ) (limit : ℕ) → Consumes old mid bytes → Keeps mid new
+    → IsAtEnd mid → length bytes ≤ limit → HasWhole old new limit bytes
+has_whole None mid new bytes limit taken same end few = few
+has_whole (Some all) None new bytes limit taken same end few = absurd taken
+has_whole (Some all) (Some left) None bytes limit taken same end few = absurd same
+has_whole (Some all) (Some left) (Some more) bytes limit taken same end few =
+    let whole : all ≡ bytes = taken ∙ ap (λ (l : List ℕ). bytes ++ l) end ∙ append-nil bytes in
+    let size = ap (λ (l : List ℕ). length l) whole in
+    (sym whole, (ap (λ (l : List ℕ). Some l) (same ∙ end), omega (arith, size, few)))
+
+pub whole_few : (old new : Option (List ℕ)) (limit : ℕ) (bytes : List ℕ) → HasWhole old new limit bytes
+    → length bytes ≤ limit
+whole_few None new limit bytes is = is
+whole_few (Some all) new limit bytes (same, (end, few)) =
+    let size = ap (λ (l : List ℕ). length l) same in
+    omega (arith, size, few)
+
+module _ (rules : Rules) (wanted : Compute) where
+  -- there are more than the limit
+  pub too_long : (old mid new : Option (List ℕ)) (bytes piece : List ℕ) (limit : ℕ) → Consumes old mid bytes
+      → Consumes mid new piece → limit < length bytes + length piece
+      → HasReadVotes rules wanted old new limit (Err halt.TooLong)
+  too_long None mid new bytes piece limit taken more many = tt
+  too_long (Some all) mid None bytes piece limit taken more many =
+      absurd (consumes_more (Some all) mid None bytes piece taken more)
+  too_long (Some all) mid (Some rest) bytes piece limit taken more many =
+      let whole : all ≡ (bytes ++ piece) ++ rest = consumes_more (Some all) mid (Some rest) bytes piece taken more in
+      let size = ap (λ (l : List ℕ). length l) whole in
+      omega (arith, size, length-append (bytes ++ piece) rest, length-append bytes piece, many)
+
+  pub no_memory : (old new : Option (List ℕ)) (limit : ℕ)
+      → HasReadVotes rules wanted old new limit (Err (halt.Stops stop.Memory))
+  no_memory None new limit = tt
+  no_memory (Some all) new limit = tt
+
+  pub read_fault : (old new : Option (List ℕ)) (limit : ℕ) → HasReadVotes rules wanted old new limit (Err halt.ReadFault)
+  read_fault None new limit = tt
+  read_fault (Some all) new limit = tt
+
+  -- ---- the answer
+
+  -- what reading the input stops for
+  pub reading_answers : (old new : Option (List ℕ)) (limit : ℕ) (why : Halt)
+      → HasReadVotes rules wanted old new limit (Err why) → ComputesFrom rules wanted old new limit (Err why)
+  reading_answers None new limit why is = tt
+  reading_answers (Some all) new limit halt.TooLong is = is
+  reading_answers (Some all) new limit halt.ReadFault is = tt
+  reading_answers (Some all) new limit (halt.Stops stop.Memory) is = tt
+  reading_answers (Some all) new limit (halt.Stops (stop.Refused why)) is = absurd is
+
+  refused_whole : (old new : Option (List ℕ)) (limit : ℕ) (bytes : List ℕ) (why : Refusal) → HasWhole old new limit bytes
+      → ComputeAnswers rules wanted bytes (Err why)
+      → ComputesFrom rules wanted old new limit (Err (halt.Stops (stop.Refused why)))
+  refused_whole None new limit bytes why whole is = tt
+  refused_whole (Some all) new limit bytes why (same, (end, few)) is =
+      ((end, few), subst (λ (l : List ℕ). ComputeAnswers rules wanted l (Err why)) same is)
+
+  text_whole : (old new : Option (List ℕ)) (limit : ℕ) (bytes : List ℕ) (text : Vec ℕ) → HasWhole old new limit bytes
+      → ComputeAnswers rules wanted bytes (Ok text.items) → ComputesFrom rules wanted old new limit (Ok text)
+  text_whole None new limit bytes text whole is = tt
+  text_whole (Some all) new limit bytes text (same, (end, few)) is =
+      ((end, few), subst (λ (l : List ℕ). ComputeAnswers rules wanted l (Ok text.items)) same is)
+
+  without_memory : (old new : Option (List ℕ)) (limit : ℕ)
+      → ComputesFrom rules wanted old new limit (Err (halt.Stops stop.Memory))
+  without_memory None new limit = tt
+  without_memory (Some all) new limit = tt
+
+  -- what the end of the input stops for
+  end_stops : (bytes : List ℕ) (why : Refusal) → EndsSo rules wanted bytes (Err (stop.Refused why))
+      → ComputeAnswers rules wanted bytes (Err why)
+  end_stops bytes (refusal.Document why) is = is
+  end_stops bytes (refusal.Votes (list.Vote number word)) (votes, read, first) =
+      record { votes = votes; read = read; first = first }
+  end_stops bytes (refusal.Votes (list.TooFew count roster)) (votes, read, first) = absurd first
+  end_stops bytes refusal.Verifier (votes, read, asked) = record { votes = votes; read = read; asked = asked }
+  end_stops bytes (refusal.Station why) (votes, read, first) = absurd first
+  end_stops bytes (refusal.Report why) (votes, read, first) = absurd first
+  end_stops bytes (refusal.Bandwidth why) (votes, read, first) = absurd first
+  end_stops bytes refusal.Signer (votes, read, first) = absurd first
+  end_stops bytes refusal.Gate (votes, read, first) = absurd first
+
+  pub ends_here : (old new : Option (List ℕ)) (limit : ℕ) (arriving : Arriving) (result : Result Holding Stop) → limit < 2 ^ 60
+      → (read : HasReadVotes rules wanted old new limit (Ok arriving)) → EndsAll arriving result
+      → EndsSo rules wanted read.0 result
+  ends_here old new limit arriving result short (bytes, whole, is) ends =
+      ends rules wanted bytes is (omega (arith, whole_few old new limit bytes whole, short))
+
+  pub end_answers : (old new : Option (List ℕ)) (limit : ℕ) (arriving : Arriving) (why : Stop) → limit < 2 ^ 60
+      → HasReadVotes rules wanted old new limit (Ok arriving) → EndsAll arriving (Err why)
+      → ComputesFrom rules wanted old new limit (Err (halt.Stops why))
+  end_answers old new limit arriving stop.Memory short read ends = without_memory old new limit
+  end_answers old new limit arriving (stop.Refused why) short (bytes, whole, is) ends =
+      refused_whole old new limit bytes why whole
+      (end_stops bytes why (ends_here old new limit arriving (Err (stop.Refused why)) short (bytes, whole, is) ends))
+
+  -- what comes of the held votes
+  text_from : (old new : Option (List ℕ)) (limit : ℕ) (bytes : List ℕ) → HasWhole old new limit bytes
+      → (result : Result (Vec ℕ) Stop) → Answered (ComputeAnswers rules wanted bytes) result
+      → ComputesFrom rules wanted old new limit (halted result)
+  text_from old new limit bytes whole (Ok text) is = text_whole old new limit bytes text whole is
+  text_from old new limit bytes whole (Err stop.Memory) is = without_memory old new limit
+  text_from old new limit bytes whole (Err (stop.Refused why)) is = refused_whole old new limit bytes why whole is
+
+  pub held_answers : (old new : Option (List ℕ)) (limit : ℕ) (arriving : Arriving) (accepted : Holding)
+      (result : Result (Vec ℕ) Stop) → limit < 2 ^ 60 → HasReadVotes rules wanted old new limit (Ok arriving)
+      → EndsAll arriving (Ok accepted) → WritesText wanted accepted.votes result
+      → ComputesFrom rules wanted old new limit (halted result)
+  held_answers old new limit arriving accepted result short (bytes, whole, is) ends writes =
+      let so = ends_here old new limit arriving (Ok accepted) short (bytes, whole, is) ends in
+      text_from old new limit bytes whole result
+      (text_answers rules wanted bytes so.0 accepted.votes result so.1 so.3 so.2 writes)
+
+-- ---- the verifier's count
+
+-- it has not failed yet
+pub tells_none : (count : ℕ) (first : Option Refusal) → first ≡ None → TellsFirst count count first
+tells_none count None none = record {
+  more = omega arith;
+  cause = λ e. absurd (cc e);
+  told = λ lt. absurd (omega (arith, lt));
+}
+tells_none count (Some why) none = absurd (cc none)
+
+-- no vote is refused where votes are held
+pub held_untold : (before now : ℕ) (first : Option Refusal) (accepted : Holding) (A : Type 0) → TellsFirst before now first
+    → TellsEnd first (Ok accepted) → before < now → A
+held_untold before now first accepted A tells none lt = absurd (by first none (tells.told lt))
+  where
+    by : (o : Option Refusal) → o ≡ None → o ≡ Some refusal.Verifier → ⊥
+    by None e is = cc is
+    by (Some why) e is = cc e
+
+-- the verifier's fault is told only where it failed
+pub end_told : (before now : ℕ) (first : Option Refusal) → TellsFirst before now first
+    → TellsEnd first (Err (stop.Refused refusal.Verifier)) → Rose before now
+end_told before now first tells is = tells.cause is
+
+told_of : (first : Option Refusal) (why : Refusal) → first ≡ Some why → first ≡ Some refusal.Verifier
+    → TellsVerifier (Err (halt.Stops (stop.Refused why)))
+told_of first why is told =
+    let both : Some why ≡ Some refusal.Verifier = sym is ∙ told in
+    let same : why ≡ refusal.Verifier = cc both in
+    inl (ap (λ (w : Refusal). halt.Stops (stop.Refused w)) same)
+
+-- and where it failed, unless something stands before it
+pub end_tells : (before now : ℕ) (first : Option Refusal) (why : Stop) → TellsFirst before now first
+    → TellsEnd first (Err why) → before < now → TellsVerifier (Err (halt.Stops why))
+end_tells before now first stop.Memory tells is lt = inr tt
+end_tells before now first (stop.Refused (refusal.Document why)) tells is lt = inr tt
+end_tells before now first (stop.Refused (refusal.Votes why)) tells is lt = told_of first (refusal.Votes why) is (tells.told lt)
+end_tells before now first (stop.Refused (refusal.Station why)) tells is lt = told_of first (refusal.Station why) is (tells.told lt)
+end_tells before now first (stop.Refused (refusal.Report why)) tells is lt = told_of first (refusal.Report why) is (tells.told lt)
+end_tells before now first (stop.Refused (refusal.Bandwidth why)) tells is lt = told_of first (refusal.Bandwidth why) is (tells.told lt)
+end_tells before now first (stop.Refused refusal.Verifier) tells is lt = told_of first refusal.Verifier is (tells.told lt)
+end_tells before now first (stop.Refused refusal.Signer) tells is lt = told_of first refusal.Signer is (tells.told lt)
+end_tells before now first (stop.Refused refusal.Gate) tells is lt = told_of first refusal.Gate is (tells.told lt)

@@ -1,0 +1,35 @@
+-- The bytes behind the last vote that an input may have.
+use Rattle.std.specs.Prelude.{◌≡◌, ℕ, List, ◌++◌, Option, Some, None}
+use Rattle.dirdoc_grammar.specs.declared.cursor.Cursor.{Cursor}
+use Rattle.dirdoc_grammar.specs.declared.take.Take.{Take}
+use Rattle.dirdoc_grammar.specs.declared.take.Take.TheVariants as taken
+use Rattle.dirdoc_grammar.specs.Cursors.{IsAt}
+use Rattle.dirdoc_grammar.specs.Seen.{seen}
+use Rattle.frame_terms.specs.declared.fault.FrameFault.{FrameFault}
+use Rattle.frame_terms.specs.declared.fault.FrameReason.TheVariants.{Doc}
+use Rattle.frame_terms.specs.declared.fault.ReadRefusal.TheVariants.{Frame}
+use Rattle.compute_command.specs.Furthers.{IsFurther}
+use Rattle.compute_command.specs.Votes.{item_too_many, no_limit, one_more}
+
+-- Whatever follows, one vote more is refused for this fault.
+abbrev pub HasTooMany : List ℕ → FrameFault → Type 0
+HasTooMany bytes fault = (more : List ℕ) → one_more 0 (bytes ++ more) ≡ Some (Frame fault)
+
+-- where no more follow, nothing where the input ends there, and else why one vote more is refused, so many bytes
+-- further on
+abbrev pub EndsBeyond : ℕ → List ℕ → Option FrameFault → Type 0
+EndsBeyond start bytes None = one_more 0 bytes ≡ None
+EndsBeyond start bytes (Some fault) = IsFurther start (λ own. one_more 0 bytes ≡ Some (Frame own)) fault
+
+-- A reader stands at the first of the bytes, under no limit.
+pub record ReadsFront (bytes : List ℕ) (cursor : Cursor) : Type 0 where
+  pub reads : IsAt bytes cursor
+  pub limit : cursor.limit ≡ no_limit
+  pub place : cursor.place ≡ 0
+
+-- why what a reader gives first is no end of the input: an item begins no vote, or is one too many; a fault is one
+abbrev pub fault_of : Take → Option FrameFault
+fault_of (taken.Item item) = Some (item_too_many (seen item))
+fault_of (taken.Fault fault) = Some (record { place = fault.place; reason = Doc fault.reason })
+fault_of taken.NotYet = None
+fault_of taken.End = None

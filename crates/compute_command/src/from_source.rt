@@ -1,0 +1,84 @@
+// The command that computes a consensus, over a source.
+ghost use Rattle.std.specs.Prelude.{◌≡◌, ◌≤◌, ◌<◌, ◌+◌, ◌^◌, Err, IfErr};
+ghost use Rattle.dir_bytes.specs.Causes.{Rose};
+ghost use Rattle.dir_bytes.specs.Streams.{TakesAtMost};
+ghost use Rattle.key_port.specs.Answers.{rules};
+ghost use Rattle.compute_command.specs.Arriving.{ComputesFrom, HasReadVotes, RefusesForVotes, StopsReading};
+ghost use Rattle.compute_command.specs.Arriving.{TellsRead, TellsVerifier};
+
+use crate::arriving::Arriving;
+use crate::consensus::text_of;
+use crate::halt::Halt;
+use daemon_words::Compute;
+use dir_bytes::{ReadAnswer, Source};
+use exit_status::{Refusal, Stop};
+use key_port::Verifier;
+use std::alloc::Global;
+
+/// The input of a source, read to its end, of which each vote was checked as it ended.
+///
+/// # Errors
+/// `TooLong` where it has more bytes than `limit`; `ReadFault` where the source failed; `Stops` is want of memory.
+fn read_votes<S: Source, V: Verifier>(
+    alloc: Global,
+    wanted: &Compute,
+    source: &mut S,
+    limit: u64,
+    verifier: &mut V,
+) -> Result<Arriving, Halt>
+    requires { limit < 2 ^ 60 }
+    ensures reads { HasReadVotes (rules V.may_accept V.may_refuse) wanted.now (S.left source.old) (S.left source.new) limit result }
+    // A refused reading took bytes off the front: at most the limit, and one piece.
+    ensures refused { IfErr result (λ _. TakesAtMost (S.left source.old) (S.left source.new) (limit + 65536)) }
+    ensures fault { result ≡ Err Halt.ReadFault → Rose (S.faults source.old) (S.faults source.new) }
+    ensures told { S.faults source.old < S.faults source.new → result ≡ Err Halt.ReadFault }
+    ensures verifier { TellsRead (V.faults verifier.old) (V.faults verifier.new) result }
+{
+    let mut arriving = Arriving::new(alloc)?;
+    let mut piece = [0u8; 65536];
+    let mut room = limit;
+    'pieces: loop {
+        match source.read(&mut piece) {
+            ReadAnswer::Got(count) => {
+                if count as u64 > room {
+                    return Err(Halt::TooLong);
+                }
+                room -= count as u64;
+                arriving = arriving.take(alloc, wanted, &piece[..count], verifier)?;
+            }
+            ReadAnswer::End => return Ok(arriving),
+            ReadAnswer::Failed => return Err(Halt::ReadFault),
+        }
+    }
+}
+
+/// What `compute` gives of the bytes that a source has, of which there may be up to `limit`. Each vote is checked as it
+/// ends, before the source is asked again; none is behind one that is refused, or behind a fault. One vote is kept for
+/// each authority, and the bytes behind the last vote that was read.
+///
+/// # Errors
+/// By the first that applies: `ReadFault`, where the source failed; `TooLong`; and `Stops` with what `compute` stops
+/// for.
+pub fn compute_from<S: Source, V: Verifier>(
+    alloc: Global,
+    wanted: &Compute,
+    source: &mut S,
+    limit: u64,
+    verifier: &mut V,
+) -> Result<Vec<u8>, Halt>
+    requires { limit < 2 ^ 60 }
+    ensures answer { ComputesFrom (rules V.may_accept V.may_refuse) wanted.now (S.left source.old) (S.left source.new) limit result }
+    // Also where the source does not tell, an input is refused for its votes alone.
+    ensures kinds { RefusesForVotes result }
+    // An input that was not read to its end had bytes taken off the front: at most the limit, and one piece.
+    ensures stops { StopsReading (S.left source.old) (S.left source.new) (limit + 65536) result }
+    ensures fault { result ≡ Err Halt.ReadFault → Rose (S.faults source.old) (S.faults source.new) }
+    ensures told { S.faults source.old < S.faults source.new → result ≡ Err Halt.ReadFault }
+    ensures verifier_fault { result ≡ Err (Halt.Stops (Stop.Refused Refusal.Verifier)) → Rose (V.faults verifier.old) (V.faults verifier.new) }
+    ensures verifier_told { V.faults verifier.old < V.faults verifier.new → TellsVerifier result }
+{
+    let arriving = read_votes(alloc, wanted, source, limit, verifier)?;
+    let accepted = arriving.end(alloc)?;
+    let text = text_of(alloc, wanted, &accepted)?;
+    Ok(text)
+}
