@@ -1,20 +1,21 @@
 -- What a run ends with whose text was written, whole or in part, or whose command refused the input.
 use Rattle.std.proofs.Common.{◌≡◌, ℕ, ◌<◌, ◌≤◌, Bool, true, false, List, [], length, take, Option, Some, None}
-use Rattle.std.proofs.Common.{Result, Ok, Err, ap, subst, sym, ◌∙◌}
+use Rattle.std.proofs.Common.{Result, Ok, Err, ap, subst, sym, inl, ◌∙◌}
 use Rattle.std.specs.Prelude.{if◌then◌else◌}
 use Rattle.std.specs.Global.{Vec}
 use Rattle.std.specs.Io.KnownBytes.{Appends}
 use Rattle.dir_bytes.specs.Streams.{ReadsAll}
 use Rattle.daemon_words.specs.declared.command.Command.{Command}
+use Rattle.daemon_words.specs.declared.command.Command.TheVariants as command
 use Rattle.exit_status.specs.declared.status.Refusal.{Refusal}
 use Rattle.exit_status.specs.declared.status.Status.TheVariants as status
 use Rattle.exit_status.specs.declared.stop.Stop.{Stop}
 use Rattle.exit_status.specs.declared.stop.Stop.TheVariants as stop
 use Rattle.std.specs.Bool.{OnTrue}
-use Rattle.authority_daemon.specs.Runs.{Ends, HasEnded, Told, input_limit, input_of, reads_input}
+use Rattle.authority_daemon.specs.Runs.{Ends, HasEnded, Told, input_limit, input_of, is_gathered, reads_input}
 use Rattle.authority_daemon.specs.Commands.{May}
 use Rattle.authority_daemon.specs.Inside.{IsAnswer}
-use Rattle.authority_daemon.specs.Moments.{Moment, TellsFaults}
+use Rattle.authority_daemon.specs.Moments.{Moment, TellsFaults, TellsFaultsOr}
 
 -- a refusal, as what a command returns
 abbrev as_stop : Refusal → Result (Vec ℕ) Stop
@@ -29,6 +30,16 @@ answered answers given command c input lent answer is names same told =
     let one : command ≡ c = cc (is, names) in
     subst (λ (k : Command). answers k input answer) one
     (subst (λ (bytes : List ℕ). answers command bytes answer) same told)
+
+-- a command whose input is gathered reads it
+pub gathered : (c : Command) → is_gathered c ≡ true → reads_input c ≡ true
+gathered (command.Compute wanted) is = absurd (cc is)
+gathered (command.Check named) is = is
+gathered (command.Show named) is = is
+gathered (command.MakeVote bandwidths) is = is
+gathered (command.Rehearse wanted) is = is
+gathered (command.Report wanted) is = is
+gathered (command.Serve wanted) is = is
 
 -- what a command that reads the input says of what the source has left, it says of its input
 pub over_input : (given : Option Command) (command : Command) (left : Option (List ℕ)) (P : Command → List ℕ → Type 0)
@@ -129,3 +140,11 @@ pub has_ended : (left after now : Option (List ℕ)) (bytes : Vec ℕ) → now �
     → ReadsAll left after input_limit (Ok bytes) → (c : Command) → OnTrue (reads_input c) (HasEnded left now)
 has_ended None after now bytes same reads c = on_true (reads_input c) (Unit {0}) tt
 has_ended (Some input) after now bytes same reads c = on_true (reads_input c) (now ≡ Some []) (same ∙ reads.1)
+
+-- a fault that is told exactly is told
+pub told_at_once : (before now : ℕ) (ends_so ends_before : Type 0) → TellsFaults before now ends_so
+    → TellsFaultsOr before now ends_so ends_before
+told_at_once before now ends_so ends_before tells = record {
+  cause = tells.cause;
+  told = λ more. inl (tells.told more);
+}

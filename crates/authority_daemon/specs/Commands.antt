@@ -9,7 +9,6 @@ use Rattle.daemon_words.specs.declared.command.Measures.TheVariants as measures
 use Rattle.exit_status.specs.declared.status.Refusal.{Refusal}
 use Rattle.exit_status.specs.declared.stop.Stop.{Stop}
 use Rattle.document_commands.specs.Answers.{CheckAnswers, IsSubject, ShowAnswers}
-use Rattle.compute_command.specs.Answers as votes
 use Rattle.compute_command.specs.Answers.{CanCompute, ComputeAnswers}
 use Rattle.station_commands.specs.Voting.{IsOfStation, MakeVoteAnswers}
 use Rattle.bandwidth_commands.specs.WithFile.{FileVoteAnswers}
@@ -102,9 +101,10 @@ abbrev pub asks_clock_if : Option Command → Bool
 asks_clock_if None = false
 asks_clock_if (Some given) = asks_clock given
 
--- what a command refuses before it has a signature verified: a line for each command
+-- What a command refuses before it has a signature verified: a line for each command. With `compute` a vote may be checked
+-- before the fault behind it has come.
 abbrev pub IsEarly : Command → Stop → Type 0
-IsEarly (command.Compute wanted) why = votes.IsOfDocuments why
+IsEarly (command.Compute wanted) why = ⊥
 IsEarly (command.Check named) why = Unit {0}
 IsEarly (command.Show named) why = Unit {0}
 IsEarly (command.MakeVote bandwidths) why = IsOfStation why

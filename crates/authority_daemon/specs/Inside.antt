@@ -1,9 +1,16 @@
 -- What the private functions of this crate say.
-use Rattle.std.specs.Prelude.{◌≡◌, ℕ, List, drop, Result, Ok, Err, IfErr, false}
+use Rattle.std.specs.Prelude.{◌≡◌, ℕ, ◌+◌, ◌<◌, List, drop, Option, Result, Ok, Err, IfErr, false}
 use Rattle.std.specs.Global.{Vec}
 use Rattle.std.specs.Bool.{OnTrue}
-use Rattle.dir_bytes.specs.Causes.{Counts}
+use Rattle.dir_bytes.specs.Causes.{Counts, Rose}
+use Rattle.key_port.specs.Answers.{Rules}
+use Rattle.compute_command.specs.declared.halt.Halt.{Halt}
+use Rattle.compute_command.specs.declared.halt.Halt.TheVariants as halt
+use Rattle.compute_command.specs.Arriving.{ComputesFrom, RefusesForVotes, StopsReading, TellsVerifier}
 use Rattle.daemon_words.specs.declared.command.Command.{Command}
+use Rattle.daemon_words.specs.declared.command.Compute.{Compute}
+use Rattle.exit_status.specs.declared.status.Status.{Status}
+use Rattle.exit_status.specs.declared.status.Status.TheVariants as status
 use Rattle.exit_status.specs.declared.status.Refusal.TheVariants as refusal
 use Rattle.exit_status.specs.declared.stop.Stop.{Stop}
 use Rattle.exit_status.specs.declared.stop.Stop.TheVariants as stop
@@ -12,12 +19,42 @@ use Rattle.station_commands.specs.Voting.{IsBeforeSigner}
 use Rattle.serve_command.specs.Passed.{Outside}
 use Rattle.authority_daemon.specs.Commands.{Answers, IsEarly, May, asks_clock, signs, verifies}
 use Rattle.authority_daemon.specs.Moments.{Moment, TellsFaults}
+use Rattle.authority_daemon.specs.Runs.{input_limit}
 
 -- The source, the two sinks, the gates and the link are as they were.
 pub record LeavesStreams {S K E C V N G L : Type 0} (old new : Outside S K E C V N G L) : Type 0 where
   pub source : new.source ≡ old.source
   pub sink : new.sink ≡ old.sink
   pub errors : new.errors ≡ old.errors
+  pub gates : new.gates ≡ old.gates
+  pub link : new.link ≡ old.link
+
+-- how a run ends whose command stops so while it reads the input
+abbrev pub status_of : Halt → Status
+status_of halt.ReadFault = status.ReadFault
+status_of halt.TooLong = status.TooLong
+status_of (halt.Stops stop.Memory) = status.Memory
+status_of (halt.Stops (stop.Refused why)) = status.Refused why
+
+-- What `compute` gives over a source that had these bytes left and then those, and over verifiers of which the first is
+-- asked: by how often the source and that one have failed, before and then.
+pub record IsComputed {V : Type 0} (rules : Rules) (wanted : Compute) (left after : Option (List ℕ))
+    (reads reads_then : ℕ) (verifiers verifiers_then : List V) (faults faults_then : ℕ)
+    (result : Result (Vec ℕ) Halt) : Type 0 where
+  pub answer : ComputesFrom rules wanted left after input_limit result
+  pub kinds : RefusesForVotes result
+  pub stops : StopsReading left after (input_limit + 65536) result
+  pub source : TellsFaults reads reads_then (result ≡ Err halt.ReadFault)
+  pub cause : result ≡ Err (halt.Stops (stop.Refused refusal.Verifier)) → Rose faults faults_then
+  pub told : faults < faults_then → TellsVerifier result
+  pub others : drop 1 verifiers_then ≡ drop 1 verifiers
+
+-- The two sinks, the clocks, the signer, the gates and the link are as they were.
+pub record LeavesOthers {S K E C V N G L : Type 0} (old new : Outside S K E C V N G L) : Type 0 where
+  pub sink : new.sink ≡ old.sink
+  pub errors : new.errors ≡ old.errors
+  pub clocks : new.clocks ≡ old.clocks
+  pub signer : new.signer ≡ old.signer
   pub gates : new.gates ≡ old.gates
   pub link : new.link ≡ old.link
 

@@ -1,5 +1,5 @@
 -- What stands outside of the program.
-use Rattle.std.specs.Prelude.{ℕ, ◌<◌, Bool, List, Option}
+use Rattle.std.specs.Prelude.{ℕ, ◌<◌, ◌⊎◌, Bool, List, Option}
 use Rattle.dir_bytes.specs.Causes.{Rose}
 
 -- What stands outside at a moment, but for the errors sink: objects, what they tell, and how often they have failed.
@@ -31,6 +31,11 @@ pub record Moment (S C V N G L : Type 0) : Type 0 where
 pub record TellsFaults (before now : ℕ) (ends_so : Type 0) : Type 0 where
   pub cause : ends_so → Rose before now
   pub told : before < now → ends_so
+
+-- The same, but that where the count is greater than before the run ends so, or as it may end before that.
+pub record TellsFaultsOr (before now : ℕ) (ends_so ends_before : Type 0) : Type 0 where
+  pub cause : ends_so → Rose before now
+  pub told : before < now → ends_so ⊎ ends_before
 
 -- What a clock tells, the moment that it gave last and how often it was asked; and what a gate tells, how often it has
 -- failed, and whether its last answer was that none will come.

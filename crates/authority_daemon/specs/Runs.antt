@@ -13,6 +13,7 @@ use Rattle.daemon_words.specs.declared.command.Command.TheVariants as command
 use Rattle.exit_status.specs.declared.status.Status.{Status}
 use Rattle.exit_status.specs.declared.status.Status.TheVariants as status
 use Rattle.exit_status.specs.declared.status.Refusal.{Refusal}
+use Rattle.exit_status.specs.declared.status.Refusal.TheVariants as refusal
 use Rattle.exit_status.specs.declared.stop.Stop.TheVariants as stop
 
 -- how many bytes an input may have
@@ -39,6 +40,16 @@ reads_input (command.MakeVote bandwidths) = true
 reads_input (command.Rehearse wanted) = false
 reads_input (command.Report wanted) = true
 reads_input (command.Serve wanted) = true
+
+-- whether a command's input is read whole before it is answered: the votes of `compute` are checked while they are read
+abbrev pub is_gathered : Command → Bool
+is_gathered (command.Compute wanted) = false
+is_gathered given = reads_input given
+
+-- whether words give no command that reads its input otherwise
+abbrev pub is_gathered_if : Option Command → Bool
+is_gathered_if None = true
+is_gathered_if (Some given) = is_gathered given
 
 -- whether words that give this command, or none, have the input read
 abbrev pub reads_input_if : Option Command → Bool
@@ -99,11 +110,12 @@ abbrev pub first_count : {X : Type 0} → (X → ℕ) → List X → ℕ
 first_count count [] = 0
 first_count count (x ∷ xs) = count x
 
--- the words are refused, the input could not be read, or the command refuses it before anything is checked
+-- The words are refused; or, where the votes of the input are not checked while they are read, the input could not be read,
+-- or the command refuses it before anything is checked.
 abbrev pub IsBeforeChecks : Option Command → Status → Type 0
 IsBeforeChecks given status.BadWords = Unit {0}
-IsBeforeChecks given status.ReadFault = Unit {0}
-IsBeforeChecks given status.TooLong = Unit {0}
+IsBeforeChecks given status.ReadFault = is_gathered_if given ≡ true
+IsBeforeChecks given status.TooLong = is_gathered_if given ≡ true
 IsBeforeChecks (Some given) (status.Refused why) = IsEarly given (stop.Refused why)
 IsBeforeChecks given _ = ⊥
 
@@ -114,6 +126,15 @@ IsBeforeSigning status.ReadFault = Unit {0}
 IsBeforeSigning status.TooLong = Unit {0}
 IsBeforeSigning (status.Refused why) = IsBeforeSigner (stop.Refused why)
 IsBeforeSigning _ = ⊥
+
+-- a status that stands before a vote's refusal in the order, or is want of memory, where the votes of the input are checked
+-- while they are read: a verifier that failed is not told then
+abbrev pub IsBeforeVotes : Option Command → Status → Type 0
+IsBeforeVotes (Some (command.Compute wanted)) status.ReadFault = Unit {0}
+IsBeforeVotes (Some (command.Compute wanted)) status.TooLong = Unit {0}
+IsBeforeVotes (Some (command.Compute wanted)) status.Memory = Unit {0}
+IsBeforeVotes (Some (command.Compute wanted)) (status.Refused (refusal.Document why)) = Unit {0}
+IsBeforeVotes given s = ⊥
 
 -- a command that asks a clock has asked the first of them where it answers the input
 abbrev pub HasAsked : Option Command → ℕ → ℕ → Status → Type 0

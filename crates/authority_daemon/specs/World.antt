@@ -9,8 +9,9 @@ use Rattle.exit_status.specs.declared.status.Refusal.TheVariants as refusal
 use Rattle.exit_status.specs.declared.status.Status.{Status}
 use Rattle.exit_status.specs.declared.status.Status.TheVariants as status
 use Rattle.authority_daemon.specs.Commands.{Answers, May, asks_clock_if, signs_if, verifies_if}
-use Rattle.authority_daemon.specs.Runs.{HasAsked, Ends, IsBeforeChecks, IsBeforeSigning, IsDoneOrMemory, KeepsLimit}
-use Rattle.authority_daemon.specs.Moments.{Moment, Telling, TellsFaults}
+use Rattle.authority_daemon.specs.Runs.{HasAsked, Ends, IsBeforeChecks, IsBeforeSigning, IsBeforeVotes}
+use Rattle.authority_daemon.specs.Runs.{IsDoneOrMemory, KeepsLimit}
+use Rattle.authority_daemon.specs.Moments.{Moment, Telling, TellsFaults, TellsFaultsOr}
 use Rattle.authority_daemon.specs.Runs.{KnowsWords, MustAnswer}
 use Rattle.authority_daemon.specs.Runs.{ReadsThrough, StopsReading, Told, WritesOnlyAnswers, input_of, reads_input_if}
 
@@ -34,16 +35,19 @@ pub record IsRun {S C V N G L : Type 0} (its : May N) (given : Option Command) (
   pub stops : StopsReading old.left new.left s
   -- words that give no command, and a command that reads no input, leave the source as it was
   pub unread : reads_input_if given ≡ false → new.source ≡ old.source
-  -- the source, the sink, the first verifier and the signer fail exactly where the status says so
+  -- The source, the sink, the first verifier and the signer fail exactly where the status says so; but that a verifier that
+  -- failed at a vote is not told where the status stands before it.
   pub source : TellsFaults old.read_faults new.read_faults (s ≡ status.ReadFault)
   pub sink : TellsFaults old.write_faults new.write_faults (s ≡ status.WriteFault)
-  pub verifier : TellsFaults old.verifier_faults new.verifier_faults (s ≡ status.Refused refusal.Verifier)
+  pub verifier : TellsFaultsOr old.verifier_faults new.verifier_faults (s ≡ status.Refused refusal.Verifier)
+      (IsBeforeVotes given s)
   pub signer : TellsFaults old.signer_faults new.signer_faults (s ≡ status.Refused refusal.Signer)
   -- the first verifier alone is asked
   pub others : drop 1 new.verifiers ≡ drop 1 old.verifiers
   -- words that give no command, and a command that verifies nothing, ask none
   pub unasked : verifies_if given ≡ false → new.verifiers ≡ old.verifiers
-  -- none is asked where the words or the input are refused, or what is read before anything is checked
+  -- none is asked where the words are refused; nor, but with votes that are checked while they are read, where the input is, or
+  -- what is read before anything is checked
   pub unchecked : IsBeforeChecks given s → new.verifiers ≡ old.verifiers
   -- a command that asks a clock asks the first alone; any other asks none
   pub timed : HasAsked given old.asks new.asks s

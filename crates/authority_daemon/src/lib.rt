@@ -1,6 +1,7 @@
 //! The directory authority's daemon and tool: the words, the input, the text that is written, and the status.
 #![tactic(auto)]
 
+mod arriving;
 mod outside;
 mod program;
 mod serving;

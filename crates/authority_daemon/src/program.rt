@@ -9,6 +9,7 @@ ghost use Rattle.authority_daemon.specs.Moments.{telling};
 ghost use Rattle.authority_daemon.specs.Commands.{may};
 ghost use Rattle.authority_daemon.specs.World.{AnswersWhatItMust, Runs};
 
+use crate::arriving::run_compute;
 use crate::outside::Stands;
 use crate::serving::run_serving;
 use crate::texts::{run_over, run_rehearsal};
@@ -81,6 +82,7 @@ fn run_command<
 {
     match command_of(alloc, words) {
         Ok(Some(Command::Serve(wanted))) => run_serving(rt, alloc, &wanted, outside),
+        Ok(Some(Command::Compute(wanted))) => run_compute(alloc, &wanted, outside),
         Ok(Some(Command::Rehearse(wanted))) => run_rehearsal(alloc, wanted, outside),
         Ok(Some(command)) => run_over(alloc, &command, outside),
         Ok(None) => Status::BadWords,

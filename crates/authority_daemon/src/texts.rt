@@ -6,13 +6,12 @@ ghost use Rattle.exit_status.specs.Stops.{Answered};
 ghost use Rattle.station_commands.specs.Voting.{IsBeforeSigner, IsOfStation};
 ghost use Rattle.authority_daemon.specs.Commands.{MakeVoteBy, may, writes_text};
 ghost use Rattle.authority_daemon.specs.Inside.{IsAnswer, LeavesStreams};
-ghost use Rattle.authority_daemon.specs.Runs.{reads_input};
+ghost use Rattle.authority_daemon.specs.Runs.{is_gathered};
 ghost use Rattle.authority_daemon.specs.World.{IsRun};
 
 use crate::outside::Stands;
 use bandwidth_commands::make_vote_with_file;
 use bytes::Bytes;
-use compute_command::compute;
 use daemon_words::{Command, Measures, Rehearse};
 use dir_bytes::{Clock, ReadAllFault, Sink, Source, WriteAll, read_all, write_all};
 use document_commands::{check, show};
@@ -52,7 +51,7 @@ pub(crate) fn run_rehearsal<
     }
 }
 
-/// Runs a command over the input.
+/// Runs a command over the input, which is read whole before it is answered.
 pub(crate) fn run_over<
     S: Source + Drop,
     K: Sink + Drop,
@@ -65,7 +64,7 @@ pub(crate) fn run_over<
 >(alloc: Global, command: &Command, outside: &mut Outside<S, K, E, C, V, N, G, L>) -> Status
     requires clocks { 0 < vec_len outside.old.clocks }
     requires verifiers { 0 < vec_len outside.old.verifiers }
-    requires input { reads_input command.now ≡ true }
+    requires input { is_gathered command.now ≡ true }
     requires text { writes_text command.now ≡ true }
     ensures run { let at = ⟦<Outside<S, K, E, C, V, N, G, L> as Stands<S, C, V, N, G, L>>⟧.at in
         IsRun (may V.may_accept V.may_refuse N.may_give N.steps) (Some command.now)
@@ -106,7 +105,7 @@ fn answer<
 ) -> Result<Vec<u8>, Stop>
     requires clocks { 0 < vec_len outside.old.clocks }
     requires verifiers { 0 < vec_len outside.old.verifiers }
-    requires input { reads_input command.now ≡ true }
+    requires input { is_gathered command.now ≡ true }
     requires text { writes_text command.now ≡ true }
     requires length { vec_len bytes < 2 ^ 61 }
     ensures answer { let at = ⟦<Outside<S, K, E, C, V, N, G, L> as Stands<S, C, V, N, G, L>>⟧.at in
@@ -136,7 +135,7 @@ fn answer_to<
 ) -> Result<Vec<u8>, Stop>
     requires clocks { 0 < vec_len outside.old.clocks }
     requires verifiers { 0 < vec_len outside.old.verifiers }
-    requires input { reads_input command.now ≡ true }
+    requires input { is_gathered command.now ≡ true }
     requires text { writes_text command.now ≡ true }
     requires length { length bytes.now < 2 ^ 61 }
     ensures answer { let at = ⟦<Outside<S, K, E, C, V, N, G, L> as Stands<S, C, V, N, G, L>>⟧.at in
@@ -145,7 +144,6 @@ fn answer_to<
     ensures streams { LeavesStreams outside.old outside.new }
 {
     match command {
-        Command::Compute(wanted) => compute(alloc, wanted, bytes, &mut outside.verifiers[0]),
         Command::Check(subject) => check(alloc, *subject, bytes),
         Command::Show(subject) => show(alloc, *subject, bytes),
         Command::MakeVote(bandwidths) => vote(
@@ -159,8 +157,8 @@ fn answer_to<
         Command::Report(wanted) => {
             report_command::report(alloc, wanted, bytes, &mut outside.verifiers[0])
         }
-        // The one reads no input, and the other writes no text.
-        Command::Rehearse(_) | Command::Serve(_) => unreachable!(),
+        // The input of the one is not gathered, the next reads none, and the last writes no text.
+        Command::Compute(_) | Command::Rehearse(_) | Command::Serve(_) => unreachable!(),
     }
 }
 

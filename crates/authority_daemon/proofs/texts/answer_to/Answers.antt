@@ -16,20 +16,20 @@ returns-in-MakeVote-clause-answer g c =
           (first_is g.C.Clock.last c.args.outside.now.clocks.items c.vote.new.clock clocks)
           c.vote.ensures.answer;
       verifier =
-          tells g.V.Verifier.faults c.args.outside.now.verifiers.items c.index_mut-in-MakeVote-2.result.now
-          c.vote.new.verifier _ verifiers c.index_mut-in-MakeVote-2.ensures.value
+          tells g.V.Verifier.faults c.args.outside.now.verifiers.items c.index_mut-in-MakeVote.result.now
+          c.vote.new.verifier _ verifiers c.index_mut-in-MakeVote.ensures.value
           c.vote.ensures.verifier_fault c.vote.ensures.verifier_told;
       signer = search rules;
       others = behind_stay c.args.outside.now.verifiers.items c.vote.new.verifier;
       unasked = search rules;
       unchecked =
-          none_asked c.in-MakeVote.bandwidths c.args.command.now c.args.outside.now.verifiers.items c.index_mut-in-MakeVote-2.result.now
+          none_asked c.in-MakeVote.bandwidths c.args.command.now c.args.outside.now.verifiers.items c.index_mut-in-MakeVote.result.now
           c.vote.new.verifier c.vote.result c.in-MakeVote.is verifiers
-          c.index_mut-in-MakeVote-2.ensures.value c.vote.ensures.unasked;
+          c.index_mut-in-MakeVote.ensures.value c.vote.ensures.unasked;
       timed =
           λ answered. on_true (asks_clock c.args.command.now) _
-          (counted g.C.Clock.asks c.args.outside.now.clocks.items c.index_mut-in-MakeVote.result.now
-          c.vote.new.clock clocks c.index_mut-in-MakeVote.ensures.value c.vote.ensures.clock);
+          (counted g.C.Clock.asks c.args.outside.now.clocks.items c.index_mut.result.now
+          c.vote.new.clock clocks c.index_mut.ensures.value c.vote.ensures.clock);
       other_clocks = behind_stay c.args.outside.now.clocks.items c.vote.new.clock;
       untimed = search rules;
       unsigned = search rules;

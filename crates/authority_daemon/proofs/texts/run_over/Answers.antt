@@ -4,7 +4,8 @@ use Rattle.std.specs.Prelude.{take}
 use Rattle.exit_status.specs.declared.stop.Stop.TheVariants as stop
 use Rattle.authority_daemon.specs.Commands.{Answers, may}
 use Rattle.authority_daemon.specs.Runs.{first_count}
-use Rattle.authority_daemon.proofs.Ending.{as_refused, done, failed, has_ended, is_within, over_input, refused, tells_refusal}
+use Rattle.authority_daemon.proofs.Ending.{as_refused, done, failed, gathered, has_ended, is_within, over_input, refused}
+use Rattle.authority_daemon.proofs.Ending.{tells_refusal, told_at_once}
 use Rattle.authority_daemon.proofs.texts.run_over.Goals as goal
 
 pub returns-in-Done-clause-run : goal.returns-in-Done-clause-run
@@ -14,7 +15,7 @@ returns-in-Done-clause-run g c =
     record {
       words = search rules;
       ends =
-          over_input (Some c.args.command.now) c.args.command.now _ _ refl c.requires.input
+          over_input (Some c.args.command.now) c.args.command.now _ _ refl (gathered c.args.command.now c.requires.input)
           (done (λ k bytes answer. Answers
           (may g.V.Verifier.may_accept g.V.Verifier.may_refuse g.N.Signer.may_give g.N.Signer.steps)
           k (first_count g.C.Clock.last c.answer.new.outside.clocks.items) bytes c.args.outside.now.signer
@@ -27,7 +28,7 @@ returns-in-Done-clause-run g c =
           same c.in-Done.ensures.0));
       written = search rules;
       limit =
-          over_input (Some c.args.command.now) c.args.command.now _ _ refl c.requires.input
+          over_input (Some c.args.command.now) c.args.command.now _ _ refl (gathered c.args.command.now c.requires.input)
           (λ c1 names. is_within _ _ c.in-Ok.bytes c.in-Ok.ensures.whole);
       read = λ c1 names. has_ended _ _ _ c.in-Ok.bytes kept c.in-Ok.ensures.whole c1;
       stops = search rules;
@@ -55,7 +56,7 @@ returns-in-Ok-answer-clause-run g c =
     record {
       words = search rules;
       ends =
-          over_input (Some c.args.command.now) c.args.command.now _ _ refl c.requires.input
+          over_input (Some c.args.command.now) c.args.command.now _ _ refl (gathered c.args.command.now c.requires.input)
           (failed (λ k bytes answer. Answers
           (may g.V.Verifier.may_accept g.V.Verifier.may_refuse g.N.Signer.may_give g.N.Signer.steps)
           k (first_count g.C.Clock.last c.answer.new.outside.clocks.items) bytes c.args.outside.now.signer
@@ -69,7 +70,7 @@ returns-in-Ok-answer-clause-run g c =
           c.in-Failed.ensures.1);
       written = search rules;
       limit =
-          over_input (Some c.args.command.now) c.args.command.now _ _ refl c.requires.input
+          over_input (Some c.args.command.now) c.args.command.now _ _ refl (gathered c.args.command.now c.requires.input)
           (λ c1 names. is_within _ _ c.in-Ok.bytes c.in-Ok.ensures.whole);
       read = λ c1 names. has_ended _ _ _ c.in-Ok.bytes kept c.in-Ok.ensures.whole c1;
       stops = search rules;
@@ -100,7 +101,7 @@ returns-clause-run g c =
     record {
       words = search rules;
       ends =
-          over_input (Some c.args.command.now) c.args.command.now _ _ refl c.requires.input
+          over_input (Some c.args.command.now) c.args.command.now _ _ refl (gathered c.args.command.now c.requires.input)
           (refused (λ k bytes answer. Answers
           (may g.V.Verifier.may_accept g.V.Verifier.may_refuse g.N.Signer.may_give g.N.Signer.steps)
           k (first_count g.C.Clock.last c.answer.new.outside.clocks.items) bytes c.args.outside.now.signer
@@ -109,14 +110,14 @@ returns-clause-run g c =
           refl c.in-Ok.ensures.whole refl told.answer);
       written = search rules;
       limit =
-          over_input (Some c.args.command.now) c.args.command.now _ _ refl c.requires.input
+          over_input (Some c.args.command.now) c.args.command.now _ _ refl (gathered c.args.command.now c.requires.input)
           (λ c1 names. is_within _ _ c.in-Ok.bytes c.in-Ok.ensures.whole);
       read = λ c1 names. has_ended _ _ _ c.in-Ok.bytes kept c.in-Ok.ensures.whole c1;
       stops = search rules;
       unread = search rules;
       source = search rules;
       sink = search rules;
-      verifier = tells_refusal _ _ c.in-Err-Refused.refusal _ told.verifier;
+      verifier = told_at_once _ _ _ _ (tells_refusal _ _ c.in-Err-Refused.refusal _ told.verifier);
       signer = tells_refusal _ _ c.in-Err-Refused.refusal _ told.signer;
       others = search rules;
       unasked = search rules;
