@@ -61,8 +61,8 @@ fn object_at(base: u64, object: ObjectText<'_>) -> ObjectText<'_>
     }
 }
 
-/// An item so many places later.
-fn item_at(base: u64, item: Item<'_>) -> Item<'_>
+/// An item so many places later: that of a document whose first byte stands behind so many others.
+pub fn item_at(base: u64, item: Item<'_>) -> Item<'_>
     requires order { LiesInOrder (seen item) }
     requires fits { base + item.after < 2 ^ 63 }
     ensures { seen result ≡ moved_item base (seen item.entry) }

@@ -4,5 +4,5 @@
 mod feeder;
 mod laws;
 
-pub use feeder::Feeder;
+pub use feeder::{Feeder, item_at};
 pub use laws::limit_is_enough;
