@@ -2,11 +2,11 @@
 ghost use Rattle.std.specs.Prelude.{◌≡◌};
 ghost use Rattle.key_port.specs.Answers.{rules};
 ghost use Rattle.vote_terms.specs.Acceptable.{IsVerified};
-ghost use Rattle.vote_terms.specs.Votes.{vote_digest};
+ghost use Rattle.vote_terms.specs.Votes.{rank_of, vote_digest};
 
 use crate::held::HeldVote;
 use crate::vote::Vote;
-use dir_values::Digest1;
+use dir_values::{Digest1, Digest2};
 use key_port::Verifier;
 use std::marker::{Model, PhantomData};
 
@@ -59,6 +59,16 @@ impl<V: Verifier> CheckedVote<V> {
         ensures vote { result ≡ self }
         ensures verified { IsVerified (rules V.may_accept V.may_refuse) self }
     {
-        HeldVote::new(self.vote, self.digest)
+        let whole = self.vote.rank().whole;
+        self.into_held_with(whole)
+    }
+
+    /// The same, where the SHA-256 of its bytes is known: it is not computed again. Takes no memory.
+    pub fn into_held_with(self, whole: Digest2) -> HeldVote
+        requires { whole ≡ (rank_of self).whole }
+        ensures vote { result ≡ self }
+        ensures verified { IsVerified (rules V.may_accept V.may_refuse) self }
+    {
+        HeldVote::new(self.vote, self.digest, whole)
     }
 }

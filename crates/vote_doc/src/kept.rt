@@ -10,13 +10,13 @@ use std::alloc::{AllocError, Global};
 use vote_entries::Rows;
 use vote_frame::{VoteFrame, VoteSection, VoteValue};
 
-/// What is kept of a vote.
+/// What is kept of a vote while its sections end, of which the vote is made with its bytes.
 #[derive(Debug, Drop)]
-pub(crate) struct Kept {
+pub struct Kept {
     /// What its sections say but the entries.
-    pub head: Head,
+    pub(crate) head: Head,
     /// What its entries say.
-    pub entries: Rows,
+    pub(crate) entries: Rows,
 }
 
 impl Facts<VoteFrame> for Kept {
@@ -35,11 +35,11 @@ impl Facts<VoteFrame> for Kept {
     }
 }
 
-/// What is kept where nothing was read.
+/// What is kept where nothing was read, with room for so many entries.
 ///
 /// # Errors
 /// There was no memory.
-pub(crate) fn nothing_kept(alloc: Global, count: usize) -> Result<Kept, AllocError>
+pub fn nothing_kept(alloc: Global, count: usize) -> Result<Kept, AllocError>
     ensures { IfOk result (λ kept. kept ≡ none_kept) }
 {
     Ok(Kept {

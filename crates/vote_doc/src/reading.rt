@@ -1,6 +1,6 @@
 // Reading a vote.
 ghost use Rattle.std.specs.Prelude.{◌≡◌, ◌≤◌, ◌<◌, ◌^◌, length, IfOk};
-ghost use Rattle.vote_doc.specs.Facts.{vote_in};
+ghost use Rattle.vote_doc.specs.Facts as facts;
 ghost use Rattle.vote_doc.specs.Reading.{ReadsVote};
 
 use crate::head_values::values_of;
@@ -18,13 +18,14 @@ use vote_frame::VoteFrame;
 /// How many bytes a vote may have.
 const MAX_VOTE: u64 = 16_777_216;
 
-/// The vote in these bytes, of which this was kept.
+/// The vote in these bytes, of which this was kept: where a reader kept it of them, the vote that it read. The vote shares the
+/// bytes, which are not read again.
 ///
 /// # Errors
 /// `Memory` is want of memory.
-fn vote_of(alloc: Global, bytes: &Bytes, kept: Kept) -> Result<Vote, Memory>
+pub fn vote_in(alloc: Global, bytes: &Bytes, kept: Kept) -> Result<Vote, Memory>
     requires { length bytes.now < 2 ^ 62 }
-    ensures { IfOk result (λ vote. vote ≡ vote_in bytes.now kept) }
+    ensures { IfOk result (λ vote. vote ≡ facts.vote_in bytes.now kept) }
 {
     let values = values_of(alloc, bytes, &kept.head)?;
     Ok(Vote::new(bytes.clone()?, kept, values))
@@ -47,7 +48,7 @@ pub fn read(alloc: Global, bytes: &Bytes, start: usize) -> Result<(Vote, usize),
     let most = (length - start).min(MAX_VOTE) as usize;
     let mut kept = nothing_kept(alloc, most_entries(most))?;
     let end = read_document(alloc, VoteFrame, &mut items, length, &mut kept)?;
-    match vote_of(alloc, bytes, kept) {
+    match vote_in(alloc, bytes, kept) {
         Ok(vote) => Ok((vote, end as usize)),
         Err(_) => Err(ReadRefusal::Memory),
     }
