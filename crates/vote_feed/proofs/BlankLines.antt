@@ -1,11 +1,13 @@
 -- Which bytes are blank lines.
-use Rattle.std.proofs.Common.{◌≡◌, ◌∙◌, ℕ, Bool, true, false, List, [], ◌∷◌, refl, sym, ap}
+use Rattle.std.proofs.Common.{◌≡◌, ◌∙◌, ℕ, Bool, true, false, List, [], ◌∷◌, ◌++◌, refl, sym, ap}
 use Rattle.std.specs.Prelude.{◌==◌, ◌&&◌, if◌then◌else◌}
 use Rattle.std.specs.List.{fold, list_all}
+use Rattle.std.proofs.lemmas.List.Sums.{fold-append}
 use Rattle.item_terms.specs.Lines.{Line, lines, onto}
 use Rattle.item_terms.specs.Words.{is_blank, is_blank_line}
+use Rattle.vote_feed.specs.declared.blanks.Blank.{Blank}
 use Rattle.vote_feed.specs.declared.blanks.Blank.TheVariants.{Lines, Within, Other}
-use Rattle.vote_feed.specs.Blanks.{blank_by, blank_with, is_lines}
+use Rattle.vote_feed.specs.Blanks.{blank_by, blank_of, blank_with, is_lines}
 use Rattle.vote_feed.specs.Feeding.{are_blank_lines}
 
 abbrev all_blank : List Line → Bool
@@ -63,5 +65,15 @@ both (b ∷ bytes) =
     by_byte b bytes (b == 10) (is_blank b) refl h.0 h.1 in
     (one, one ∙ sym (before b (lines bytes) (b == 10)))
 
-pub blank_lines : (bytes : List ℕ) → is_lines (fold blank_with Lines bytes) ≡ are_blank_lines bytes
+pub blank_lines : (bytes : List ℕ) → is_lines (blank_of bytes) ≡ are_blank_lines bytes
 blank_lines bytes = (both bytes).0
+
+pub by_lines : (blank : Blank) (lines_ : Bool) → lines_ ≡ is_lines blank
+    → (bytes : List ℕ) → blank ≡ blank_of bytes → lines_ ≡ are_blank_lines bytes
+by_lines blank lines_ is bytes of = is ∙ ap is_lines of ∙ blank_lines bytes
+
+-- with these behind them
+pub blank_behind : (old new : Blank) (part : List ℕ) → new ≡ fold blank_with old part
+    → (front : List ℕ) → old ≡ blank_of front → new ≡ blank_of (front ++ part)
+blank_behind old new part is front was =
+    is ∙ ap (λ (b : Blank). fold blank_with b part) was ∙ sym (fold-append blank_with Lines front part)

@@ -88,9 +88,10 @@ in_front_more front item rest =
     ap (λ (l : List model.Item). record { items = l; fault = rest.fault })
     (sym (append_assoc front (item ∷ []) rest.items))
 
-module _ {S K V X : Type 0} (tables : Tables S K V X) (limit : ℕ) where
+module _ {S K V X F : Type 0} (with_ : F → S → List (Taken V) → F) (none : F) (tables : Tables S K V X)
+    (limit : ℕ) where
   -- nothing is read yet
-  begun : (bytes : List ℕ) → SoFar tables limit bytes (behind limit 0) tables.start (start tables)
+  begun : (bytes : List ℕ) → SoFar with_ none tables limit bytes (behind limit 0) tables.start (start tables) none
   begun bytes = record {
     reads = at_behind limit 0 bytes (omega arith);
     bound = refl;
@@ -99,17 +100,21 @@ module _ {S K V X : Type 0} (tables : Tables S K V X) (limit : ℕ) where
     made = λ n fault rest. refl;
   }
 
-  pub fresh : (bytes : List ℕ) (cursor : Cursor) (across : X) (open_ : Open S V) → cursor ≡ behind limit 0
-      → across ≡ tables.start → open_ ≡ start tables → SoFar tables limit bytes cursor across open_
-  fresh bytes cursor across open_ at_ none first =
-      subst (λ (c : Cursor). SoFar tables limit bytes c across open_) (sym at_)
-      (subst (λ (x : X). SoFar tables limit bytes (behind limit 0) x open_) (sym none)
-      (subst (λ (o : Open S V). SoFar tables limit bytes (behind limit 0) tables.start o) (sym first) (begun bytes)))
+  pub fresh : (bytes : List ℕ) (cursor : Cursor) (across : X) (open_ : Open S V) (facts : F)
+      → cursor ≡ behind limit 0 → across ≡ tables.start → open_ ≡ start tables → facts ≡ none
+      → SoFar with_ none tables limit bytes cursor across open_ facts
+  fresh bytes cursor across open_ facts at_ alone first empty =
+      subst (λ (c : Cursor). SoFar with_ none tables limit bytes c across open_ facts) (sym at_)
+      (subst (λ (x : X). SoFar with_ none tables limit bytes (behind limit 0) x open_ facts) (sym alone)
+      (subst (λ (o : Open S V). SoFar with_ none tables limit bytes (behind limit 0) tables.start o facts) (sym first)
+      (subst (λ (f : F). SoFar with_ none tables limit bytes (behind limit 0) tables.start (start tables) f) (sym empty)
+      (begun bytes))))
 
   -- a part more has come
-  pub on_more : (bytes part : List ℕ) (cursor : Cursor) (across : X) (open_ : Open S V)
-      → SoFar tables limit bytes cursor across open_ → SoFar tables limit (bytes ++ part) cursor across open_
-  on_more bytes part cursor across open_ so = record {
+  pub on_more : (bytes part : List ℕ) (cursor : Cursor) (across : X) (open_ : Open S V) (facts : F)
+      → SoFar with_ none tables limit bytes cursor across open_ facts
+      → SoFar with_ none tables limit (bytes ++ part) cursor across open_ facts
+  on_more bytes part cursor across open_ facts so = record {
     reads = at_more bytes part cursor so.reads;
     bound = so.bound;
     front = so.front;
@@ -120,19 +125,20 @@ module _ {S K V X : Type 0} (tables : Tables S K V X) (limit : ℕ) where
     made = so.made;
   }
 
-  pub later_on : (bytes part : List ℕ) (cursor : Cursor) (across : X) (open_ : Open S V)
-      → Waits tables limit bytes cursor across open_
+  pub later_on : (bytes part : List ℕ) (cursor : Cursor) (across : X) (open_ : Open S V) (facts : F)
+      → Waits with_ none tables limit bytes cursor across open_ facts
       → EndsNoEarlier (length bytes) (fed_by cursor (bytes ++ part) false)
-  later_on bytes part cursor across open_ waits more item rest e =
+  later_on bytes part cursor across open_ facts waits more item rest e =
       waits.later (part ++ more) item rest
       (left_more cursor bytes part more (place_within bytes cursor waits.so_far.reads) ∙ e)
 
   -- all that has come is read
-  pub all_read : (bytes : List ℕ) (old new : Cursor) (across : X) (open_ : Open S V)
-      → SoFar tables limit bytes old across open_ → IsAt bytes new → new.limit ≡ old.limit
+  pub all_read : (bytes : List ℕ) (old new : Cursor) (across : X) (open_ : Open S V) (facts : F)
+      → SoFar with_ none tables limit bytes old across open_ facts → IsAt bytes new → new.limit ≡ old.limit
       → Takes (fed_by old bytes false) take_.NotYet (fed_by new bytes false)
-      → EndsNoEarlier (length bytes) (fed_by new bytes false) → Waits tables limit bytes new across open_
-  all_read bytes old new across open_ so at_ same takes later = record {
+      → EndsNoEarlier (length bytes) (fed_by new bytes false)
+      → Waits with_ none tables limit bytes new across open_ facts
+  all_read bytes old new across open_ facts so at_ same takes later = record {
     so_far = record {
       reads = at_;
       bound = same ∙ so.bound;
@@ -146,39 +152,11 @@ module _ {S K V X : Type 0} (tables : Tables S K V X) (limit : ℕ) where
     later = later;
   }
 
-  -- the items so far, and these behind them
-  made_of : (bytes : List ℕ) (cursor : Cursor) (across : X) (open_ : Open S V)
-      → (so : SoFar tables limit bytes cursor across open_) → (n : ℕ) (more : List ℕ) (rest : Contents)
-      → left_with (fed_by cursor bytes false) more ≡ rest
-      → used_of (document_of tables n (contents limit 0 nothing (bytes ++ more)))
-      ≡ used_of (read_items tables n across open_ rest.fault rest.items)
-  made_of bytes cursor across open_ so n more rest left =
-      ap (λ (c : Contents). used_of (document_of tables n c)) (so.items more ∙ ap (in_front so.front) left)
-      ∙ so.made n rest.fault rest.items
-
-  pub made_on : (bytes : List ℕ) (cursor : Cursor) (across : X) (open_ : Open S V)
-      → (so : SoFar tables limit bytes cursor across open_) → (n : ℕ) (more : List ℕ)
-      → used_of (document_of tables n (contents limit 0 nothing (bytes ++ more)))
-      ≡ used_of (read_items tables n across open_ (left_with (fed_by cursor bytes false) more).fault
-      (left_with (fed_by cursor bytes false) more).items)
-  made_on bytes cursor across open_ so n more =
-      made_of bytes cursor across open_ so n more (left_with (fed_by cursor bytes false) more) refl
-
-  -- a fault comes next
-  pub faulty : (bytes : List ℕ) (cursor : Cursor) (across : X) (open_ : Open S V) (fault : DocFault)
-      → SoFar tables limit bytes cursor across open_
-      → ((more : List ℕ) → MayFollow false more → left_with (fed_by cursor bytes false) more ≡ failed fault)
-      → (n : ℕ) (more : List ℕ)
-      → used_of (document_of tables n (contents limit 0 nothing (bytes ++ more))) ≡ Err (of_doc fault)
-  unfolding read_items
-  faulty bytes cursor across open_ fault so left n more =
-      made_of bytes cursor across open_ so n more (failed fault) (left more tt)
-
-module _ {S K V X F : Type 0} (with_ : F → S → List (Taken V) → F) (tables : Tables S K V X) (limit : ℕ) where
   -- an item was taken
   pub item_on : (bytes : List ℕ) (old new : Cursor) (item : model.Item) (x0 x1 : X) (o0 o1 : Open S V) (f0 f1 : F)
-      → SoFar tables limit bytes old x0 o0 → IsAt bytes new → new.limit ≡ old.limit → Left bytes old new item
-      → Turns with_ tables item x0 o0 f0 x1 o1 f1 (Ok None) → SoFar tables limit bytes new x1 o1
+      → SoFar with_ none tables limit bytes old x0 o0 f0 → IsAt bytes new → new.limit ≡ old.limit
+      → Left bytes old new item → Turns with_ tables item x0 o0 f0 x1 o1 f1 (Ok None)
+      → SoFar with_ none tables limit bytes new x1 o1 f1
   item_on bytes old new item x0 x1 o0 o1 f0 f1 so at_ same left turns = record {
     reads = at_;
     bound = same ∙ so.bound;
@@ -187,17 +165,47 @@ module _ {S K V X F : Type 0} (with_ : F → S → List (Taken V) → F) (tables
         so.items more ∙ ap (in_front so.front) (left more tt)
         ∙ in_front_more so.front item (left_with (fed_by new bytes false) more);
     made = λ n fault rest.
-        ap (λ (l : List model.Item). used_of (document_of tables n (record { items = l; fault = fault })))
+        ap (λ (l : List model.Item). finish with_ none (document_of tables n (record { items = l; fault = fault })))
         (append_assoc so.front (item ∷ []) rest)
         ∙ so.made n fault (item ∷ rest)
-        ∙ sym (placed with_ f0 (read_items tables n x0 o0 fault (item ∷ rest)))
-        ∙ ap place_of (turns n fault rest)
-        ∙ placed with_ f1 (read_items tables n x1 o1 fault rest);
+        ∙ turns n fault rest;
   }
 
-  -- with an item the document ends
-  pub ended : (item : model.Item) (x0 x1 : X) (o0 o1 : Open S V) (f0 f1 : F) (used : ℕ)
-      → Turns with_ tables item x0 o0 f0 x1 o1 f1 (Ok (Some used)) → (n : ℕ) (fault : Option DocFault)
-      (rest : List model.Item) → used_of (read_items tables n x0 o0 fault (item ∷ rest)) ≡ Ok used
-  ended item x0 x1 o0 o1 f0 f1 used turns n fault rest =
-      sym (placed with_ f0 (read_items tables n x0 o0 fault (item ∷ rest))) ∙ ap place_of (turns n fault rest)
+  -- where it ends that these items and others behind them make
+  made_of : (bytes : List ℕ) (cursor : Cursor) (across : X) (open_ : Open S V) (facts : F)
+      → (so : SoFar with_ none tables limit bytes cursor across open_ facts) → (n : ℕ) (more : List ℕ) (rest : Contents)
+      → left_with (fed_by cursor bytes false) more ≡ rest
+      → used_of (document_of tables n (contents limit 0 nothing (bytes ++ more)))
+      ≡ used_of (read_items tables n across open_ rest.fault rest.items)
+  made_of bytes cursor across open_ facts so n more rest left =
+      ap (λ (c : Contents). used_of (document_of tables n c)) (so.items more ∙ ap (in_front so.front) left)
+      ∙ sym (placed with_ none
+      (document_of tables n (record { items = so.front ++ rest.items; fault = rest.fault })))
+      ∙ ap place_of (so.made n rest.fault rest.items)
+      ∙ placed with_ facts (read_items tables n across open_ rest.fault rest.items)
+
+  pub made_on : (bytes : List ℕ) (cursor : Cursor) (across : X) (open_ : Open S V) (facts : F)
+      → (so : SoFar with_ none tables limit bytes cursor across open_ facts) → (n : ℕ) (more : List ℕ)
+      → used_of (document_of tables n (contents limit 0 nothing (bytes ++ more)))
+      ≡ used_of (read_items tables n across open_ (left_with (fed_by cursor bytes false) more).fault
+      (left_with (fed_by cursor bytes false) more).items)
+  made_on bytes cursor across open_ facts so n more =
+      made_of bytes cursor across open_ facts so n more (left_with (fed_by cursor bytes false) more) refl
+
+  -- a fault comes next
+  pub faulty : (bytes : List ℕ) (cursor : Cursor) (across : X) (open_ : Open S V) (facts : F) (fault : DocFault)
+      → SoFar with_ none tables limit bytes cursor across open_ facts
+      → ((more : List ℕ) → MayFollow false more → left_with (fed_by cursor bytes false) more ≡ failed fault)
+      → (n : ℕ) (more : List ℕ)
+      → used_of (document_of tables n (contents limit 0 nothing (bytes ++ more))) ≡ Err (of_doc fault)
+  unfolding read_items
+  faulty bytes cursor across open_ facts fault so left n more =
+      made_of bytes cursor across open_ facts so n more (failed fault) (left more tt)
+
+-- with an item the document ends
+pub ended : {S K V X F : Type 0} (with_ : F → S → List (Taken V) → F) (tables : Tables S K V X) (item : model.Item)
+    (x0 x1 : X) (o0 o1 : Open S V) (f0 f1 : F) (used : ℕ)
+    → Turns with_ tables item x0 o0 f0 x1 o1 f1 (Ok (Some used)) → (n : ℕ) (fault : Option DocFault)
+    (rest : List model.Item) → used_of (read_items tables n x0 o0 fault (item ∷ rest)) ≡ Ok used
+ended with_ tables item x0 x1 o0 o1 f0 f1 used turns n fault rest =
+    sym (placed with_ f0 (read_items tables n x0 o0 fault (item ∷ rest))) ∙ ap place_of (turns n fault rest)

@@ -11,10 +11,12 @@ use Rattle.dirdoc_grammar.specs.Writing.{in_front}
 use Rattle.frame_terms.specs.declared.document.Made.{Made}
 use Rattle.frame_terms.specs.declared.document.Made.TheVariants.{Passes, Pushes, Opens, Enters, Leaves, Ends, Stops}
 use Rattle.frame_terms.specs.declared.document.Open.{Open}
+use Rattle.frame_terms.specs.declared.document.Taken.{Taken}
 use Rattle.frame_terms.specs.declared.fault.FrameFault.{FrameFault}
 use Rattle.frame_terms.specs.declared.fault.ReadRefusal.{ReadRefusal}
 use Rattle.frame_terms.specs.Decisions.{made_by}
-use Rattle.frame_terms.specs.Documents.{Document, after_made, after_noted, document_of, go_on, note_of_made, read_items}
+use Rattle.frame_terms.specs.Documents.{Document, after_made, after_noted, document_of, finish, go_on, note_of_made}
+use Rattle.frame_terms.specs.Documents.{read_items}
 use Rattle.frame_terms.specs.Refusals.{of_doc}
 use Rattle.frame_terms.specs.Tables.{Tables}
 use Rattle.part_laws.specs.Moved.{sizes}
@@ -72,18 +74,19 @@ module _ {S K V X : Type 0} (tables : Tables S K V X) (end : EndWithObjects tabl
 from_zero : (n : ℕ) → 0 + n ≡ n
 from_zero n = omega arith
 
-module _ {S K V X : Type 0} (tables : Tables S K V X) (limit : ℕ) where
-  -- what the items make up to one with which the document ends, they make whatever follows it
+module _ {S K V X F : Type 0} (with_ : F → S → List (Taken V) → F) (none facts kept : F) (tables : Tables S K V X)
+    (limit : ℕ) where
+  -- what is kept of the items up to one with which the document ends, is kept of them whatever follows it
   pub whole_part : (bytes : List ℕ) (front back : List Item) (item : Item) (across : X) (open_ : Open S V) (used : ℕ)
       → (contents limit 0 nothing bytes).items ≡ front ++ item ∷ back
       → (item.after ≡ used) × (is_some item.object ≡ true)
       → ((n : ℕ) (fault : Option DocFault) (rest : List Item)
-      → used_of (document_of tables n (record { items = front ++ rest; fault = fault }))
-      ≡ used_of (read_items tables n across open_ fault rest))
+      → finish with_ none (document_of tables n (record { items = front ++ rest; fault = fault }))
+      ≡ finish with_ facts (read_items tables n across open_ fault rest))
       → ((n : ℕ) (fault : Option DocFault) (rest : List Item)
-      → used_of (read_items tables n across open_ fault (item ∷ rest)) ≡ Ok used)
+      → finish with_ facts (read_items tables n across open_ fault (item ∷ rest)) ≡ Ok (kept, used))
       → (n : ℕ) (more : List ℕ)
-      → used_of (document_of tables n (contents limit 0 nothing (take used bytes ++ more))) ≡ Ok used
+      → finish with_ none (document_of tables n (contents limit 0 nothing (take used bytes ++ more))) ≡ Ok (kept, used)
   whole_part bytes front back item across open_ used parts last made ends n more =
       let cut = cut_lines limit 0 nothing (lines bytes) tt front item back parts last.1 in
       let size : used ≡ sizes cut.first = sym last.0 ∙ cut.ends ∙ from_zero (sizes cut.first) in
@@ -97,8 +100,8 @@ module _ {S K V X : Type 0} (tables : Tables S K V X) (limit : ℕ) where
       let held : contents limit 0 nothing (take used bytes ++ more) ≡ in_front (front ++ item ∷ []) rest =
       ap (λ (l : List Line). contents_of limit 0 nothing l) both
       ∙ both_read limit 0 nothing cut.first (lines more) (front ++ item ∷ []) nothing cut.reads in
-      ap (λ (c : Contents). used_of (document_of tables n c)) held
-      ∙ ap (λ (l : List Item). used_of (document_of tables n (record { items = l; fault = rest.fault })))
+      ap (λ (c : Contents). finish with_ none (document_of tables n c)) held
+      ∙ ap (λ (l : List Item). finish with_ none (document_of tables n (record { items = l; fault = rest.fault })))
       (append_assoc front (item ∷ []) rest.items)
       ∙ made n rest.fault (item ∷ rest.items)
       ∙ ends n rest.fault rest.items

@@ -37,14 +37,15 @@ kept_nothing : {S V : Type 0} (d : Result (Document S V) ReadRefusal)
 kept_nothing (Ok document) = ap (λ (u : Unit {0}). Ok (u, document.used)) (alone _)
 kept_nothing (Err refusal) = refl
 
-module _ {S K V X : Type 0} (tables : Tables S K V X) (limit : ℕ) where
+module _ {S K V X F : Type 0} (with_ : F → S → List (Taken V) → F) (none : F) (tables : Tables S K V X)
+    (limit : ℕ) where
   -- what the document is depends on what follows
-  pub open_now : HasNoDoc tables → (bytes : List ℕ) (cursor : Cursor) (across : X) (open_ : Open S V)
-      → Waits tables limit bytes cursor across open_ → (end : Result ℕ ReadRefusal)
+  pub open_now : HasNoDoc tables → (bytes : List ℕ) (cursor : Cursor) (across : X) (open_ : Open S V) (facts : F)
+      → Waits with_ none tables limit bytes cursor across open_ facts → (end : Result ℕ ReadRefusal)
       → ((more : List ℕ)
       → used_of (document_of tables (length (bytes ++ more)) (contents limit 0 nothing (bytes ++ more))) ≡ end)
       → ⊥
-  open_now sound bytes cursor across open_ waits end is =
+  open_now sound bytes cursor across open_ facts waits end is =
       let so = waits.so_far in
       let read : (n : ℕ) (more : List ℕ) → whole_of nothing_with tables tt cursor.limit n (bytes ++ more)
       ≡ lifted (used_of (document_of tables n (contents limit 0 nothing (bytes ++ more)))) =
@@ -54,7 +55,7 @@ module _ {S K V X : Type 0} (tables : Tables S K V X) (limit : ℕ) where
       all_is_open (Unit {0}) tables sound nothing_with tt tt bytes cursor across open_ so.reads (
         (λ n more.
             read n more
-            ∙ ap lifted (made_on tables limit bytes cursor across open_ so n more)
+            ∙ ap lifted (made_on with_ none tables limit bytes cursor across open_ facts so n more)
             ∙ sym (kept_nothing (read_items tables n across open_ (left_with (fed_by cursor bytes false) more).fault
             (left_with (fed_by cursor bytes false) more).items))),
         waits.unsettled,
@@ -62,9 +63,9 @@ module _ {S K V X : Type 0} (tables : Tables S K V X) (limit : ℕ) where
       (lifted end) (λ more. read (length (bytes ++ more)) more ∙ ap lifted (is more))
 
   -- of more bytes than the document may have something is known
-  pub not_beyond : (bytes : List ℕ) (cursor : Cursor) (across : X) (open_ : Open S V)
-      → Waits tables limit bytes cursor across open_ → length bytes ≤ limit
-  not_beyond bytes cursor across open_ waits = elim (cases_lt limit (length bytes)) [
+  pub not_beyond : (bytes : List ℕ) (cursor : Cursor) (across : X) (open_ : Open S V) (facts : F)
+      → Waits with_ none tables limit bytes cursor across open_ facts → length bytes ≤ limit
+  not_beyond bytes cursor across open_ facts waits = elim (cases_lt limit (length bytes)) [
     | inl lt ↦
         let so = waits.so_far in
         let rest : List ℕ → Contents = λ more. left_with (fed_by cursor bytes false) more in

@@ -15,8 +15,9 @@ use Rattle.dirdoc_grammar.specs.Seen.{seen}
 use Rattle.dirdoc_grammar.proofs.Cursors.{at_behind}
 use Rattle.dirdoc_grammar.proofs.Giving.{gives_quiet}
 use Rattle.frame_terms.specs.declared.document.Open.{Open}
-use Rattle.frame_terms.specs.declared.document.Taken.{Taken}
+use Rattle.frame_terms.specs.declared.fault.FrameFault.{FrameFault}
 use Rattle.frame_terms.specs.declared.fault.ReadRefusal.{ReadRefusal}
+use Rattle.frame_terms.specs.declared.fault.ReadRefusal.TheVariants.{Frame}
 use Rattle.frame_terms.specs.Documents.{Document, document_of, finish, start}
 use Rattle.frame_terms.specs.Refusals.{of_doc}
 use Rattle.frame_values.specs.declared.values.Value.{Value}
@@ -27,12 +28,15 @@ use Rattle.vote_frame.specs.declared.across.Across.{Across}
 use Rattle.vote_frame.specs.declared.frame.VoteSection.{VoteSection}
 use Rattle.vote_frame.specs.declared.frame.VoteValue.{VoteValue}
 use Rattle.vote_frame.specs.Tables.{vote_tables}
+use Rattle.vote_terms.specs.Votes.{ReadVote}
+use Rattle.vote_doc.specs.declared.kept.Kept.{Kept}
+use Rattle.vote_doc.specs.Facts.{vote_in}
 use Rattle.vote_doc.specs.Kept.{kept_with, none_kept}
-use Rattle.vote_doc.specs.Reading.{max_vote, vote_of, with_facts}
+use Rattle.vote_doc.specs.Reading.{ReadsVote, max_vote, vote_of, with_facts}
 use Rattle.vote_feed.specs.SoFar.{used_of}
 use Rattle.vote_feed.specs.Feeding.{EndsSo, IsFaulty, IsOpen, IsWhole, end_of}
-use Rattle.vote_feed.specs.Lending.{Comes, TakesIn, VoteSoFar, VoteWaits}
-use Rattle.vote_feed.specs.declared.fed.Fed.TheVariants as fed
+use Rattle.vote_feed.specs.Lending.{Comes, IsKeptOf, TakesIn, VoteSoFar, VoteWaits}
+use Rattle.vote_feed.specs.declared.intake.Intake.TheVariants as intake
 use Rattle.vote_feed.proofs.Going as going
 use Rattle.vote_feed.proofs.Going.{Late, Left, ends_late, ends_within}
 use Rattle.vote_feed.proofs.LastItem.{last_item, whole_part}
@@ -64,85 +68,99 @@ ends_so bytes end always more = voted (bytes ++ more) ∙ always (length (bytes 
 
 -- ---- reading on
 
-module _ {F : Type 0} (with_ : F → VoteSection → List (Taken (Value VoteValue)) → F) where
-  -- the vote ends with an item
-  pub whole_comes : (known : ℕ) (bytes : List ℕ) (old new : Cursor) (item : Item) (x0 x1 : Across) (o0 o1 : Begun)
-      (f0 f1 : F) (used : ℕ) (result : Result (Option ℕ) ReadRefusal) → result ≡ Ok (Some used)
-      → VoteSoFar bytes old x0 o0 → Late known bytes old
-      → Takes (fed_by old bytes false) (take_.Item item) (fed_by new bytes false)
-      → Turns with_ vote_tables (seen item) x0 o0 f0 x1 o1 f1 result
-      → Comes known bytes new x1 o1 (Ok (reached.Whole used))
-  whole_comes known bytes old new item x0 x1 o0 o1 f0 f1 used result is so late takes turns =
-      let turned =
-      subst (λ (r : Result (Option ℕ) ReadRefusal). Turns with_ vote_tables (seen item) x0 o0 f0 x1 o1 f1 r) is turns in
-      let ends = going.ended with_ vote_tables max_vote (seen item) x0 x1 o0 o1 f0 f1 used turned in
-      let last = last_item vote_tables vote_ends x0 o0 (seen item) used ends in
-      let after : item.after ≡ used = last.0 in
-      let far = ends_late known bytes old new item late takes in
-      let within = ends_within bytes old new item so.reads takes in
-      let rest : Contents = left_with (fed_by new bytes false) [] in
-      let parts : (contents max_vote 0 nothing bytes).items ≡ so.front ++ seen item ∷ rest.items =
-      ap (λ (l : List ℕ). (contents max_vote 0 nothing l).items) (sym (append-nil bytes))
-      ∙ ap (λ (c : Contents). c.items) (so.items [])
-      ∙ ap (λ (c : Contents). so.front ++ c.items) (takes.0 [] tt) in (
-        omega (arith, far, after),
-        omega (arith, within, after),
-        ends_so (take used bytes) (Ok used)
-            (whole_part vote_tables max_vote bytes so.front rest.items (seen item) x0 o0 used parts last so.made ends),
-      )
+-- bytes of which this is kept are a whole vote
+pub whole_kept : (bytes : List ℕ) (kept : Kept) → IsKeptOf bytes kept → IsWhole bytes
+whole_kept bytes kept is more =
+    ap (λ (d : Result (Kept × ℕ) ReadRefusal). end_of (with_facts (bytes ++ more) d)) (is more)
 
-  -- an item is taken
-  pub item_taken : (bytes : List ℕ) (old new : Cursor) (item : Item) (x0 x1 : Across) (o0 o1 : Begun) (f0 f1 : F)
-      (result : Result (Option ℕ) ReadRefusal) → result ≡ Ok None
-      → VoteSoFar bytes old x0 o0 → IsAt bytes new → new.limit ≡ old.limit
-      → Takes (fed_by old bytes false) (take_.Item item) (fed_by new bytes false)
-      → Turns with_ vote_tables (seen item) x0 o0 f0 x1 o1 f1 result → VoteSoFar bytes new x1 o1
-  item_taken bytes old new item x0 x1 o0 o1 f0 f1 result is so at_ same takes turns =
-      let turned =
-      subst (λ (r : Result (Option ℕ) ReadRefusal). Turns with_ vote_tables (seen item) x0 o0 f0 x1 o1 f1 r) is turns in
-      going.item_on with_ vote_tables max_vote bytes old new (seen item) x0 x1 o0 o1 f0 f1 so at_ same takes.0 turned
+-- the vote ends with an item
+pub whole_comes : (known : ℕ) (bytes : List ℕ) (old new : Cursor) (item : Item) (x0 x1 : Across) (o0 o1 : Begun)
+    (k0 k1 : Kept) (used : ℕ) (result : Result (Option ℕ) ReadRefusal) → result ≡ Ok (Some used)
+    → VoteSoFar bytes old x0 o0 k0 → Late known bytes old
+    → Takes (fed_by old bytes false) (take_.Item item) (fed_by new bytes false)
+    → Turns kept_with vote_tables (seen item) x0 o0 k0 x1 o1 k1 result
+    → Comes known bytes new x1 o1 k1 (Ok (reached.Whole used))
+whole_comes known bytes old new item x0 x1 o0 o1 k0 k1 used result is so late takes turns =
+    let turned : Turns kept_with vote_tables (seen item) x0 o0 k0 x1 o1 k1 (Ok (Some used)) =
+    subst (λ (r : Result (Option ℕ) ReadRefusal). Turns kept_with vote_tables (seen item) x0 o0 k0 x1 o1 k1 r) is
+    turns in
+    let ends = going.ended kept_with vote_tables (seen item) x0 x1 o0 o1 k0 k1 used turned in
+    let last = last_item vote_tables vote_ends x0 o0 (seen item) used ends in
+    let after : item.after ≡ used = last.0 in
+    let far = ends_late known bytes old new item late takes in
+    let within = ends_within bytes old new item so.reads takes in
+    let le : used ≤ length bytes = omega (arith, within, after) in
+    let rest : Contents = left_with (fed_by new bytes false) [] in
+    let parts : (contents max_vote 0 nothing bytes).items ≡ so.front ++ seen item ∷ rest.items =
+    ap (λ (l : List ℕ). (contents max_vote 0 nothing l).items) (sym (append-nil bytes))
+    ∙ ap (λ (c : Contents). c.items) (so.items [])
+    ∙ ap (λ (c : Contents). so.front ++ c.items) (takes.0 [] tt) in (
+      omega (arith, far, after),
+      le,
+      (λ more.
+          whole_part kept_with none_kept k0 k1 vote_tables max_vote bytes so.front rest.items (seen item) x0 o0 used
+          parts last so.made turned (length (take used bytes ++ more)) more
+          ∙ ap (λ (n : ℕ). Ok (k1, n)) (sym (length-take-le used bytes le))),
+    )
+
+-- an item is taken
+pub item_taken : (bytes : List ℕ) (old new : Cursor) (item : Item) (x0 x1 : Across) (o0 o1 : Begun) (k0 k1 : Kept)
+    (result : Result (Option ℕ) ReadRefusal) → result ≡ Ok None
+    → VoteSoFar bytes old x0 o0 k0 → IsAt bytes new → new.limit ≡ old.limit
+    → Takes (fed_by old bytes false) (take_.Item item) (fed_by new bytes false)
+    → Turns kept_with vote_tables (seen item) x0 o0 k0 x1 o1 k1 result → VoteSoFar bytes new x1 o1 k1
+item_taken bytes old new item x0 x1 o0 o1 k0 k1 result is so at_ same takes turns =
+    let turned =
+    subst (λ (r : Result (Option ℕ) ReadRefusal). Turns kept_with vote_tables (seen item) x0 o0 k0 x1 o1 k1 r) is
+    turns in
+    going.item_on kept_with none_kept vote_tables max_vote bytes old new (seen item) x0 x1 o0 o1 k0 k1 so at_ same
+    takes.0 turned
 
 -- a fault of a line comes
-pub fault_comes : (bytes : List ℕ) (old new : Cursor) (across : Across) (open_ : Begun) (fault : DocFault)
-    → VoteSoFar bytes old across open_
+pub fault_comes : (bytes : List ℕ) (old new : Cursor) (across : Across) (open_ : Begun) (kept : Kept) (fault : DocFault)
+    → VoteSoFar bytes old across open_ kept
     → Takes (fed_by old bytes false) (take_.Fault fault) (fed_by new bytes false) → EndsSo bytes (Err (of_doc fault))
-fault_comes bytes old new across open_ fault so takes =
-    ends_so bytes (Err (of_doc fault)) (going.faulty vote_tables max_vote bytes old across open_ fault so takes.0)
+fault_comes bytes old new across open_ kept fault so takes =
+    ends_so bytes (Err (of_doc fault))
+    (going.faulty kept_with none_kept vote_tables max_vote bytes old across open_ kept fault so takes.0)
 
 -- all that has come is read
-pub all_comes : (bytes : List ℕ) (old new : Cursor) (across : Across) (open_ : Begun) (taken : Take)
-    → (taken ≡ take_.NotYet) ⊎ (taken ≡ take_.End) → VoteSoFar bytes old across open_ → IsAt bytes new
+pub all_comes : (bytes : List ℕ) (old new : Cursor) (across : Across) (open_ : Begun) (kept : Kept) (taken : Take)
+    → (taken ≡ take_.NotYet) ⊎ (taken ≡ take_.End) → VoteSoFar bytes old across open_ kept → IsAt bytes new
     → new.limit ≡ old.limit
     → Takes (fed_by old bytes false) taken (fed_by new bytes false)
-    → IfNotYet taken (EndsNoEarlier (length bytes) (fed_by new bytes false)) → VoteWaits bytes new across open_
-all_comes bytes old new across open_ taken (inl is) so at_ same takes later =
-    going.all_read vote_tables max_vote bytes old new across open_ so at_ same
+    → IfNotYet taken (EndsNoEarlier (length bytes) (fed_by new bytes false)) → VoteWaits bytes new across open_ kept
+all_comes bytes old new across open_ kept taken (inl is) so at_ same takes later =
+    going.all_read kept_with none_kept vote_tables max_vote bytes old new across open_ kept so at_ same
     (subst (λ (t : Take). Takes (fed_by old bytes false) t (fed_by new bytes false)) is takes)
     (subst (λ (t : Take). IfNotYet t (EndsNoEarlier (length bytes) (fed_by new bytes false))) is later)
-all_comes bytes old new across open_ taken (inr is) so at_ same takes later =
+all_comes bytes old new across open_ kept taken (inr is) so at_ same takes later =
     let ended = subst (λ (t : Take). Takes (fed_by old bytes false) t (fed_by new bytes false)) is takes in
     absurd (cc ended.0)
 
 -- ---- what is known
 
-pub is_open : (bytes : List ℕ) (cursor : Cursor) (across : Across) (open_ : Begun) → VoteWaits bytes cursor across open_
-    → IsOpen bytes
-is_open bytes cursor across open_ waits end is =
-    open_now vote_tables max_vote votes_have_no_doc bytes cursor across open_ waits end
+pub is_open : (bytes : List ℕ) (cursor : Cursor) (across : Across) (open_ : Begun) (kept : Kept)
+    → VoteWaits bytes cursor across open_ kept → IsOpen bytes
+is_open bytes cursor across open_ kept waits end is =
+    open_now kept_with none_kept vote_tables max_vote votes_have_no_doc bytes cursor across open_ kept waits end
     (λ more. sym (voted (bytes ++ more)) ∙ is more)
 
-pub is_short : (bytes : List ℕ) (cursor : Cursor) (across : Across) (open_ : Begun)
-    → VoteWaits bytes cursor across open_ → length bytes ≤ max_vote
-is_short = not_beyond vote_tables max_vote
+pub is_short : (bytes : List ℕ) (cursor : Cursor) (across : Across) (open_ : Begun) (kept : Kept)
+    → VoteWaits bytes cursor across open_ kept → length bytes ≤ max_vote
+is_short = not_beyond kept_with none_kept vote_tables max_vote
 
 -- of no bytes nothing is known
 pub nothing_known : IsOpen []
 nothing_known =
     let begin : Cursor = behind max_vote 0 in
     let at_ = at_behind max_vote 0 [] (omega arith) in
-    let so = going.fresh vote_tables max_vote [] begin vote_tables.start (start vote_tables) refl refl refl in
-    is_open [] begin vote_tables.start (start vote_tables)
-    (going.all_read vote_tables max_vote [] begin begin vote_tables.start (start vote_tables) so at_ refl
+    let so =
+    going.fresh kept_with none_kept vote_tables max_vote [] begin vote_tables.start (start vote_tables) none_kept refl
+    refl refl refl in
+    is_open [] begin vote_tables.start (start vote_tables) none_kept
+    (going.all_read kept_with none_kept vote_tables max_vote [] begin begin vote_tables.start (start vote_tables)
+    none_kept so at_ refl
     (gives_quiet [] begin at_ (λ open_ of. inl refl)) (λ more item rest e. omega arith))
 
 -- what is known of some of the bytes is known of all
@@ -160,45 +178,48 @@ whole_there used bytes le is more =
     is more ∙ ap (λ (n : ℕ). Ok n) (sym (length-take-le used bytes le))
 
 -- of bytes of which nothing is known, no end is
-pub never_whole : (known : ℕ) (bytes : List ℕ) (cursor : Cursor) (across : Across) (open_ : Begun) (used : ℕ)
-    (result : Result Reached ReadRefusal) → result ≡ Ok (reached.Whole used)
-    → Comes known bytes cursor across open_ result → IsOpen bytes → ⊥
-never_whole known bytes cursor across open_ used result is comes unknown =
-    let here = subst (λ (r : Result Reached ReadRefusal). Comes known bytes cursor across open_ r) is comes in
-    unknown (Ok used) (known_more used bytes (Ok used) here.2)
+pub never_whole : (known : ℕ) (bytes : List ℕ) (cursor : Cursor) (across : Across) (open_ : Begun) (kept : Kept)
+    (used : ℕ) (result : Result Reached ReadRefusal) → result ≡ Ok (reached.Whole used)
+    → Comes known bytes cursor across open_ kept result → IsOpen bytes → ⊥
+never_whole known bytes cursor across open_ kept used result is comes unknown =
+    let here = subst (λ (r : Result Reached ReadRefusal). Comes known bytes cursor across open_ kept r) is comes in
+    let end : Result ℕ ReadRefusal = Ok (length (take used bytes)) in
+    unknown end (known_more used bytes end (whole_kept (take used bytes) kept here.2))
 
 -- ---- more bytes
 
-pub more_so_far : (bytes part all : List ℕ) (cursor : Cursor) (across : Across) (open_ : Begun) → all ≡ bytes ++ part
-    → VoteWaits bytes cursor across open_ → VoteSoFar all cursor across open_
-more_so_far bytes part all cursor across open_ is waits =
-    subst (λ (l : List ℕ). VoteSoFar l cursor across open_) (sym is)
-    (going.on_more vote_tables max_vote bytes part cursor across open_ waits.so_far)
+pub more_so_far : (bytes part all : List ℕ) (cursor : Cursor) (across : Across) (open_ : Begun) (kept : Kept)
+    → all ≡ bytes ++ part → VoteWaits bytes cursor across open_ kept → VoteSoFar all cursor across open_ kept
+more_so_far bytes part all cursor across open_ kept is waits =
+    subst (λ (l : List ℕ). VoteSoFar l cursor across open_ kept) (sym is)
+    (going.on_more kept_with none_kept vote_tables max_vote bytes part cursor across open_ kept waits.so_far)
 
-pub more_later : (known : ℕ) (bytes part all : List ℕ) (cursor : Cursor) (across : Across) (open_ : Begun)
-    → known ≡ length bytes → all ≡ bytes ++ part → VoteWaits bytes cursor across open_
+pub more_later : (known : ℕ) (bytes part all : List ℕ) (cursor : Cursor) (across : Across) (open_ : Begun) (kept : Kept)
+    → known ≡ length bytes → all ≡ bytes ++ part → VoteWaits bytes cursor across open_ kept
     → EndsNoEarlier known (fed_by cursor all false)
-more_later known bytes part all cursor across open_ count is waits more item rest e =
-    let le = going.later_on vote_tables max_vote bytes part cursor across open_ waits more item rest
+more_later known bytes part all cursor across open_ kept count is waits more item rest e =
+    let le =
+    going.later_on kept_with none_kept vote_tables max_vote bytes part cursor across open_ kept waits more item rest
     (subst (λ (l : List ℕ). left_with (fed_by cursor l false) more ≡ also (Some item) rest) is e) in
     omega (arith, count, le)
 
 -- all of a part was taken
 pub all_in : (known : ℕ) (bytes part all read : List ℕ) (cursor : Cursor) (across : Across) (open_ : Begun)
-    (result : Result Reached ReadRefusal) → all ≡ bytes ++ part → read ≡ all → result ≡ Ok reached.All
-    → Comes known read cursor across open_ result → TakesIn bytes part all cursor across open_ fed.All
-all_in known bytes part all read cursor across open_ result is same given comes =
-    let here = subst (λ (r : Result Reached ReadRefusal). Comes known read cursor across open_ r) given comes in
-    let there = subst (λ (l : List ℕ). VoteWaits l cursor across open_) same here in
-    (is, there, is_short all cursor across open_ there)
+    (kept : Kept) (result : Result Reached ReadRefusal) → all ≡ bytes ++ part → read ≡ all → result ≡ Ok reached.All
+    → Comes known read cursor across open_ kept result → TakesIn bytes part all cursor across open_ kept intake.All
+all_in known bytes part all read cursor across open_ kept result is same given comes =
+    let here = subst (λ (r : Result Reached ReadRefusal). Comes known read cursor across open_ kept r) given comes in
+    let there = subst (λ (l : List ℕ). VoteWaits l cursor across open_ kept) same here in
+    (is, there, is_short all cursor across open_ kept there)
 
 -- some of a part made the vote whole
 pub whole_in : (known : ℕ) (bytes part all read new : List ℕ) (cursor : Cursor) (across : Across) (open_ : Begun)
-    (used : ℕ) (result : Result Reached ReadRefusal) → known ≡ length bytes → all ≡ bytes ++ part → read ≡ all
-    → result ≡ Ok (reached.Whole used) → Comes known read cursor across open_ result → new ≡ take used all
-    → TakesIn bytes part new cursor across open_ (fed.Whole (used - known))
-whole_in known bytes part all read new cursor across open_ used result count is same given comes new_is =
-    let here = subst (λ (r : Result Reached ReadRefusal). Comes known read cursor across open_ r) given comes in
+    (kept : Kept) (used : ℕ) (result : Result Reached ReadRefusal) → known ≡ length bytes
+    → all ≡ bytes ++ part → read ≡ all → result ≡ Ok (reached.Whole used)
+    → Comes known read cursor across open_ kept result → new ≡ take used all
+    → TakesIn bytes part new cursor across open_ kept (intake.Whole (used - known))
+whole_in known bytes part all read new cursor across open_ kept used result count is same given comes new_is =
+    let here = subst (λ (r : Result Reached ReadRefusal). Comes known read cursor across open_ kept r) given comes in
     let far = here.0 in
     let near = here.1 in
     let size = ap length same in
@@ -209,9 +230,37 @@ whole_in known bytes part all read new cursor across open_ used result count is 
           ∙ ap (λ (l : List ℕ). take used l) is
           ∙ ap (λ (k : ℕ). take k (bytes ++ part)) used_is
           ∙ take-append-add bytes part (used - known),
-      subst IsWhole (sym (new_is ∙ ap (λ (l : List ℕ). take used l) (sym same))) (whole_there used read near here.2),
+      subst (λ (l : List ℕ). IsKeptOf l kept) (sym (new_is ∙ ap (λ (l : List ℕ). take used l) (sym same))) here.2,
     )
 
 -- nothing is both whole and faulty
 pub not_both : (bytes : List ℕ) → IsWhole bytes → IsFaulty bytes → ⊥
 not_both bytes whole faulty = absurd (cc (sym (whole []) ∙ faulty.refused []))
+
+-- ---- what is read
+
+-- the vote of which this is kept is the one that the bytes are
+pub vote_kept : (taken bytes : List ℕ) (kept : Kept) (vote : ReadVote) (count : ℕ) → IsKeptOf taken kept
+    → bytes ≡ taken → vote ≡ vote_in bytes kept → count ≡ length bytes → ReadsVote 0 taken (Ok (vote, count))
+vote_kept taken bytes kept vote count is same says count_is =
+    let size : count ≡ length taken = count_is ∙ ap length same in (
+      ap (λ (d : Result (Kept × ℕ) ReadRefusal). with_facts taken d)
+          (ap (λ (l : List ℕ).
+          finish kept_with none_kept (document_of vote_tables (length l) (contents max_vote 0 nothing l)))
+          (sym (append-nil taken)) ∙ is [])
+          ∙ ap (λ (v : ReadVote). Ok (v, length taken)) (sym (says ∙ ap (λ (l : List ℕ). vote_in l kept) same))
+          ∙ ap (λ (n : ℕ). Ok (vote, n)) (sym size),
+      omega (arith, size),
+    )
+
+no_vote : (read : Result (ReadVote × ℕ) ReadRefusal) (refusal : ReadRefusal) → end_of read ≡ Err refusal
+    → read ≡ Err refusal
+no_vote (Ok (vote, end)) refusal e = absurd (cc e)
+no_vote (Err other) refusal e = cc e
+
+-- where bytes are refused whatever follows, they are when nothing does
+pub vote_refused : (bytes : List ℕ) (fault : FrameFault) → EndsSo bytes (Err (Frame fault))
+    → ReadsVote 0 bytes (Err (Frame fault))
+vote_refused bytes fault ends =
+    no_vote (vote_of bytes) (Frame fault)
+    (ap (λ (l : List ℕ). end_of (vote_of l)) (sym (append-nil bytes)) ∙ ends [])

@@ -1,5 +1,6 @@
 -- What bytes are that may be blank lines alone, byte by byte.
-use Rattle.std.specs.Prelude.{ℕ, ◌==◌, Bool, true, false, if◌then◌else◌}
+use Rattle.std.specs.Prelude.{ℕ, ◌==◌, Bool, true, false, List, if◌then◌else◌}
+use Rattle.std.specs.List.{fold}
 use Rattle.item_terms.specs.Bytes.{line_feed}
 use Rattle.item_terms.specs.Words.{is_blank}
 use Rattle.vote_feed.specs.declared.blanks.Blank.{Blank}
@@ -14,6 +15,10 @@ abbrev pub blank_with : Blank → ℕ → Blank
 blank_with Lines byte = blank_by byte
 blank_with Within byte = blank_by byte
 blank_with Other byte = Other
+
+-- what bytes are
+abbrev pub blank_of : List ℕ → Blank
+blank_of bytes = fold blank_with Lines bytes
 
 -- whether they are blank lines, each with its NL
 abbrev pub is_lines : Blank → Bool

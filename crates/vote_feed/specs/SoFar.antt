@@ -7,8 +7,9 @@ use Rattle.dirdoc_grammar.specs.Cursors.{IsAt, fed_by}
 use Rattle.dirdoc_grammar.specs.Feeding.{EndsNoEarlier, Settles, left_with}
 use Rattle.dirdoc_grammar.specs.Writing.{in_front}
 use Rattle.frame_terms.specs.declared.document.Open.{Open}
+use Rattle.frame_terms.specs.declared.document.Taken.{Taken}
 use Rattle.frame_terms.specs.declared.fault.ReadRefusal.{ReadRefusal}
-use Rattle.frame_terms.specs.Documents.{Document, document_of, read_items}
+use Rattle.frame_terms.specs.Documents.{Document, document_of, finish, read_items}
 use Rattle.frame_terms.specs.Tables.{Tables}
 
 -- where a document ends, or why it is refused
@@ -16,22 +17,23 @@ abbrev pub used_of : {S V : Type 0} → Result (Document S V) ReadRefusal → Re
 used_of (Ok document) = Ok document.used
 used_of (Err refusal) = Err refusal
 
--- So much is read of a document that these bytes begin: these items, and what they make of it; the others are to come.
-pub record SoFar {S K V X : Type 0} (tables : Tables S K V X) (limit : ℕ) (bytes : List ℕ) (cursor : Cursor)
-    (across : X) (open_ : Open S V) : Type 0 where
+-- So much is read of a document that these bytes begin: these items, and what they make of what is open and of what is
+-- kept of its sections; the others are to come.
+pub record SoFar {S K V X F : Type 0} (with_ : F → S → List (Taken V) → F) (none : F) (tables : Tables S K V X)
+    (limit : ℕ) (bytes : List ℕ) (cursor : Cursor) (across : X) (open_ : Open S V) (facts : F) : Type 0 where
   pub reads : IsAt bytes cursor
   pub bound : cursor.limit ≡ limit
   pub front : List Item
   pub items : (more : List ℕ)
       → contents limit 0 nothing (bytes ++ more) ≡ in_front front (left_with (fed_by cursor bytes false) more)
   pub made : (n : ℕ) (fault : Option DocFault) (rest : List Item)
-      → used_of (document_of tables n (record { items = front ++ rest; fault = fault }))
-      ≡ used_of (read_items tables n across open_ fault rest)
+      → finish with_ none (document_of tables n (record { items = front ++ rest; fault = fault }))
+      ≡ finish with_ facts (read_items tables n across open_ fault rest)
 
 -- So much is read of it, and of the rest nothing is known whatever follows; what comes next ends no earlier than the
 -- bytes.
-pub record Waits {S K V X : Type 0} (tables : Tables S K V X) (limit : ℕ) (bytes : List ℕ) (cursor : Cursor)
-    (across : X) (open_ : Open S V) : Type 0 where
-  pub so_far : SoFar tables limit bytes cursor across open_
+pub record Waits {S K V X F : Type 0} (with_ : F → S → List (Taken V) → F) (none : F) (tables : Tables S K V X)
+    (limit : ℕ) (bytes : List ℕ) (cursor : Cursor) (across : X) (open_ : Open S V) (facts : F) : Type 0 where
+  pub so_far : SoFar with_ none tables limit bytes cursor across open_ facts
   pub unsettled : (answer : Result (Option Item) DocFault) → Settles (fed_by cursor bytes false) answer → ⊥
   pub later : EndsNoEarlier (length bytes) (fed_by cursor bytes false)

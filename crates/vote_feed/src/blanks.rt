@@ -1,11 +1,11 @@
 // Whether bytes are blank lines alone.
-ghost use Rattle.std.specs.Prelude.{◌≡◌};
-ghost use Rattle.std.specs.List.{fold};
+ghost use Rattle.std.specs.Prelude.{◌≡◌, ◌++◌, ℕ, List, []};
 ghost use Rattle.vote_feed.specs.Blanks as terms;
+ghost use Rattle.vote_feed.specs.Feeding.{are_blank_lines};
 
-/// What bytes are that may be blank lines alone.
+/// What bytes are that may be blank lines alone, and are looked at piece by piece.
 #[derive(Clone, Copy, Debug)]
-pub(crate) enum Blank {
+pub enum Blank {
     /// Blank lines, each with its NL.
     Lines,
     /// Blank lines, and blanks behind them.
@@ -25,9 +25,10 @@ fn blank_by(byte: u8) -> Blank
     }
 }
 
-/// What such bytes are with these behind them. Nothing is looked at behind a byte that makes no blank line.
-pub(crate) fn blank_after(blank: Blank, bytes: &[u8]) -> Blank
-    ensures { result ≡ fold terms.blank_with blank bytes.now }
+/// What bytes are with these behind them, by what they are without. Behind a byte that makes no blank line nothing is
+/// looked at.
+pub fn blank_after(blank: Blank, bytes: &[u8]) -> Blank
+    ensures { (before : List ℕ) → blank ≡ terms.blank_of before → result ≡ terms.blank_of (before ++ bytes.now) }
 {
     let mut blank = blank;
     'bytes: for byte in bytes {
@@ -40,9 +41,16 @@ pub(crate) fn blank_after(blank: Blank, bytes: &[u8]) -> Blank
 }
 
 impl Blank {
+    /// What no bytes are.
+    pub fn new() -> Blank
+        ensures { result ≡ terms.blank_of [] }
+    {
+        Blank::Lines
+    }
+
     /// Whether they are blank lines, each with its NL.
-    pub(crate) fn is_lines(self) -> bool
-        ensures { result ≡ terms.is_lines self }
+    pub fn is_lines(self) -> bool
+        ensures { (bytes : List ℕ) → self ≡ terms.blank_of bytes → result ≡ are_blank_lines bytes }
     {
         match self {
             Blank::Lines => true,

@@ -10,14 +10,15 @@ ghost use Rattle.vote_feed.specs.Lending.{IsKnown};
 
 use crate::blanks::{Blank, blank_after};
 use crate::fed::Fed;
+use crate::finishing::{read_vote, whole_vote, with_beside};
+use crate::intake::{Intake, fed_of, taken_part};
 use crate::machine::{MAX_VOTE, Machine};
 use crate::taking::{make_ready, take_in};
-use bytes::Bytes;
 use dir_bytes::Memory;
-use frame_terms::ReadRefusal;
-use std::alloc::{AllocError, Global};
+use frame_terms::{FrameFault, ReadRefusal};
+use std::alloc::Global;
 use std::marker::Model;
-use vote_doc::{Vote, read};
+use vote_doc::Vote;
 
 /// What a feeder knows of the bytes that were taken.
 #[derive(Clone, Copy, Debug)]
@@ -28,8 +29,8 @@ pub(crate) enum State {
     Anew,
     /// The vote is whole.
     Whole,
-    /// The vote is faulty.
-    Fault,
+    /// The vote is faulty: this is its first fault, whatever follows.
+    Fault(FrameFault),
 }
 
 impl State {
@@ -39,7 +40,7 @@ impl State {
     {
         match self {
             State::Going => true,
-            State::Anew | State::Whole | State::Fault => false,
+            State::Anew | State::Whole | State::Fault(_) => false,
         }
     }
 }
@@ -65,7 +66,7 @@ impl Model for VoteFeeder {
     ghost view = { λ s. taken_of s.bytes.items s.beside };
 
     ghost invariant = { λ s. Keeps s.bytes.items s.beside s.blank s.state
-        s.machine.cursor s.machine.reader.across s.machine.reader.state };
+        s.machine.cursor s.machine.reader.across s.machine.reader.state s.machine.kept };
 }
 
 /// What of a piece may be taken behind so many bytes: one more than a vote may have tells all of it.
@@ -78,25 +79,13 @@ fn within_room(piece: &[u8], count: usize) -> &[u8]
 }
 
 /// The state that a feeder is in after this.
-fn state_of(fed: Fed) -> State
-    ensures { result ≡ terms.state_of fed }
+fn state_of(intake: Intake) -> State
+    ensures { result ≡ terms.state_of intake }
 {
-    match fed {
-        Fed::All => State::Going,
-        Fed::Whole { .. } => State::Whole,
-        Fed::Fault { .. } => State::Fault,
-    }
-}
-
-/// What of a part was taken.
-fn taken_part(part: &[u8], fed: Fed) -> &[u8]
-    requires { terms.count_of (length part.now) fed ≤ length part.now }
-    ensures { result.now ≡ take (terms.count_of (length part.now) fed) part.now }
-{
-    match fed {
-        Fed::All => part,
-        Fed::Whole { taken } => &part[..taken],
-        Fed::Fault { taken } => &part[..taken],
+    match intake {
+        Intake::All => State::Going,
+        Intake::Whole { .. } => State::Whole,
+        Intake::Fault { fault, .. } => State::Fault(fault),
     }
 }
 
@@ -113,23 +102,6 @@ fn put_beside(bytes: &mut Vec<u8>) -> Option<u8>
     bytes.pop()
 }
 
-/// The bytes with the one beside them.
-///
-/// # Errors
-/// There was no memory.
-fn with_beside(bytes: Vec<u8>, beside: Option<u8>) -> Result<Vec<u8>, AllocError>
-    ensures { IfOk result (λ all. all.items ≡ terms.taken_of bytes.items beside) }
-{
-    match beside {
-        Some(byte) => {
-            let mut all = bytes;
-            all.push(byte)?;
-            Ok(all)
-        }
-        None => Ok(bytes),
-    }
-}
-
 impl VoteFeeder {
     /// No byte has come yet.
     ///
@@ -138,13 +110,14 @@ impl VoteFeeder {
     pub fn new(alloc: Global) -> Result<VoteFeeder, Memory>
         ensures { IfOk result (λ feeder. feeder ≡ []) }
     {
+        let machine = Machine::new(alloc)?;
         Ok(VoteFeeder {
             alloc,
             bytes: Vec::new(alloc),
             beside: None,
-            blank: Blank::Lines,
+            blank: Blank::new(),
             state: State::Anew,
-            machine: Machine::new(alloc),
+            machine,
         })
     }
 
@@ -172,7 +145,7 @@ impl VoteFeeder {
         match self.state {
             State::Going | State::Anew => None,
             State::Whole => Some(Fed::Whole { taken: 0 }),
-            State::Fault => Some(Fed::Fault { taken: 0 }),
+            State::Fault(_) => Some(Fed::Fault { taken: 0 }),
         }
     }
 
@@ -189,24 +162,26 @@ impl VoteFeeder {
         self.state = State::Anew;
         make_ready(self.alloc, is_ready, &self.bytes, &mut self.machine)?;
         let part = within_room(piece, self.bytes.len());
-        let fed = take_in(self.alloc, &mut self.bytes, &mut self.machine, part)?;
-        self.blank = blank_after(self.blank, taken_part(part, fed));
-        self.state = state_of(fed);
+        let intake = take_in(self.alloc, &mut self.bytes, &mut self.machine, part)?;
+        self.blank = blank_after(self.blank, taken_part(part, intake));
+        self.state = state_of(intake);
         self.beside = put_beside(&mut self.bytes);
-        Ok(fed)
+        Ok(fed_of(intake))
     }
 
     /// The vote that the bytes begin with which were taken, and the place after it: what `read` answers of them. The
-    /// vote shares them.
+    /// vote shares them. Where the vote is whole, or faulty, they are not read again.
     ///
     /// # Errors
     /// `Frame` is the first fault of the vote, with its place. `Memory` is want of memory.
     pub fn finish(self) -> Result<(Vote, usize), ReadRefusal>
         ensures { ReadsVote 0 self result }
     {
-        let bytes = with_beside(self.bytes, self.beside)?;
-        let bytes = Bytes::from_vec(bytes)?;
-        read(self.alloc, &bytes, 0)
+        match self.state {
+            State::Going | State::Anew => read_vote(self.alloc, self.bytes, self.beside),
+            State::Whole => whole_vote(self.alloc, self.bytes, self.beside, self.machine.kept),
+            State::Fault(fault) => Err(ReadRefusal::Frame(fault)),
+        }
     }
 
     /// The bytes that were taken.

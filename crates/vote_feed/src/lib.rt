@@ -4,8 +4,11 @@
 mod blanks;
 mod fed;
 mod feeder;
+mod finishing;
+mod intake;
 mod machine;
 mod taking;
 
+pub use blanks::{Blank, blank_after};
 pub use fed::Fed;
 pub use feeder::VoteFeeder;

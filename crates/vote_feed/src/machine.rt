@@ -1,30 +1,18 @@
 // How far a vote is read whose bytes arrive.
-ghost use Rattle.std.specs.Prelude.{◌<◌, ◌^◌, List, ℕ, false, length};
+ghost use Rattle.std.specs.Prelude.{◌<◌, ◌^◌, List, ℕ, false, length, IfOk};
 ghost use Rattle.dirdoc_grammar.specs.Cursors.{fed_by};
 ghost use Rattle.dirdoc_grammar.specs.Feeding.{EndsNoEarlier};
 ghost use Rattle.vote_feed.specs.Lending.{Comes, VoteSoFar};
 
 use dirdoc_grammar::{Cursor, Take};
-use frame_reader::{Facts, Reached, Reader};
-use frame_terms::{ReadRefusal, Taken};
-use frame_values::Value;
+use frame_reader::{Reached, Reader};
+use frame_terms::ReadRefusal;
 use std::alloc::{AllocError, Global};
-use vote_frame::{VoteFrame, VoteSection, VoteValue};
+use vote_doc::{Kept, nothing_kept};
+use vote_frame::VoteFrame;
 
 /// How many bytes a vote may have.
 pub(crate) const MAX_VOTE: usize = 16_777_216;
-
-/// What is kept of a vote that is looked at: nothing.
-#[derive(Clone, Copy, Debug)]
-struct Nothing;
-
-impl Facts<VoteFrame> for Nothing {
-    ghost with = { λ nothing section taken. nothing };
-
-    fn close(&mut self, _: VoteSection, _: &[Taken<Value<VoteValue>>]) -> Result<(), AllocError> {
-        Ok(())
-    }
-}
 
 /// How far a vote is read.
 #[derive(Drop)]
@@ -33,17 +21,25 @@ pub(crate) struct Machine {
     pub(crate) cursor: Cursor,
     /// What is open of the vote there.
     pub(crate) reader: Reader<VoteFrame>,
+    /// What is kept of its sections that have ended.
+    pub(crate) kept: Kept,
 }
 
 impl Machine {
     /// Nothing is read yet, whatever the bytes are.
-    pub(crate) fn new(alloc: Global) -> Machine
-        ensures { (bytes : List ℕ) → VoteSoFar bytes result.cursor result.reader.across result.reader.state }
+    ///
+    /// # Errors
+    /// There was no memory.
+    pub(crate) fn new(alloc: Global) -> Result<Machine, AllocError>
+        ensures { IfOk result (λ machine. (bytes : List ℕ) → VoteSoFar bytes machine.cursor
+            machine.reader.across machine.reader.state machine.kept) }
     {
-        Machine {
+        let kept = nothing_kept(alloc, 0)?;
+        Ok(Machine {
             cursor: Cursor::new(MAX_VOTE as u64),
             reader: Reader::new(alloc, VoteFrame),
-        }
+            kept,
+        })
     }
 }
 
@@ -57,15 +53,19 @@ pub(crate) fn read_on(
     known: usize,
     machine: &mut Machine,
 ) -> Result<Reached, ReadRefusal>
-    requires so_far { VoteSoFar bytes.now machine.old.cursor machine.old.reader.across machine.old.reader.state }
+    requires so_far { VoteSoFar bytes.now machine.old.cursor machine.old.reader.across
+        machine.old.reader.state machine.old.kept }
     requires later { EndsNoEarlier known (fed_by machine.old.cursor bytes.now false) }
     requires short { length bytes.now < 2 ^ 62 }
-    ensures { Comes known bytes.now machine.new.cursor machine.new.reader.across machine.new.reader.state result }
+    ensures { Comes known bytes.now machine.new.cursor machine.new.reader.across
+        machine.new.reader.state machine.new.kept result }
 {
-    let mut nothing = Nothing;
     'items: loop {
         match machine.cursor.take(bytes, false) {
-            Take::Item(item) => match machine.reader.take(alloc, VoteFrame, &mut nothing, &item) {
+            Take::Item(item) => match machine
+                .reader
+                .take(alloc, VoteFrame, &mut machine.kept, &item)
+            {
                 Ok(None) => {}
                 Ok(Some(used)) => return Ok(Reached::Whole(used)),
                 Err(refusal) => return Err(refusal),

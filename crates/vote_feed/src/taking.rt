@@ -4,7 +4,7 @@ ghost use Rattle.vote_doc.specs.Reading.{max_vote};
 ghost use Rattle.vote_feed.specs.Feeding.{IsOpen};
 ghost use Rattle.vote_feed.specs.Lending.{TakesIn, VoteWaits};
 
-use crate::fed::Fed;
+use crate::intake::Intake;
 use crate::machine::{Machine, read_on};
 use dir_bytes::Memory;
 use frame_reader::Reached;
@@ -18,9 +18,10 @@ use std::alloc::Global;
 fn begun_anew(alloc: Global, bytes: &[u8]) -> Result<Machine, Memory>
     requires within { length bytes.now ≤ max_vote }
     requires open_ { IsOpen bytes.now }
-    ensures { IfOk result (λ machine. VoteWaits bytes.now machine.cursor machine.reader.across machine.reader.state) }
+    ensures { IfOk result (λ machine. VoteWaits bytes.now machine.cursor
+        machine.reader.across machine.reader.state machine.kept) }
 {
-    let mut machine = Machine::new(alloc);
+    let mut machine = Machine::new(alloc)?;
     match read_on(alloc, bytes, 0, &mut machine) {
         Ok(Reached::All) => Ok(machine),
         Ok(Reached::Whole(_)) => unreachable!(),
@@ -40,10 +41,11 @@ pub(crate) fn make_ready(
     machine: &mut Machine,
 ) -> Result<(), Memory>
     requires waits { is_ready ≡ true
-        → VoteWaits bytes.now machine.old.cursor machine.old.reader.across machine.old.reader.state }
+        → VoteWaits bytes.now machine.old.cursor machine.old.reader.across machine.old.reader.state machine.old.kept }
     requires within { length bytes.now ≤ max_vote }
     requires open_ { IsOpen bytes.now }
-    ensures { OnOk result (VoteWaits bytes.now machine.new.cursor machine.new.reader.across machine.new.reader.state) }
+    ensures { OnOk result (VoteWaits bytes.now machine.new.cursor
+        machine.new.reader.across machine.new.reader.state machine.new.kept) }
 {
     if !is_ready {
         *machine = begun_anew(alloc, bytes)?;
@@ -61,25 +63,29 @@ pub(crate) fn take_in(
     bytes: &mut Vec<u8>,
     machine: &mut Machine,
     part: &[u8],
-) -> Result<Fed, Memory>
-    requires waits { VoteWaits bytes.old.items machine.old.cursor machine.old.reader.across machine.old.reader.state }
+) -> Result<Intake, Memory>
+    requires waits { VoteWaits bytes.old.items machine.old.cursor machine.old.reader.across
+        machine.old.reader.state machine.old.kept }
     requires within { vec_len bytes.old + length part.now ≤ max_vote + 1 }
-    ensures ok { IfOk result (λ fed. TakesIn bytes.old.items part.now bytes.new.items
-        machine.new.cursor machine.new.reader.across machine.new.reader.state fed) }
+    ensures ok { IfOk result (λ intake. TakesIn bytes.old.items part.now bytes.new.items
+        machine.new.cursor machine.new.reader.across machine.new.reader.state machine.new.kept intake) }
     ensures err { OnErr result (bytes.new.items ≡ bytes.old.items) }
 {
     let known = bytes.len();
     bytes.extend_from_slice(part)?;
     match read_on(alloc, bytes, known, machine) {
-        Ok(Reached::All) => Ok(Fed::All),
+        Ok(Reached::All) => Ok(Intake::All),
         Ok(Reached::Whole(used)) => {
             let used = used as usize;
             bytes.truncate(used);
-            Ok(Fed::Whole {
+            Ok(Intake::Whole {
                 taken: used - known,
             })
         }
-        Err(ReadRefusal::Frame(_)) => Ok(Fed::Fault { taken: part.len() }),
+        Err(ReadRefusal::Frame(fault)) => {
+            let taken = part.len();
+            Ok(Intake::Fault { taken, fault })
+        }
         Err(ReadRefusal::Memory) => {
             bytes.truncate(known);
             Err(Memory)

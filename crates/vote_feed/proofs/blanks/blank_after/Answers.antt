@@ -1,11 +1,16 @@
-use Rattle.std.proofs.Common.{◌∙◌, drop, ap, sym}
+use Rattle.std.proofs.Common.{◌∙◌, drop, ap, arith, sym}
+use Rattle.std.proofs.lemmas.Grind.{common_steps}
 use Rattle.std.specs.List.{fold}
 use Rattle.vote_feed.specs.declared.blanks.Blank.{Blank}
 use Rattle.vote_feed.specs.Blanks.{blank_with}
-use Rattle.vote_feed.proofs.BlankLines.{others}
+use Rattle.vote_feed.proofs.BlankLines.{blank_behind, others}
 use Rattle.vote_feed.proofs.blanks.blank_after.Goals as goal
 
 pub returns-in-Other : goal.returns-in-Other
 returns-in-Other c =
     let rest = drop c.bytes.byte-index c.args.bytes.now in
-    sym (others rest) ∙ ap (λ (b : Blank). fold blank_with b rest) (sym c.in-Other.is) ∙ c.bytes.invariant
+    blank_behind c.args.blank _ c.args.bytes.now
+    (sym (others rest) ∙ ap (λ (b : Blank). fold blank_with b rest) (sym c.in-Other.is) ∙ c.bytes.invariant)
+
+pub returns : goal.returns
+returns c = blank_behind c.args.blank c.bytes.blank c.args.bytes.now (grind (arith, common_steps))

@@ -1,15 +1,7 @@
-use Rattle.std.proofs.Common.{◌∙◌, ℕ, List, Option, Ok, ap}
-use Rattle.frame_terms.specs.declared.document.Taken.{Taken}
-use Rattle.frame_values.specs.declared.values.Value.{Value}
-use Rattle.vote_frame.specs.declared.frame.VoteSection.{VoteSection}
-use Rattle.vote_frame.specs.declared.frame.VoteValue.{VoteValue}
-use Rattle.vote_feed.specs.declared.machine.Nothing.{Nothing}
+use Rattle.std.proofs.Common.{◌∙◌, ℕ, Option, Ok, ap}
 use Rattle.vote_feed.proofs.Going.{late_on}
 use Rattle.vote_feed.proofs.Votes.{all_comes, fault_comes, item_taken, whole_comes}
 use Rattle.vote_feed.proofs.machine.read_on.Goals as goal
-
-abbrev kept : Nothing → VoteSection → List (Taken (Value VoteValue)) → Nothing
-kept nothing section taken = nothing
 
 pub items-preserved : goal.items-preserved
 items-preserved c =
@@ -17,8 +9,8 @@ items-preserved c =
     let new = c.take-in-Item.new.self in
     record {
       so_far =
-          item_taken kept c.args.bytes.now old.cursor c.take.new.self c.in-Item.item old.reader.across new.across
-          old.reader.state new.state c.items.nothing c.take-in-Item.new.facts c.take-in-Item.result
+          item_taken c.args.bytes.now old.cursor c.take.new.self c.in-Item.item old.reader.across new.across
+          old.reader.state new.state old.kept c.take-in-Item.new.facts c.take-in-Item.result
           (c.in-Ok-None.is ∙ ap (λ (o : Option ℕ). Ok o) c.in-Ok-None.field-0-is)
           c.items.invariant.so_far c.in-Item.ensures.at c.in-Item.ensures.limit c.in-Item.ensures.takes
           c.take-in-Item.ensures;
@@ -31,8 +23,8 @@ pub returns-in-Ok-Some : goal.returns-in-Ok-Some
 returns-in-Ok-Some c =
     let old = c.items.machine in
     let new = c.take-in-Item.new.self in
-    whole_comes kept c.args.known c.args.bytes.now old.cursor c.take.new.self c.in-Item.item old.reader.across
-    new.across old.reader.state new.state c.items.nothing c.take-in-Item.new.facts c.in-Ok-Some.used c.take-in-Item.result
+    whole_comes c.args.known c.args.bytes.now old.cursor c.take.new.self c.in-Item.item old.reader.across
+    new.across old.reader.state new.state old.kept c.take-in-Item.new.facts c.in-Ok-Some.used c.take-in-Item.result
     (c.in-Ok-Some.is ∙ ap (λ (o : Option ℕ). Ok o) c.in-Ok-Some.field-0-is)
     c.items.invariant.so_far c.items.invariant.late c.in-Item.ensures.takes c.take-in-Item.ensures
 
@@ -40,11 +32,13 @@ pub returns-in-Fault : goal.returns-in-Fault
 returns-in-Fault c =
     let old = c.items.machine in
     rw c.from.ensures
-    (fault_comes c.args.bytes.now old.cursor c.take.new.self old.reader.across old.reader.state c.in-Fault.fault
+    (fault_comes c.args.bytes.now old.cursor c.take.new.self old.reader.across old.reader.state old.kept
+    c.in-Fault.fault
     c.items.invariant.so_far c.in-Fault.ensures.takes)
 
 pub returns-in-NotYet : goal.returns-in-NotYet
 returns-in-NotYet c =
     let old = c.items.machine in
-    all_comes c.args.bytes.now old.cursor c.take.new.self old.reader.across old.reader.state c.take.result
-    c.in-NotYet.is c.items.invariant.so_far c.take.ensures.at c.take.ensures.limit c.take.ensures.takes c.take.ensures.later
+    all_comes c.args.bytes.now old.cursor c.take.new.self old.reader.across old.reader.state old.kept c.take.result
+    c.in-NotYet.is c.items.invariant.so_far c.take.ensures.at c.take.ensures.limit c.take.ensures.takes
+    c.take.ensures.later
