@@ -1,8 +1,7 @@
 -- The text that was written is that of the consensus of the held votes.
-use Rattle.std.proofs.Common.{◌≡◌, ℕ, true, List, length, Result, Ok, Err, refl, sym, ap, ◌∙◌, subst}
+use Rattle.std.proofs.Common.{◌≡◌, ℕ, true, List, length, Result, Ok, Err, refl, sym, ap, ◌∙◌}
 use Rattle.std.specs.Prelude.{All}
 use Rattle.std.specs.Global.{Vec}
-use Rattle.frame_terms.specs.declared.fault.ReadRefusal.{ReadRefusal}
 use Rattle.key_port.specs.Answers.{Rules}
 use Rattle.vote_terms.specs.Votes.{ReadVote}
 use Rattle.count_terms.specs.Counts.{over}
@@ -11,22 +10,14 @@ use Rattle.vote_terms.specs.Acceptable.{IsAcceptable}
 use Rattle.compute_terms.specs.Consensuses.{consensus}
 use Rattle.consensus_terms.specs.declared.consensus.Consensus.{Consensus}
 use Rattle.daemon_words.specs.declared.command.Compute.{Compute}
-use Rattle.daemon_words.specs.declared.command.Kind.{Kind}
-use Rattle.exit_status.specs.Stops.{Answered, of_kind}
+use Rattle.exit_status.specs.Stops.{Answered}
 use Rattle.exit_status.specs.declared.status.Refusal.TheVariants as refusal
 use Rattle.exit_status.specs.declared.stop.Stop.{Stop}
 use Rattle.exit_status.specs.declared.stop.Stop.TheVariants as stop
 use Rattle.exit_status.specs.declared.vote_refusal.VoteListRefusal.TheVariants as list
-use Rattle.exit_status.proofs.WentOn.{went_on}
 use Rattle.compute_command.specs.Votes.{votes_of}
 use Rattle.compute_command.specs.Answers.{ComputeAnswers, Computes, texts_of}
-use Rattle.compute_command.specs.Private.{ReadsVotes, WritesText}
-
--- the votes that were read
-pub votes_read : (kind : Kind) (all : Result (List ReadVote) ReadRefusal) (read : Result (Vec ReadVote) ReadRefusal)
-    (votes : Vec ReadVote) → ReadsVotes all read → Ok votes ≡ of_kind kind read → all ≡ Ok votes.items
-votes_read kind all read votes reads e =
-    subst (λ (r : Result (Vec ReadVote) ReadRefusal). ReadsVotes all r) (went_on kind read votes e) reads
+use Rattle.compute_command.specs.Private.{WritesText}
 
 pub computes : (rules : Rules) (wanted : Compute) (bytes text : List ℕ) (votes now : List ReadVote) (roster : ℕ)
     (c : Consensus) → votes_of bytes ≡ Ok votes

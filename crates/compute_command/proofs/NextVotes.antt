@@ -25,7 +25,16 @@ use Rattle.moved_votes.specs.Moved.{further}
 use Rattle.compute_command.specs.Rests.{AreVotes, EndsVote, Read, next_by, next_of, room_behind}
 use Rattle.compute_command.specs.Votes.{by_first, item_too_many, no_limit, one_more, then_votes, unless_end}
 use Rattle.compute_command.specs.Votes.{unless_more, votes_from, votes_of, with_front}
-use Rattle.compute_command.proofs.Chains.{front_of_front, ok_of}
+
+-- ---- votes in front
+
+abbrev ok_of : List ReadVote → Result (List ReadVote) ReadRefusal
+ok_of votes = Ok votes
+
+front_of_front : (xs ys : List ReadVote) (read : Result (List ReadVote) ReadRefusal)
+    → with_front xs (with_front ys read) ≡ with_front (xs ++ ys) read
+front_of_front xs ys (Ok zs) = ap (λ (t : List ReadVote). ok_of t) (sym (append_assoc xs ys zs))
+front_of_front xs ys (Err e) = refl
 
 -- ---- behind other bytes
 

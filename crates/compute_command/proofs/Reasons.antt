@@ -1,10 +1,8 @@
 -- What an input that is read from a source is refused for.
-use Rattle.std.proofs.Common.{ℕ, ◌<◌, ◌^◌, List, Option, Result, Ok, Err}
-use Rattle.std.specs.Global.{Vec}
+use Rattle.std.proofs.Common.{ℕ, ◌<◌, ◌^◌, List, Option, Ok, Err}
 use Rattle.key_port.specs.Answers.{Rules}
 use Rattle.vote_terms.specs.Votes.{ReadVote}
 use Rattle.daemon_words.specs.declared.command.Compute.{Compute}
-use Rattle.exit_status.specs.declared.status.Refusal.{Refusal}
 use Rattle.exit_status.specs.declared.status.Refusal.TheVariants as refusal
 use Rattle.exit_status.specs.declared.stop.Stop.{Stop}
 use Rattle.exit_status.specs.declared.stop.Stop.TheVariants as stop
@@ -12,7 +10,7 @@ use Rattle.exit_status.specs.declared.vote_refusal.VoteListRefusal.TheVariants a
 use Rattle.compute_command.specs.declared.arriving.Arriving.{Arriving}
 use Rattle.compute_command.specs.declared.halt.Halt.{Halt}
 use Rattle.compute_command.specs.declared.halt.Halt.TheVariants as halt
-use Rattle.compute_command.specs.Arriving.{EndsAll, EndsSo, HasReadVotes, IsOfVotes, RefusesForVotes, TellsRead}
+use Rattle.compute_command.specs.Arriving.{EndsAll, EndsSo, HasReadVotes, RefusesForVotes, TellsRead}
 use Rattle.compute_command.specs.Private.{WritesText}
 use Rattle.compute_command.proofs.Sources.{ends_here}
 

@@ -1,5 +1,5 @@
 -- What is kept of the bytes behind some votes, by its stage.
-use Rattle.std.proofs.Common.{◌≡◌, ◌∙◌, ℕ, ◌+◌, ◌<◌, ◌^◌, Bool, false, List, length, Option, Some, sym, ap, subst, arith}
+use Rattle.std.proofs.Common.{◌≡◌, ◌∙◌, ℕ, ◌<◌, ◌^◌, Bool, false, List, length, Some, sym, ap, subst}
 use Rattle.frame_terms.specs.declared.fault.FrameFault.{FrameFault}
 use Rattle.vote_feed.specs.Feeding.{IsOpen}
 use Rattle.compute_command.specs.declared.rest.Rest.{Rest}

@@ -18,7 +18,6 @@ use Rattle.vote_feed.specs.declared.fed.Fed.{Fed}
 use Rattle.vote_feed.specs.declared.fed.Fed.TheVariants as fed
 use Rattle.vote_feed.specs.Feeding.{EndsSo, Feeds, IsFaulty, IsOpen, IsWhole, end_of}
 use Rattle.vote_feed.proofs.Votes.{nothing_known}
-use Rattle.compute_command.specs.declared.rest.Rest.{Rest}
 use Rattle.compute_command.specs.declared.rest.Stage.{Stage}
 use Rattle.compute_command.specs.declared.rest.Stage.TheVariants as stage
 use Rattle.compute_command.specs.declared.rest.Turn.{Turn}
@@ -27,12 +26,12 @@ use Rattle.compute_command.specs.declared.tail.Tail.{Tail}
 use Rattle.compute_command.specs.declared.tail.Tail.TheVariants.{Blank}
 use Rattle.compute_command.specs.Beyonds.{HasTooMany}
 use Rattle.compute_command.specs.Furthers.{IsFurther}
-use Rattle.compute_command.specs.Rests.{AnswersEnd, EndsVote, HasFault, HasNoVote, HasRest, IsFaultOf, IsRest, IsVoteOf}
+use Rattle.compute_command.specs.Rests.{AnswersEnd, EndsVote, HasFault, HasNoVote, IsFaultOf, IsRest, IsVoteOf}
 use Rattle.compute_command.specs.Rests.{Knows, Read, Turns, next_by, next_of, turn_on}
 use Rattle.compute_command.specs.Tails.{is_end, tail_of, tail_with}
 use Rattle.compute_command.specs.Votes.{one_more}
 use Rattle.compute_command.proofs.Furthers.{further_on}
-use Rattle.compute_command.proofs.Rests.{ends_vote, fault_stays, has_fault, has_too_many, none_there}
+use Rattle.compute_command.proofs.Rests.{ends_vote, fault_stays, has_fault, has_too_many}
 use Rattle.compute_command.proofs.Rests.{vote_there}
 use Rattle.compute_command.proofs.TailEnds.{end_is_none, not_end}
 

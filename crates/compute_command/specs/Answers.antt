@@ -17,8 +17,6 @@ use Rattle.daemon_words.specs.declared.command.Flavours.TheVariants as flavours
 use Rattle.daemon_words.specs.declared.command.Kind.TheVariants.{Vote}
 use Rattle.exit_status.specs.declared.status.Refusal.{Refusal}
 use Rattle.exit_status.specs.declared.status.Refusal.TheVariants as refusal
-use Rattle.exit_status.specs.declared.stop.Stop.{Stop}
-use Rattle.exit_status.specs.declared.stop.Stop.TheVariants as stop
 use Rattle.exit_status.specs.declared.vote_refusal.VoteListRefusal.TheVariants as list
 use Rattle.compute_command.specs.Votes.{votes_of}
 
@@ -81,8 +79,3 @@ pub record CanCompute (rules : Rules) (wanted : Compute) (bytes : List ℕ) : Ty
   pub acceptable : All (λ vote. IsAcceptable rules wanted.roster wanted.valid_after vote) votes
   pub none_refused : All (λ vote. RefusesNone rules vote) votes
   pub enough : over (length (held votes)) (length wanted.roster) ≡ true
-
--- the input is refused for what its documents are
-abbrev pub IsOfDocuments : Stop → Type 0
-IsOfDocuments (stop.Refused (refusal.Document why)) = Unit {0}
-IsOfDocuments _ = ⊥

@@ -1,8 +1,6 @@
 -- What the private functions of this crate return.
 use Rattle.std.specs.Prelude.{◌≡◌, ℕ, true, false, List, length, Result, Ok, Err}
 use Rattle.std.specs.Global.{Vec}
-use Rattle.frame_terms.specs.declared.fault.ReadRefusal.{ReadRefusal}
-use Rattle.frame_terms.specs.Refusals.{Fails}
 use Rattle.vote_terms.specs.Votes.{ReadVote}
 use Rattle.count_terms.specs.Counts.{over}
 use Rattle.compute_terms.specs.Consensuses.{consensus}
@@ -13,11 +11,6 @@ use Rattle.exit_status.specs.declared.status.Refusal.TheVariants as refusal
 use Rattle.exit_status.specs.declared.stop.Stop.{Stop}
 use Rattle.exit_status.specs.declared.stop.Stop.TheVariants as stop
 use Rattle.exit_status.specs.declared.vote_refusal.VoteListRefusal.TheVariants as list
-
--- what was read are the votes, or the refusal is their fault
-abbrev pub ReadsVotes : Result (List ReadVote) ReadRefusal → Result (Vec ReadVote) ReadRefusal → Type 0
-ReadsVotes read (Ok votes) = read ≡ Ok votes.items
-ReadsVotes read (Err refusal) = Fails refusal read
 
 -- the consensus of the held votes where they are of more than half of the roster, and else how many there are
 abbrev pub GivesConsensus : ℕ → List ReadVote → Result Consensus Stop → Type 0

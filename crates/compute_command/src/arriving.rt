@@ -13,6 +13,7 @@ use dir_bytes::Memory;
 use exit_status::{DocumentRefusal, Refusal, Stop};
 use key_port::Verifier;
 use std::alloc::Global;
+use std::thread::Threads;
 use vote_doc::Accepted;
 
 /// An input whose bytes arrive, and its votes, which are checked as they end.
@@ -54,8 +55,9 @@ impl Arriving {
     ///
     /// # Errors
     /// `Memory` is want of memory.
-    fn turn<V: Verifier>(
+    fn turn<R: Threads, V: Verifier>(
         self,
+        rt: &R,
         alloc: Global,
         wanted: &Compute,
         piece: &[u8],
@@ -68,7 +70,7 @@ impl Arriving {
             self.votes.first next.0.votes.first) }
     {
         let Arriving { start, rest, votes } = self;
-        match rest.feed(alloc, start, piece)? {
+        match rest.feed(rt, alloc, start, piece)? {
             Turn::On { rest, taken } => Ok((Arriving { start, rest, votes }, taken)),
             Turn::Vote {
                 vote,
@@ -87,8 +89,9 @@ impl Arriving {
     ///
     /// # Errors
     /// `Memory` is want of memory.
-    pub(crate) fn take<V: Verifier>(
+    pub(crate) fn take<R: Threads, V: Verifier>(
         self,
+        rt: &R,
         alloc: Global,
         wanted: &Compute,
         piece: &[u8],
@@ -103,7 +106,7 @@ impl Arriving {
         let mut now = self;
         let mut left = piece;
         'turns: while !left.is_empty() {
-            let (next, taken) = now.turn(alloc, wanted, left, verifier)?;
+            let (next, taken) = now.turn(rt, alloc, wanted, left, verifier)?;
             now = next;
             left = &left[taken..];
         }

@@ -6,7 +6,7 @@ ghost use Rattle.moved_documents.specs.Moving.{moved_fault};
 ghost use Rattle.compute_command.specs.Beyonds.{EndsBeyond, HasTooMany};
 ghost use Rattle.compute_command.specs.Furthers.{IsFurther};
 
-use crate::reading::{NO_LIMIT, item_too_many};
+use crate::most_votes::{NO_LIMIT, item_too_many};
 use dir_bytes::Memory;
 use dirdoc_grammar::{Cursor, Take};
 use frame_terms::{FrameFault, FrameReason};

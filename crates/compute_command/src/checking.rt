@@ -6,13 +6,14 @@ ghost use Rattle.compute_command.specs.Checked.{HasRoom, NoneCame, OneMoreChecke
 ghost use Rattle.compute_command.specs.Votes.{most_votes};
 
 use crate::accepting::refused;
-use crate::reading::MOST_VOTES;
+use crate::most_votes::MOST_VOTES;
 use daemon_words::Compute;
 use dir_bytes::Memory;
 use exit_status::{Refusal, Stop};
+use hashed_feed::HashedVote;
 use key_port::Verifier;
 use std::alloc::Global;
-use vote_doc::{Accepted, Vote, check_vote};
+use vote_doc::{Accepted, check_vote};
 
 /// Votes that were checked in their order as they came.
 #[derive(Drop)]
@@ -50,7 +51,12 @@ impl Checking {
     }
 
     /// Checks one vote more, unless one before it is refused, and holds it. Takes no memory.
-    pub(crate) fn check<V: Verifier>(&mut self, wanted: &Compute, vote: Vote, verifier: &mut V)
+    pub(crate) fn check<V: Verifier>(
+        &mut self,
+        wanted: &Compute,
+        vote: HashedVote,
+        verifier: &mut V,
+    )
         requires few { self.old.count < most_votes }
         requires room { HasRoom self.old.count self.old.kept }
         ensures checked { OneMoreChecked (rules V.may_accept V.may_refuse) wanted.now vote self.old self.new }
@@ -60,9 +66,10 @@ impl Checking {
         if self.first.is_some() {
             return;
         }
+        let (vote, whole) = vote.into_parts();
         match check_vote(vote, &wanted.roster, wanted.valid_after, verifier) {
             Ok(checked) => {
-                let _ = self.kept.place(checked.into_held());
+                let _ = self.kept.place(checked.into_held_with(whole));
             }
             Err(refusal) => self.first = Some(refused(self.count, refusal)),
         }

@@ -1,46 +1,17 @@
-// The command that computes a consensus.
-ghost use Rattle.std.specs.Prelude.{◌≡◌, ◌≤◌, ◌<◌, ◌^◌, Err, IfErr, IfOk, length};
+// The texts of the consensus of the held votes.
+ghost use Rattle.std.specs.Prelude.{◌≡◌, IfOk};
 ghost use Rattle.consensus_calc.specs.Calculating.{HasMoments};
-ghost use Rattle.dir_bytes.specs.Causes.{Rose};
-ghost use Rattle.key_port.specs.Answers.{rules};
-ghost use Rattle.exit_status.specs.Stops.{Answered};
-ghost use Rattle.compute_command.specs.Answers.{ComputeAnswers, IsOfDocuments, texts_of};
+ghost use Rattle.compute_command.specs.Answers.{texts_of};
 ghost use Rattle.compute_command.specs.Private.{GivesConsensus, WritesText};
 
-use crate::accepting::accept;
-use crate::reading::votes_of;
-use bytes::Bytes;
 use consensus_calc::CalcFault;
 use consensus_terms::{Consensus, Flavour};
 use consensus_text::{unsigned, unsigned_both};
-use daemon_words::{Compute, Flavours, Kind};
+use daemon_words::{Compute, Flavours};
 use dir_bytes::Memory;
-use exit_status::{Refusal, Stop, VoteListRefusal, of_kind};
-use key_port::Verifier;
+use exit_status::{Refusal, Stop, VoteListRefusal};
 use std::alloc::Global;
 use vote_doc::Accepted;
-
-/// The unsigned texts of the consensus of the votes that the input is, in the flavours that are wanted, or why there is none.
-///
-/// # Errors
-/// `Refused` by the first that applies: `Document`, the input's first fault, for which the verifier is not asked; `Vote`, the first
-/// vote that is not acceptable, or `Verifier` where its count of faults rose; `TooFew`. `Memory` is want of memory.
-pub fn compute<V: Verifier>(
-    alloc: Global,
-    wanted: &Compute,
-    bytes: &Bytes,
-    verifier: &mut V,
-) -> Result<Vec<u8>, Stop>
-    requires { length bytes.now < 2 ^ 61 }
-    ensures answer { Answered (ComputeAnswers (rules V.may_accept V.may_refuse) wanted.now bytes.now) result }
-    ensures fault { result ≡ Err (Stop.Refused Refusal.Verifier) → Rose (V.faults verifier.old) (V.faults verifier.new) }
-    ensures told { V.faults verifier.old < V.faults verifier.new → result ≡ Err (Stop.Refused Refusal.Verifier) }
-    ensures unasked { IfErr result (λ why. IsOfDocuments why → verifier.new ≡ verifier.old) }
-{
-    let votes = of_kind(Kind::Vote, votes_of(alloc, bytes))?;
-    let accepted = accept(alloc, wanted, votes, verifier)?;
-    text_of(alloc, wanted, &accepted)
-}
 
 /// The texts of the consensus of the held votes in the flavours that are wanted, or why there are none.
 ///

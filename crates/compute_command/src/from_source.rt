@@ -14,12 +14,14 @@ use dir_bytes::{ReadAnswer, Source};
 use exit_status::{Refusal, Stop};
 use key_port::Verifier;
 use std::alloc::Global;
+use std::thread::Threads;
 
 /// The input of a source, read to its end, of which each vote was checked as it ended.
 ///
 /// # Errors
 /// `TooLong` where it has more bytes than `limit`; `ReadFault` where the source failed; `Stops` is want of memory.
-fn read_votes<S: Source, V: Verifier>(
+fn read_votes<R: Threads, S: Source, V: Verifier>(
+    rt: &R,
     alloc: Global,
     wanted: &Compute,
     source: &mut S,
@@ -44,7 +46,7 @@ fn read_votes<S: Source, V: Verifier>(
                     return Err(Halt::TooLong);
                 }
                 room -= count as u64;
-                arriving = arriving.take(alloc, wanted, &piece[..count], verifier)?;
+                arriving = arriving.take(rt, alloc, wanted, &piece[..count], verifier)?;
             }
             ReadAnswer::End => return Ok(arriving),
             ReadAnswer::Failed => return Err(Halt::ReadFault),
@@ -52,14 +54,17 @@ fn read_votes<S: Source, V: Verifier>(
     }
 }
 
-/// What `compute` gives of the bytes that a source has, of which there may be up to `limit`. Each vote is checked as it
-/// ends, before the source is asked again; none is behind one that is refused, or behind a fault. One vote is kept for
-/// each authority, and the bytes behind the last vote that was read.
+/// The unsigned texts of the consensus of the votes that a source has, in the flavours that are wanted, or why there is
+/// none. There may be up to `limit` bytes. Each vote is hashed while it is read, and checked as it ends, before the source
+/// is asked again; none is checked behind one that is refused, or behind a fault. One vote is kept for each authority, and
+/// the bytes behind the last vote that was read.
 ///
 /// # Errors
-/// By the first that applies: `ReadFault`, where the source failed; `TooLong`; and `Stops` with what `compute` stops
-/// for.
-pub fn compute_from<S: Source, V: Verifier>(
+/// By the first that applies: `ReadFault`, where the source failed; `TooLong`; and `Stops`: `Document`, the input's first
+/// fault; `Vote`, the first vote that is not acceptable, or `Verifier` where its count of faults rose; `TooFew`. `Memory`
+/// is want of memory.
+pub fn compute_from<R: Threads, S: Source, V: Verifier>(
+    rt: &R,
     alloc: Global,
     wanted: &Compute,
     source: &mut S,
@@ -77,7 +82,7 @@ pub fn compute_from<S: Source, V: Verifier>(
     ensures verifier_fault { result ≡ Err (Halt.Stops (Stop.Refused Refusal.Verifier)) → Rose (V.faults verifier.old) (V.faults verifier.new) }
     ensures verifier_told { V.faults verifier.old < V.faults verifier.new → TellsVerifier result }
 {
-    let arriving = read_votes(alloc, wanted, source, limit, verifier)?;
+    let arriving = read_votes(rt, alloc, wanted, source, limit, verifier)?;
     let accepted = arriving.end(alloc)?;
     let text = text_of(alloc, wanted, &accepted)?;
     Ok(text)

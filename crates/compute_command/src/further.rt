@@ -1,8 +1,6 @@
 // The fault of a vote that stands behind other bytes.
 ghost use Rattle.std.specs.Prelude.{◌≡◌, ◌+◌, ◌<◌, ◌^◌, IfOk, length};
-ghost use Rattle.dirdoc_grammar.specs.Seen.{seen, seen_object, IsInside, LiesInOrder};
 ghost use Rattle.frame_reader.specs.Giving.{Tells};
-ghost use Rattle.item_feeder.specs.Moving.{moved_item, moved_object};
 ghost use Rattle.moved_votes.specs.Moved.{further};
 ghost use Rattle.vote_doc.specs.Reading.{vote_of};
 ghost use Rattle.vote_feed.specs.Feeding.{end_of};
@@ -10,10 +8,11 @@ ghost use Rattle.compute_command.specs.Furthers.{IsFurther};
 ghost use Rattle.compute_command.specs.Rests.{HasNoVote, IsFaultOf};
 
 use dir_bytes::Memory;
-use dirdoc_grammar::{Cursor, Item, ObjectText, Take};
+use dirdoc_grammar::{Cursor, Take};
 use frame_reader::{Facts, Reader};
 use frame_terms::{FrameFault, FrameReason, ReadRefusal, Taken};
 use frame_values::Value;
+use item_feeder::item_at;
 use std::alloc::{AllocError, Global};
 use vote_doc::VoteFrame;
 use vote_frame::{VoteSection, VoteValue};
@@ -30,38 +29,6 @@ impl Facts<VoteFrame> for Nothing {
 
     fn close(&mut self, _: VoteSection, _: &[Taken<Value<VoteValue>>]) -> Result<(), AllocError> {
         Ok(())
-    }
-}
-
-/// An object so many places later.
-fn object_at(start: u64, object: ObjectText<'_>) -> ObjectText<'_>
-    requires { start + object.start < 2 ^ 62 }
-    ensures { seen_object result ≡ moved_object start (seen_object object.entry) }
-{
-    ObjectText {
-        words: object.words,
-        start: start + object.start,
-        lines: object.lines,
-    }
-}
-
-/// An item so many places later.
-fn item_at(start: u64, item: Item<'_>) -> Item<'_>
-    requires order { LiesInOrder (seen item) }
-    requires fits { start + item.after < 2 ^ 62 }
-    ensures { seen result ≡ moved_item start (seen item.entry) }
-{
-    let object = match item.object {
-        Some(object) => Some(object_at(start, object)),
-        None => None,
-    };
-    Item {
-        start: start + item.start,
-        line_end: start + item.line_end,
-        object,
-        place: start + item.place,
-        after: start + item.after,
-        ..item
     }
 }
 

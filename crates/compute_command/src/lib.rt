@@ -9,11 +9,10 @@ mod consensus;
 mod from_source;
 mod further;
 mod halt;
-mod reading;
+mod most_votes;
 mod rest;
 mod tail;
 
 pub use accepting::accept;
-pub use consensus::compute;
 pub use from_source::compute_from;
 pub use halt::Halt;

@@ -11,15 +11,16 @@ use crate::further::fault_behind;
 use crate::tail::{Tail, tail_after};
 use dir_bytes::Memory;
 use frame_terms::{FrameFault, ReadRefusal};
+use hashed_feed::{HashedFeeder, HashedVote};
 use std::alloc::Global;
-use vote_doc::Vote;
-use vote_feed::{Fed, VoteFeeder};
+use std::thread::Threads;
+use vote_feed::Fed;
 
 /// What is known of the bytes behind the votes that were read, as one vote more.
 #[derive(Drop)]
 pub(crate) enum Stage {
     /// They may begin one, and nothing is known of it.
-    Reading(VoteFeeder),
+    Reading(HashedFeeder),
     /// They may begin none, since there are as many votes as there may be.
     Full(Beyond),
     /// They have this fault, if they are no blank lines alone, whatever follows. Its place counts from the input's
@@ -47,7 +48,7 @@ pub(crate) enum Turn {
     },
     /// A vote ended.
     Vote {
-        vote: Vote,
+        vote: HashedVote,
         /// So many bytes it has, with the blank lines before it.
         length: usize,
         /// So many of the bytes were taken.
@@ -59,7 +60,7 @@ pub(crate) enum Turn {
 ///
 /// # Errors
 /// `Memory` is want of memory.
-fn whole_vote(feeder: VoteFeeder) -> Result<(Vote, usize), Memory>
+fn whole_vote(feeder: HashedFeeder) -> Result<(HashedVote, usize), Memory>
     requires { IsWhole feeder }
     ensures { IfOk result (λ read. IsVoteOf feeder read) }
 {
@@ -74,7 +75,7 @@ fn whole_vote(feeder: VoteFeeder) -> Result<(Vote, usize), Memory>
 ///
 /// # Errors
 /// `Memory` is want of memory.
-fn vote_fault(alloc: Global, start: u64, feeder: VoteFeeder) -> Result<FrameFault, Memory>
+fn vote_fault(alloc: Global, start: u64, feeder: HashedFeeder) -> Result<FrameFault, Memory>
     requires none { HasNoVote feeder }
     requires short { start + length feeder < 2 ^ 61 }
     ensures { IfOk result (λ fault. IsFurther start (λ own. IsFaultOf feeder own) fault) }
@@ -98,11 +99,12 @@ fn on(tail: Tail, stage: Stage, piece: &[u8]) -> Turn
 ///
 /// # Errors
 /// `Memory` is want of memory.
-fn read_on(
+fn read_on<R: Threads>(
+    rt: &R,
     alloc: Global,
     start: u64,
     tail: Tail,
-    feeder: VoteFeeder,
+    feeder: HashedFeeder,
     piece: &[u8],
 ) -> Result<Turn, Memory>
     requires open_ { IsOpen feeder }
@@ -111,7 +113,7 @@ fn read_on(
         → IfOk result (λ turn. Turns start room feeder piece.now turn) }
 {
     let mut feeder = feeder;
-    match feeder.feed(piece)? {
+    match feeder.feed(rt, piece)? {
         Fed::All => Ok(on(tail, Stage::Reading(feeder), piece)),
         Fed::Whole { taken } => {
             let (vote, length) = whole_vote(feeder)?;
@@ -157,7 +159,7 @@ impl Rest {
             let stage = Stage::Full(Beyond::new(alloc));
             return Ok(Rest { tail, stage });
         }
-        let stage = Stage::Reading(VoteFeeder::new(alloc)?);
+        let stage = Stage::Reading(HashedFeeder::new(alloc)?);
         Ok(Rest { tail, stage })
     }
 
@@ -165,7 +167,13 @@ impl Rest {
     ///
     /// # Errors
     /// `Memory` is want of memory.
-    pub(crate) fn feed(self, alloc: Global, start: u64, piece: &[u8]) -> Result<Turn, Memory>
+    pub(crate) fn feed<R: Threads>(
+        self,
+        rt: &R,
+        alloc: Global,
+        start: u64,
+        piece: &[u8],
+    ) -> Result<Turn, Memory>
         requires { HasRest start self (length piece.now) }
         ensures { (room : ℕ) (bytes : List ℕ) → IsRest start room bytes self
             → start + length bytes + length piece.now < 2 ^ 61
@@ -173,7 +181,7 @@ impl Rest {
     {
         let Rest { tail, stage } = self;
         match stage {
-            Stage::Reading(feeder) => read_on(alloc, start, tail, feeder, piece),
+            Stage::Reading(feeder) => read_on(rt, alloc, start, tail, feeder, piece),
             Stage::Full(beyond) => look_on(start, tail, beyond, piece),
             Stage::Faulted(fault) => Ok(on(tail, Stage::Faulted(fault), piece)),
         }

@@ -3,7 +3,7 @@ use Rattle.std.proofs.Common.{rules as found, take}
 use Rattle.key_port.specs.Answers.{rules}
 use Rattle.dir_bytes.specs.Streams.{TakesAtMost}
 use Rattle.dir_bytes.proofs.Appending.{consumes_more}
-use Rattle.compute_command.proofs.Sources.{none_taken, takes_most, tells_none, too_long}
+use Rattle.compute_command.proofs.Sources.{keeps_most, none_taken, takes_most, tells_none, too_long}
 use Rattle.compute_command.proofs.from_source.read_votes.Goals as goal
 
 pub pieces-init : goal.pieces-init
@@ -49,6 +49,13 @@ returns-in_err-arriving-in-Got-clause-refused g c =
     (takes_most (left c.args.source.now) (left c.pieces.source) (left c.read.new.self) l.bytes piece
     (c.args.limit + 65536) l.taken c.in-Got.ensures.bytes
     (omega (arith, length-take c.in-Got.count c.read.new.out, l.length)))
+
+pub returns-in-Failed-clause-refused : goal.returns-in-Failed-clause-refused
+returns-in-Failed-clause-refused g c =
+    let left = g.S.Source.left in
+    let l = c.pieces.invariant in
+    keeps_most (left c.args.source.now) (left c.pieces.source) (left c.read.new.self) l.bytes (c.args.limit + 65536)
+    l.taken c.in-Failed.ensures.bytes (omega (arith, l.length))
 
 pub pieces-preserved : goal.pieces-preserved
 pieces-preserved g c =
