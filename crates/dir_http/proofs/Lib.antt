@@ -5,3 +5,4 @@ mod Lines
 mod Reading
 mod WholeAnswers
 mod Writing
+pub mod WholeRequests

@@ -1,6 +1,6 @@
 -- What reading a request answers, over a source that tells what it has left.
 use Rattle.std.specs.Prelude.{◌≡◌, ℕ, ◌+◌, ◌-◌, ◌≤◌, ◌<◌, List, [], ◌++◌, length, take, drop, Option, Some, None}
-use Rattle.std.specs.Prelude.{Result, Ok, Err, vec_len}
+use Rattle.std.specs.Prelude.{Result, Ok, Err}
 use Rattle.std.specs.Global.{Vec}
 use Rattle.std.specs.Option.{option_map}
 use Rattle.std.specs.Io.KnownBytes.{Consumes, Keeps, IsAtEnd}
@@ -8,6 +8,7 @@ use Rattle.httparse.specs.Grammar.{RequestHead}
 use Rattle.dir_http.specs.declared.fault.HttpFault.{HttpFault}
 use Rattle.dir_http.specs.declared.fault.HttpFault.TheVariants as fault
 use Rattle.dir_http.specs.declared.head.Head.{Head}
+use Rattle.dir_http.specs.declared.length.Method2.{Method2}
 use Rattle.dir_http.specs.declared.request.Request.{Request}
 use Rattle.dir_http.specs.Heads.{IsHeadAt, length_after, method_of, head_limit}
 
@@ -104,10 +105,15 @@ GivesBody head given now before after (Err fault.NoLength) out = ⊥
 GivesBody head given now before after (Err (fault.TooLarge limit)) out = ⊥
 GivesBody head given now before after (Err fault.Memory) out = ⊥
 
+-- the bytes of a body that was read, or why it was not
+abbrev pub bytes_of : Result (Vec ℕ) HttpFault → Result (List ℕ) HttpFault
+bytes_of (Ok body) = Ok body.items
+bytes_of (Err e) = Err e
+
 -- what a body of so many announced bytes is read as, where the source tells which of them come
-abbrev pub ReadsBody : ℕ → Option (List ℕ) → Result (Vec ℕ) HttpFault → Type 0
+abbrev pub ReadsBody : ℕ → Option (List ℕ) → Result (List ℕ) HttpFault → Type 0
 ReadsBody count None result = Unit {0}
-ReadsBody count (Some bytes) (Ok body) = (body.items ≡ bytes) × (length bytes ≡ count)
+ReadsBody count (Some bytes) (Ok body) = (body ≡ bytes) × (length bytes ≡ count)
 ReadsBody count (Some bytes) (Err (fault.Truncated have want)) = (have ≡ length bytes) × (want ≡ count) × (have < want)
 ReadsBody count (Some bytes) (Err fault.ReadFault) = Unit {0}
 ReadsBody count (Some bytes) (Err fault.Memory) = Unit {0}
@@ -115,16 +121,32 @@ ReadsBody count (Some bytes) (Err fault.BadHead) = ⊥
 ReadsBody count (Some bytes) (Err fault.NoLength) = ⊥
 ReadsBody count (Some bytes) (Err (fault.TooLarge limit)) = ⊥
 
+-- a request that was read
+pub record ReadRequest : Type 0 where
+  pub method : Method2
+  pub path : List ℕ
+  pub body : List ℕ
+
+-- the request that was read, or why it was not
+abbrev pub request_of : Result Request HttpFault → Result ReadRequest HttpFault
+request_of (Ok read) = Ok (record { method = read.method; path = read.path; body = read.body.items })
+request_of (Err e) = Err e
+
+-- the request that a head and a body are, or why the body was not read
+abbrev pub request_with : Head → Result (List ℕ) HttpFault → Result ReadRequest HttpFault
+request_with head (Ok body) = Ok (record { method = head.method; path = head.path; body = body })
+request_with head (Err e) = Err e
+
 -- the request is this head and so much of the rest as the head announces
-pub record IsRequestAs (bytes : List ℕ) (read : Request) (head : RequestHead) (rest : List ℕ) : Type 0 where
+pub record IsRequestAs (bytes : List ℕ) (read : ReadRequest) (head : RequestHead) (rest : List ℕ) : Type 0 where
   pub at : IsHeadAt bytes head rest
   pub method : read.method ≡ method_of head.method
   pub path : read.path ≡ head.target
-  pub length : length_after head ≡ Ok (vec_len read.body)
-  pub body : read.body.items ≡ take (vec_len read.body) rest
+  pub announced : length_after head ≡ Ok (length read.body)
+  pub body : read.body ≡ take (length read.body) rest
 
--- what `read_request` answers over these bytes
-abbrev pub TellsRequest : List ℕ → Result Request HttpFault → Type 0
+-- what reading a request answers over these bytes
+abbrev pub TellsRequest : List ℕ → Result ReadRequest HttpFault → Type 0
 TellsRequest bytes (Ok read) = (head : RequestHead) × (rest : List ℕ) × IsRequestAs bytes read head rest
 TellsRequest bytes (Err fault.BadHead) = HasNoGoodHead bytes
 TellsRequest bytes (Err fault.NoLength) = HasRefusedHead bytes fault.NoLength
@@ -136,7 +158,7 @@ TellsRequest bytes (Err fault.ReadFault) = Unit {0}
 TellsRequest bytes (Err fault.Memory) = Unit {0}
 
 -- the same, where the source tells
-abbrev pub ReadsWhole : Option (List ℕ) → Result Request HttpFault → Type 0
+abbrev pub ReadsWhole : Option (List ℕ) → Result ReadRequest HttpFault → Type 0
 ReadsWhole None result = Unit {0}
 ReadsWhole (Some bytes) result = TellsRequest bytes result
 

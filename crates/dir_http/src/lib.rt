@@ -30,5 +30,5 @@ pub use length::{Announcement, Method2, path_limit};
 pub use link::{Link, LinkAnswer};
 pub use memory_gate::MemoryGate;
 pub use memory_link::{Exchange, MemoryLink};
-pub use request::{Request, read_request};
+pub use request::{Request, read_request, read_rest};
 pub use response::{Response, WriteRefusal, write_response};
