@@ -1,0 +1,3 @@
+mod Arrivals
+mod BlankLines
+mod Bodies

@@ -1,0 +1,3 @@
+pub mod Uploads
+pub mod Bodies
+pub mod Reading

@@ -1,0 +1,7 @@
+//! An uploaded vote, read while its body arrives (dir-spec, "General-use HTTP URLs").
+#![tactic(auto)]
+
+mod reading;
+mod vote_body;
+
+pub use reading::{read_vote, vote_of};
