@@ -14,7 +14,7 @@ use Rattle.board_laws.proofs.Going.{goes_same, goes_makes, goes_stores}
 use Rattle.serve_answers.specs.Answers.{TakesVote, TakesDescriptor, TakesRuled}
 
 -- a pass that is as it was has gone on
-goes_still : (before then : Parts) → then ≡ before → Goes before then
+pub goes_still : (before then : Parts) → then ≡ before → Goes before then
 goes_still before then is = subst (Goes before) (sym is) (goes_same before)
 
 module _ (rules : Rules) (board : Locks) (before then : Parts) (faults faults_then : ℕ) (body : List ℕ)

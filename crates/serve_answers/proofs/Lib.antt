@@ -1,6 +1,8 @@
 pub mod Askings
+pub mod Caused
 pub mod Placing
 pub mod GoneOn
+pub mod HeadFirst
 pub mod HeldSigns
 pub mod LineCounts
 pub mod Signed

@@ -1,21 +1,19 @@
 // One connection: its request is read, what it asks for is done, and the response is written.
-ghost use Rattle.std.specs.Prelude.{◌≡◌, ◌≢◌, ◌≤◌, IfOk};
+ghost use Rattle.std.specs.Prelude.{◌≡◌, ◌≢◌, ◌≤◌};
 ghost use Rattle.dir_bytes.specs.Causes.{Rose};
 ghost use Rattle.key_port.specs.Answers.{rules};
 ghost use Rattle.flag_rules.specs.Rules.{KeepsTo};
-ghost use Rattle.http_words.specs.Paths.{asked_by as asked_of};
 ghost use Rattle.board_terms.specs.Boards.{IsAt};
 ghost use Rattle.board_laws.specs.Going.{Goes};
-ghost use Rattle.serve_answers.specs.Handling.{Does, IsCausedOutcome};
+ghost use Rattle.serve_answers.specs.Handling.{Does};
 ghost use Rattle.serve_answers.specs.Connections.{Serves, Tells, TriesShortage};
 
-use crate::handling::handle;
+use crate::answering::{Handled, answer};
 use crate::outcome::Outcome;
-use bytes::Bytes;
-use dir_bytes::{Clock, Memory, Sink, Source};
-use dir_http::{Request, Response, WriteRefusal, read_request, write_response};
+use dir_bytes::{Clock, Sink, Source};
+use dir_http::{Response, WriteRefusal, write_response};
 use flag_rules::{Hook, RelayFacts, Rules, Ruling};
-use http_words::{asked_by, reply_to};
+use http_words::reply_to;
 use key_port::Verifier;
 use serve_board::{Board, Pass};
 use std::alloc::Global;
@@ -36,9 +34,6 @@ pub enum ConnStatus {
 
 /// The code of the response that tells of want of memory.
 const SHORTAGE: u16 = 500;
-
-/// A request has fewer bytes of body.
-const BODY_LIMIT: usize = 2305843009213693952;
 
 /// Tries to tell that there was no memory.
 fn tell_shortage<K: Sink>(alloc: Global, sink: &mut K) -> ConnStatus
@@ -72,51 +67,6 @@ fn tell<K: Sink>(alloc: Global, sink: &mut K, outcome: Outcome) -> ConnStatus
         Err(WriteRefusal::WriteFault { sent }) => ConnStatus::WriteFault { sent },
         Err(WriteRefusal::Memory) => tell_shortage(alloc, sink),
     }
-}
-
-/// Does what a request asks for. A body of 2^61 bytes and more, which no request has, is told as want of memory.
-///
-/// # Errors
-/// `Memory` is want of memory.
-fn answer<R: Wait, W: Rules, F: Fn(RelayFacts) -> Ruling, C: Clock, V: Verifier>(
-    rt: &R,
-    alloc: Global,
-    board: &Board<V>,
-    hook: &Hook<W, F>,
-    pass: &mut Pass<V>,
-    clock: &mut C,
-    verifier: &mut V,
-    request: Request,
-) -> Result<Outcome, Memory>
-    requires at { IsAt board.now pass.old }
-    requires hook { KeepsTo W.allows F.pre F.post hook.now.rules hook.now.ask }
-    ensures does { IfOk result
-        (Does (rules V.may_accept V.may_refuse) V.steps board.now pass.old pass.new
-        (record {
-          asks = C.asks clock.old;
-          asks_then = C.asks clock.new;
-          last = C.last clock.new;
-          faults = V.faults verifier.old;
-          faults_then = V.faults verifier.new;
-        })
-        verifier.old verifier.new (W.allows hook.now.rules)
-        (asked_of request.method request.path) request.path request.body.items) }
-    ensures caused { IfOk result (IsCausedOutcome (V.faults verifier.old) (V.faults verifier.new)) }
-    ensures at { IsAt board.now pass.new }
-    ensures goes { Goes pass.old pass.new }
-    ensures faults { V.faults verifier.old ≤ V.faults verifier.new }
-    ensures asks { C.asks clock.old ≤ C.asks clock.new }
-{
-    let Request { method, path, body } = request;
-    if body.len() >= BODY_LIMIT {
-        return Err(Memory);
-    }
-    let body = Bytes::from_vec(body)?;
-    let path = path.as_bytes();
-    let asked = asked_by(method, path);
-    handle(
-        rt, alloc, board, hook, pass, clock, verifier, asked, path, &body,
-    )
 }
 
 /// Serves one connection: reads its request, does what it asks for, and writes the response.
@@ -162,16 +112,12 @@ pub fn serve_connection<
     ensures source { S.faults conn.old ≤ S.faults conn.new }
     ensures sink { K.faults out.old ≤ K.faults out.new }
 {
-    match read_request(alloc, conn) {
-        Ok(request) => {
-            match answer(rt, alloc, board, hook, pass, clock, verifier, request) {
-                Ok(outcome) => tell(alloc, out, outcome),
-                Err(_) => tell_shortage(alloc, out),
-            }
-        }
-        Err(fault) => match reply_to(fault) {
+    match answer(rt, alloc, board, hook, pass, conn, clock, verifier) {
+        Handled::Done(outcome) => tell(alloc, out, outcome),
+        Handled::Unread(fault) => match reply_to(fault) {
             Some(reply) => tell(alloc, out, Outcome::Replied(reply)),
             None => ConnStatus::ReadFault,
         },
+        Handled::Memory => tell_shortage(alloc, out),
     }
 }

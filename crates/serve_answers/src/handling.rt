@@ -19,6 +19,7 @@ use key_port::Verifier;
 use serve_board::{Board, Pass};
 use std::alloc::Global;
 use std::sync::Wait;
+use vote_upload::vote_of;
 
 /// The document that is asked for by a path, or that there is none.
 ///
@@ -79,9 +80,10 @@ pub fn handle<R: Wait, W: Rules, F: Fn(RelayFacts) -> Ruling, C: Clock, V: Verif
     ensures asks { C.asks clock.old ≤ C.asks clock.new }
 {
     match asked {
-        Asked::PostVote => Ok(Outcome::Replied(take_vote(
-            rt, alloc, board, pass, clock, verifier, body,
-        )?)),
+        Asked::PostVote => {
+            let found = vote_of(alloc, body)?;
+            Ok(Outcome::Replied(take_vote(rt, board, pass, clock, verifier, found)))
+        }
         Asked::PostDescriptor => Ok(Outcome::Replied(take_descriptor(
             rt, alloc, board, hook, pass, verifier, body,
         )?)),

@@ -1,6 +1,7 @@
 //! What comes of one request to an authority: what it asks for is done at the board, and answered.
 #![tactic(auto)]
 
+mod answering;
 mod bodies;
 mod connection;
 mod descriptors;

@@ -10,20 +10,20 @@ returns-in-Some-clause-serves g c =
     let rules : Rules = rules g.V.Verifier.may_accept g.V.Verifier.may_refuse in
     let counted : Counted = record {
       asks = g.C.Clock.asks c.args.clock.now;
-      asks_then = g.C.Clock.asks c.args.clock.now;
-      last = g.C.Clock.last c.args.clock.now;
+      asks_then = g.C.Clock.asks c.answer.new.clock;
+      last = g.C.Clock.last c.answer.new.clock;
       faults = g.V.Verifier.faults c.args.verifier.now;
-      faults_then = g.V.Verifier.faults c.args.verifier.now;
+      faults_then = g.V.Verifier.faults c.answer.new.verifier;
     } in
-    let pass = c.args.pass.now in
     served (g.K.Sink.written c.args.out.now) (g.K.Sink.written c.tell-in-Some.new.sink) (g.K.Sink.faults c.args.out.now)
     (g.K.Sink.faults c.tell-in-Some.new.sink) (Replied c.in-Some.reply)
-    (Does rules g.V.Verifier.steps c.args.board.now pass pass counted c.args.verifier.now c.args.verifier.now
-    (g.W.Rules.allows c.args.hook.now.rules)) pass pass (g.S.Source.left c.args.conn.now)
-    (g.S.Source.faults c.args.conn.now) (g.S.Source.faults c.read_request.new.source) c.tell-in-Some.result
+    (Does rules g.V.Verifier.steps c.args.board.now c.args.pass.now c.answer.new.pass counted c.args.verifier.now
+    c.answer.new.verifier (g.W.Rules.allows c.args.hook.now.rules)) c.args.pass.now c.answer.new.pass
+    (g.S.Source.left c.args.conn.now) (g.S.Source.faults c.args.conn.now) (g.S.Source.faults c.answer.new.conn)
+    c.tell-in-Some.result
     (record {
-      read = Err c.in-Err.fault;
-      reads = c.in-Err.ensures.answer;
-      does = (c.in-Some.reply, refl, sym c.reply_to.ensures ∙ c.in-Some.is, refl);
+      read = Err c.in-Unread.fault;
+      reads = c.in-Unread.ensures.handles.0;
+      does = (c.in-Some.reply, refl, sym c.reply_to.ensures ∙ c.in-Some.is, c.in-Unread.ensures.handles.1);
     })
     c.tell-in-Some.ensures.tells
