@@ -1,5 +1,5 @@
 -- What an authority starts with, call by call.
-use Rattle.std.proofs.Common.{◌≡◌, ℕ, List, length, Some, None, Ok, refl, subst, ◌∙◌, arith}
+use Rattle.std.proofs.Common.{◌≡◌, ℕ, List, length, Some, None, Ok, refl, sym, subst, ◌∙◌, arith}
 use Rattle.std.specs.Prelude.{◌≢◌, All}
 use Rattle.key_port.specs.Answers.{Rules}
 use Rattle.authority_certs.specs.Checks.{IsCertified}
@@ -13,8 +13,8 @@ use Rattle.period_terms.specs.declared.state.State.{State}
 use Rattle.period_terms.proofs.NextPeriods.{answers_one, next_is_next}
 use Rattle.board_terms.specs.Boards.{IsAt, IsNew, Locks, Parts}
 use Rattle.station_commands.specs.Voting.{GivesPeriod, HasPool}
-use Rattle.serve_command.specs.Private.{CanBeginBy, IsReadIn, IsReady}
-use Rattle.serve_command.specs.Starting.{IsStartOf}
+use Rattle.serve_command.specs.Private.{CanBeginBy, IsOpened, IsReadIn, IsReady}
+use Rattle.serve_command.specs.Starting.{CanBegin, IsStartOf}
 
 -- the next period can begin
 pub period_ahead : (rules : Rules) (now : ℕ) (given : StationFacts) (used : ℕ) (bytes : List ℕ) (schedule : Schedule)
@@ -55,19 +55,34 @@ can_begin rules now given used bytes schedule pool valid_after has same times ne
       times = times;
     }
 
--- board and passes are ready
-pub is_ready : (rules : Rules) (from : Measures) (now : ℕ) (bytes : List ℕ) (count : ℕ) (given : StationFacts)
-    (used : ℕ) (schedule : Schedule) (start : State) (pool : Pooled) (board : Locks) (passes : List Parts)
-    → IsReadIn from now bytes given used → CanBeginBy rules now given used bytes schedule pool
-    → IsStartOf given now start → (board.station.start ≡ start) × (board.pool.start ≡ pool)
+-- a board of what an authority begins with
+pub is_opened : (rules : Rules) (now : ℕ) (bytes : List ℕ) (count : ℕ) (given : StationFacts) (used : ℕ)
+    (schedule : Schedule) (start : State) (pool : Pooled) (board : Locks) (passes : List Parts)
+    → CanBeginBy rules now given used bytes schedule pool → IsStartOf given now start
+    → (board.station.start ≡ start) × (board.pool.start ≡ pool)
     → (board.station.passes ≡ count) × (board.pool.passes ≡ count) × (length passes ≡ count)
-    → All (IsNew board) passes → All (IsAt board) passes → IsReady rules from now bytes count board passes
-is_ready rules from now bytes count given used schedule start pool board passes reads can starts begun counts new at =
+    → All (IsNew board) passes → All (IsAt board) passes → IsOpened rules now given used bytes count board passes
+is_opened rules now bytes count given used schedule start pool board passes can starts begun counts new at =
     record {
-      its = record { given = given; start = start; pool = pool };
-      starts = record { used = used; stands = reads.stands; begins = can.can; start_is = starts };
-      is_board = record { station = begun.0; pool = begun.1; new = new; length_is = counts.2 };
+      begins = subst (λ (p : Pooled). CanBegin rules now given used bytes p) (sym begun.1) can.can;
+      start_is = subst (λ (s : State). IsStartOf given now s) (sym begun.0) starts;
+      new = new;
+      length_is = counts.2;
       at = at;
       stations = omega (arith, counts.0, counts.2);
       pools = omega (arith, counts.1, counts.2);
+    }
+
+-- board and passes are ready
+pub is_ready : (rules : Rules) (from : Measures) (now : ℕ) (bytes : List ℕ) (count : ℕ) (given : StationFacts)
+    (used : ℕ) (board : Locks) (passes : List Parts) → IsReadIn from now bytes given used
+    → IsOpened rules now given used bytes count board passes → IsReady rules from now bytes count board passes
+is_ready rules from now bytes count given used board passes reads opened =
+    record {
+      its = record { given = given; start = board.station.start; pool = board.pool.start };
+      starts = record { used = used; stands = reads.stands; begins = opened.begins; start_is = opened.start_is };
+      is_board = record { station = refl; pool = refl; new = opened.new; length_is = opened.length_is };
+      at = opened.at;
+      stations = opened.stations;
+      pools = opened.pools;
     }

@@ -10,9 +10,9 @@ use Rattle.station_input.specs.declared.facts.StationFacts.{StationFacts}
 use Rattle.vote_pool.specs.Pools.{Pooled}
 use Rattle.vote_schedule.specs.Schedules.{IsSchedule, Schedule}
 use Rattle.vote_maker.specs.Made.{schedule_in}
-use Rattle.board_terms.specs.Boards.{IsAt, Locks, Parts}
+use Rattle.board_terms.specs.Boards.{IsAt, IsNew, Locks, Parts}
 use Rattle.serve_command.specs.Serving.{IsBoardOf}
-use Rattle.serve_command.specs.Starting.{CanBegin, StandsIn, Starting, StartsAs}
+use Rattle.serve_command.specs.Starting.{CanBegin, IsStartOf, StandsIn, Starting, StartsAs}
 
 -- a call stopped for a reason of this kind, or there was no memory
 abbrev pub StopsFor : (Refusal → Type 0) → Stop → Type 0
@@ -31,6 +31,18 @@ pub record CanBeginBy (rules : Rules) (now : ℕ) (given : StationFacts) (used :
   pub can : CanBegin rules now given used bytes pool
   pub schedule_is : schedule ≡ schedule_in given
   pub times : IsSchedule schedule
+
+-- Board and passes are of an authority that can begin by what its station is given, and all passes of the board are
+-- there.
+pub record IsOpened (rules : Rules) (now : ℕ) (given : StationFacts) (used : ℕ) (bytes : List ℕ) (count : ℕ)
+    (board : Locks) (passes : List Parts) : Type 0 where
+  pub begins : CanBegin rules now given used bytes board.pool.start
+  pub start_is : IsStartOf given now board.station.start
+  pub new : All (IsNew board) passes
+  pub length_is : length passes ≡ count
+  pub at : All (IsAt board) passes
+  pub stations : board.station.passes ≤ length passes
+  pub pools : board.pool.passes ≤ length passes
 
 -- Board and passes are of an authority that starts as the input has it, and all passes of the board are there.
 pub record IsReady (rules : Rules) (from : Measures) (now : ℕ) (bytes : List ℕ) (count : ℕ) (board : Locks)

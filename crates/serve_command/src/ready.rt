@@ -1,9 +1,10 @@
 // An authority that is ready to serve.
-ghost use Rattle.std.specs.Prelude.{◌≡◌, ◌<◌, ◌^◌, Err, IfErr, IfOk, length};
+ghost use Rattle.std.specs.Prelude.{◌≡◌, ◌≤◌, ◌<◌, ◌^◌, Err, IfErr, IfOk, length};
 ghost use Rattle.dir_bytes.specs.Causes.{Rose};
 ghost use Rattle.key_port.specs.Answers.{rules};
-ghost use Rattle.serve_command.specs.Private.{IsReady, StopsFor};
-ghost use Rattle.serve_command.specs.Starting.{RefusesToServe};
+ghost use Rattle.flag_rules.specs.Rules.{AreApart};
+ghost use Rattle.serve_command.specs.Private.{IsOpened, IsReady, StopsFor};
+ghost use Rattle.serve_command.specs.Starting.{RefusesStation, RefusesToServe};
 
 use crate::beginning::beginning_of;
 use crate::starting::start;
@@ -25,10 +26,43 @@ pub(crate) struct Ready<V: Verifier> {
     pub(crate) passes: Vec<Pass<V>>,
 }
 
+/// The rules of a station's operator, and a board of its authority with so many passes, as it starts at the moment `now`
+/// with the descriptors that stand in the input from a place on.
+///
+/// # Errors
+/// Those of `beginning_of`.
+fn open_board<V: Verifier>(
+    alloc: Global,
+    bytes: &Bytes,
+    station: &StationFacts,
+    used: usize,
+    now: u64,
+    workers: u32,
+    verifier: &mut V,
+) -> Result<(OperatorList, Board<V>, Vec<Pass<V>>), Stop>
+    requires short { length bytes.now < 2 ^ 61 }
+    requires within { used ≤ length bytes.now }
+    requires apart { AreApart station.now.rules }
+    requires some { 0 < workers }
+    ensures opened { IfOk result (λ opened. IsOpened (rules V.may_accept V.may_refuse) now station.now used bytes.now
+        workers opened.1 opened.2.items) }
+    ensures stops { IfErr result (λ why.
+        StopsFor (RefusesStation (rules V.may_accept V.may_refuse) now station.now used bytes.now) why) }
+    ensures fault { result ≡ Err (Stop.Refused Refusal.Verifier)
+        → Rose (V.faults verifier.old) (V.faults verifier.new) }
+    ensures told { V.faults verifier.old < V.faults verifier.new → result ≡ Err (Stop.Refused Refusal.Verifier) }
+{
+    let operator = OperatorList::new(station.rules.as_slice().to_vec(alloc)?);
+    let (schedule, pool) = beginning_of(alloc, bytes, station, used, now, verifier)?;
+    let started = start(alloc, station, schedule, now)?;
+    let (board, passes) = Board::new(alloc, started, pool, workers)?;
+    Ok((operator, board, passes))
+}
+
 /// What so many workers serve with, as an input has it at the moment `now`.
 ///
 /// # Errors
-/// `Refused` by the first that applies: those of `station_in`, and then those of `beginning_of`. `Memory` is want of
+/// `Refused` by the first that applies: those of `station_in`, and then those of `open_board`. `Memory` is want of
 /// memory.
 pub(crate) fn prepare<V: Verifier>(
     alloc: Global,
@@ -49,10 +83,9 @@ pub(crate) fn prepare<V: Verifier>(
     ensures told { V.faults verifier.old < V.faults verifier.new → result ≡ Err (Stop.Refused Refusal.Verifier) }
 {
     let (station, used) = station_in(alloc, measures, now, bytes)?;
-    let operator = OperatorList::new(station.rules.as_slice().to_vec(alloc)?);
-    let (schedule, pool) = beginning_of(alloc, bytes, &station, used, now, verifier)?;
-    let started = start(alloc, &station, schedule, now)?;
-    let (board, passes) = Board::new(alloc, started, pool, workers)?;
+    let (operator, board, passes) = open_board(
+        alloc, bytes, &station, used, now, workers, verifier,
+    )?;
     Ok(Ready {
         station,
         operator,
