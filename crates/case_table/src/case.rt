@@ -49,6 +49,8 @@ pub struct Case {
     pub marks: Vec<String>,
     /// The responses that are to come, by the numbers of their connections.
     pub responses: Vec<Vec<u8>>,
+    /// What is to be asked over the link: of each exchange a line with the peer and the limit, and the request.
+    pub asked: Vec<u8>,
     /// The line that is to be written to the errors sink.
     pub line: Vec<u8>,
     /// The number of the status that is to come.
@@ -81,6 +83,7 @@ pub fn plain_case(alloc: Global, name: String) -> Result<Case, AllocError> {
         text: Vec::new(alloc),
         marks: Vec::new(alloc),
         responses: Vec::new(alloc),
+        asked: Vec::new(alloc),
         line: Vec::new(alloc),
         status: 0,
     })

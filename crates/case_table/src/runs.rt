@@ -5,7 +5,7 @@ use crate::gates::{Answer, CaseGate, gate};
 use crate::worker::Worker;
 use authority_daemon::{Outside, run};
 use dir_bytes::{MemoryClock, MemorySink, MemorySource, Text};
-use dir_http::MemoryLink;
+use dir_http::{Exchange, MemoryLink};
 use key_port::TestKeys;
 use std::alloc::{AllocError, Global};
 use std::sync::{OnceLock, Wait};
@@ -77,12 +77,25 @@ fn staff_of<'a>(
     })
 }
 
-// How a run ends: the number of its status, the line and the text.
+// What was asked over a link: of each exchange a line with the peer and the limit, and the request.
+fn asked_text(alloc: Global, exchanges: &[Exchange]) -> Result<Vec<u8>, AllocError> {
+    let mut text = Vec::new(alloc);
+    for exchange in exchanges {
+        let limit = format!(in alloc; " {}\n", exchange.limit)?;
+        text.extend_from_slice(exchange.peer.as_bytes())?;
+        text.extend_from_slice(limit.as_bytes())?;
+        text.extend_from_slice(exchange.request.as_bytes())?;
+    }
+    Ok(text)
+}
+
+// How a run ends: the number of its status, the line, the text, and what was asked.
 #[derive(Drop)]
 struct End {
     status: u64,
     line: Vec<u8>,
     text: Vec<u8>,
+    asked: Vec<u8>,
 }
 
 // Runs words over an input and what stands outside. None where there are no workers, or too many.
@@ -135,12 +148,14 @@ fn end_of<H: Threads + Wait + Sync>(
         verifiers: _,
         signer: _,
         gates: _,
-        link: _,
+        link,
     } = outside;
+    let asked = asked_text(alloc, &link.asked)?;
     Ok(Some(End {
         status,
         line: errors.written,
         text: sink.written,
+        asked,
     }))
 }
 
@@ -159,6 +174,7 @@ pub fn difference<H: Threads + Wait + Sync>(
         text,
         marks,
         responses,
+        asked,
         line,
         status,
     } = case;
@@ -177,6 +193,10 @@ pub fn difference<H: Threads + Wait + Sync>(
     let other = text_difference(alloc, &end.text, &text, &marks)?;
     if !other.is_empty() {
         return Ok(other);
+    }
+    if end.asked != asked {
+        let other = String::from_utf8_lossy(alloc, &end.asked)?;
+        return format!(in alloc; "asked {other}");
     }
     response_difference(alloc, &answers, &responses)
 }

@@ -18,6 +18,8 @@ pub fn take_wanted(rt: &HostRuntime, case: &mut Case, key: &str, rest: &str) -> 
         "stderr" => case.line = text_of(alloc, rest)?.into_bytes(),
         "place" => take_place(alloc, case, &text_of(alloc, rest)?)?,
         "status" => case.status = rest.parse::<u64>()?,
+        "asked" => case.asked.append(&mut text_of(alloc, rest)?.into_bytes())?,
+        "asked-file" => case.asked.append(&mut fs::read(rt, rest)?)?,
         "behind" => case.marks.push(text_of(alloc, rest)?)?,
         _ => return Ok(false),
     }
