@@ -1,6 +1,7 @@
 -- What an answer of a signer tells.
 use Rattle.std.specs.Prelude.{◌≡◌, ℕ, ◌+◌, ◌-◌, ◌^◌, ◌≤◌, min, Bool, true, List, length}
 use Rattle.dir_bytes.specs.Causes.{Counts}
+use Rattle.hex.specs.Hex.{IsBytes}
 use Rattle.key_port.specs.declared.signer.SignAnswer.{SignAnswer}
 use Rattle.key_port.specs.declared.signer.SignAnswer.TheVariants as sign
 use Rattle.key_port.specs.declared.verifier.KeyKind.{KeyKind}
@@ -14,9 +15,9 @@ signature_limit = 32766
 abbrev pub SignerSteps : Type 0 → Type 1
 SignerSteps N = N → KeyKind → List ℕ → List ℕ → SignAnswer → N → Type 0
 
--- a signature comes only where it may be given, and is not too long
+-- a signature comes only where it may be given; it is of bytes, and not too long
 abbrev pub GivesBy : (List ℕ → Bool) → SignAnswer → Type 0
-GivesBy gives (sign.Signed signature) = (gives signature ≡ true) × (length signature ≤ signature_limit)
+GivesBy gives (sign.Signed signature) = (gives signature ≡ true) × (length signature ≤ signature_limit) × IsBytes signature
 GivesBy gives sign.Fault = Unit {0}
 GivesBy gives sign.Memory = Unit {0}
 

@@ -6,9 +6,8 @@ ghost use Rattle.key_port.specs.SignedLines as lines;
 ghost use Rattle.key_port.specs.Signing.{GivesBy};
 
 use crate::request::{LINE_LIMIT, Line, hex_size, kind_word};
-use crate::signer::SignAnswer;
+use crate::signer::{SignAnswer, signature_text};
 use crate::verifier::KeyKind;
-use dir_bytes::Text;
 use std::alloc::Global;
 
 /// Whether a request for a signature has at most 65,536 bytes, with its NL.
@@ -93,7 +92,7 @@ pub fn signature_of(alloc: Global, line: &[u8]) -> SignAnswer
     if !is_line_of(line, signature) {
         return SignAnswer::Fault;
     }
-    match Text::copy_of(alloc, signature) {
+    match signature_text(alloc, signature) {
         Ok(text) => SignAnswer::Signed(text),
         Err(_) => SignAnswer::Memory,
     }

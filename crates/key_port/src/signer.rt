@@ -1,11 +1,12 @@
 // What signs, with a count of its faults.
-ghost use Rattle.std.specs.Prelude.{Bool, List, ℕ};
+ghost use Rattle.std.specs.Prelude.{◌≡◌, Bool, List, ℕ, IfOk};
+ghost use Rattle.hex.specs.Hex.{IsBytes};
 ghost use Rattle.key_port.specs.Signing.{CountsSigning, GivesBy};
 ghost use Rattle.key_port.specs.declared.signer.SignAnswer.{SignAnswer};
 ghost use Rattle.key_port.specs.declared.verifier.KeyKind.{KeyKind};
 
 use crate::verifier::KeyKind;
-use dir_bytes::Text;
+use dir_bytes::{Memory, Text};
 use std::alloc::Global;
 
 /// What a signer answers.
@@ -35,4 +36,12 @@ pub trait Signer {
         ensures answer { GivesBy (may_give kind key.now message.now) result }
         ensures cause { CountsSigning (faults self.old) (faults self.new) result }
         ensures step { steps self.old kind key.now message.now result self.new };
+}
+
+// A signature's text.
+pub(crate) fn signature_text(alloc: Global, signature: &[u8]) -> Result<Text, Memory>
+    ensures value { IfOk result (λ text. text ≡ signature.now) }
+    ensures bytes { IfOk result IsBytes }
+{
+    Text::copy_of(alloc, signature)
 }

@@ -1,10 +1,11 @@
 // The test scheme as a verifier and a signer. It takes no memory but a signature's.
 ghost use Rattle.std.specs.Prelude.{◌≡◌, ◌≤◌, ◌++◌, IfOk, length, not};
+ghost use Rattle.hex.specs.Hex.{IsBytes};
 ghost use Rattle.key_port.specs.Answers.{AnswersBy, CountsAnswers};
 ghost use Rattle.key_port.specs.Signing.{CountsSigning, GivesBy};
 ghost use Rattle.key_port.specs.TestScheme as scheme;
 
-use crate::signer::{SignAnswer, Signer};
+use crate::signer::{SignAnswer, Signer, signature_text};
 use crate::verifier::{KeyKind, Verifier, VerifyAnswer};
 use dir_bytes::{Memory, Text};
 use sha2::{Digest, Sha256};
@@ -111,11 +112,12 @@ impl Verifier for TestKeys {
 fn signature_of(alloc: Global, kind: KeyKind, key: &[u8], message: &[u8]) -> Result<Text, Memory>
     ensures value { IfOk result (λ text. text ≡ scheme.test_signature kind key.now message.now) }
     ensures within { IfOk result (λ text. length text ≤ 64) }
+    ensures bytes { IfOk result IsBytes }
 {
     let digest = test_digest(key, message);
     match kind {
-        KeyKind::Identity | KeyKind::Signing => Text::copy_of(alloc, &digest),
-        KeyKind::Ed25519 => Text::copy_of(alloc, &twice(&digest)),
+        KeyKind::Identity | KeyKind::Signing => signature_text(alloc, &digest),
+        KeyKind::Ed25519 => signature_text(alloc, &twice(&digest)),
     }
 }
 

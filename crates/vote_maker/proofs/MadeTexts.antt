@@ -59,7 +59,7 @@ module _ {N : Type 0} (gives : Relation) (steps : SignerSteps N) where
           rulings = of.rulings;
           allowed = of.allowed;
           signature = there.signature;
-          signed = record { given = there.given; short = there.short; asked = there.asked };
+          signed = record { given = there.given; sound = there.sound; short = there.short; asked = there.asked };
           text_is = there.whole_is;
         }
 

@@ -45,6 +45,7 @@ module _ {N : Type 0} (gives : Relation) (steps : SignerSteps N) (cert : Cert) (
         given = subst (λ (k : List ℕ). gives kind.Signing k made signature ≡ true) its
             (subst (λ (d : List ℕ). gives kind.Signing key d signature ≡ true) hash answer.0);
         short = answer.1;
+        sound = answer.2;
         asked = subst (λ (k : List ℕ). steps old kind.Signing k made (sign.Signed signature) new) its
             (subst (λ (d : List ℕ). steps old kind.Signing key d (sign.Signed signature) new) hash step);
         whole_is = more;

@@ -1,6 +1,7 @@
 -- What making a vote answers: the text of a signed vote, or why there is none; and what the verifier and the signer
 -- are asked.
 use Rattle.std.specs.Prelude.{◌≡◌, ◌⊎◌, ℕ, ◌≤◌, ◌<◌, Bool, true, false, List, length, Result, Ok, Err}
+use Rattle.hex.specs.Hex.{IsBytes}
 use Rattle.sha1.specs.Sha1.{sha1}
 use Rattle.key_port.specs.Answers.{Relation, Rules}
 use Rattle.key_port.specs.Signing.{SignerSteps, signature_limit}
@@ -31,10 +32,11 @@ abbrev pub AsksSigner : {N : Type 0} → SignerSteps N → VoteFacts → List �
 AsksSigner steps facts bytes old result new =
     steps old kind.Signing facts.certificate.signing_key (made_digest facts bytes) result new
 
--- The signature is the one that the signer gave when it was asked, one that it may give.
+-- The signature is the one that the signer gave when it was asked, bytes that it may give.
 pub record IsSigned {N : Type 0} (gives : Relation) (steps : SignerSteps N) (facts : VoteFacts)
     (bytes signature : List ℕ) (old new : N) : Type 0 where
   pub given : gives kind.Signing facts.certificate.signing_key (made_digest facts bytes) signature ≡ true
+  pub sound : IsBytes signature
   pub short : length signature ≤ signature_limit
   pub asked : AsksSigner steps facts bytes old (sign.Signed signature) new
 

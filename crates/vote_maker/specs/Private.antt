@@ -6,6 +6,7 @@ use Rattle.std.specs.FinSet as set
 use Rattle.std.specs.Cmp.Lexicographic.{slice_cmp}
 use Rattle.std.specs.Ordering.{nat_cmp, is_lt}
 use Rattle.std.specs.declared.cmp.Ordering.{Ordering}
+use Rattle.hex.specs.Hex.{IsBytes}
 use Rattle.sha1.specs.Sha1.{sha1}
 use Rattle.dir_values.specs.Digests.{identity_below}
 use Rattle.dir_values.specs.declared.digest.Fingerprint.{Fingerprint}
@@ -166,6 +167,7 @@ pub record IsSignedText {N : Type 0} (gives : Relation) (steps : SignerSteps N) 
     (old new : N) : Type 0 where
   pub signature : List ℕ
   pub given : gives kind.Signing cert.signing_key (sha1 text) signature ≡ true
+  pub sound : IsBytes signature
   pub short : length signature ≤ signature_limit
   pub asked : AsksFor steps cert text old (sign.Signed signature) new
   pub whole_is : whole ≡ text ++ signature_rest (signature_by cert signature)
