@@ -1,6 +1,6 @@
 // The votes that are held, one for each authority.
-ghost use Rattle.std.specs.Prelude.{◌≡◌, ◌≢◌, ◌≤◌, ◌<◌, ◌⊎◌, [], length, option_map, vec_len, vec_capacity, IfOk, IsSome, slice_index_or};
-ghost use Rattle.vote_terms.specs.Votes.{is_above};
+ghost use Rattle.std.specs.Prelude.{◌≡◌, ◌≤◌, ◌<◌, ◌⊎◌, [], length, option_map, true, vec_len, vec_capacity, IfOk, IsSome, slice_index_or};
+ghost use Rattle.vote_terms.specs.Votes.{is_above, rank_of};
 ghost use Rattle.vote_terms.specs.Held.{placed, rival, vote_of, VotesAscend};
 ghost use Rattle.vote_doc.specs.Holdings.{MayPlace, against, placing};
 ghost use Rattle.vote_doc.specs.Lending as lending;
@@ -64,6 +64,35 @@ fn against(new: &Rank, old: &Rank) -> Placed
     }
 }
 
+/// What placing a vote answers where one of this rank is held of its authority. Of a vote that was published at another
+/// moment the digest is not asked for.
+fn against_held(new: &HeldVote, old: &Rank) -> Placed
+    ensures { result ≡ against (rank_of new.now) old.now }
+{
+    let published = new.vote().published();
+    if published > old.published {
+        Placed::Replaced { old: *old }
+    } else if published < old.published {
+        Placed::Older { held: *old }
+    } else {
+        against(&new.rank(), old)
+    }
+}
+
+/// Whether a vote outranks one of this rank. Of a vote that was published at another moment the digest is not asked for;
+/// where it is, it is known from then on, and is not computed for the bytes of the other vote, whose digest is known.
+fn outranks(new: &mut HeldVote, other: &HeldVote, old: &Rank) -> bool
+    ensures above { result ≡ is_above (rank_of new.old) old.now }
+    ensures same { new.new ≡ new.old }
+{
+    let published = new.vote().published();
+    if published != old.published {
+        return published > old.published;
+    }
+    new.learn_from(other);
+    is_above(&new.known_rank(), old)
+}
+
 impl Accepted {
     /// No votes, of which so many may be held.
     ///
@@ -100,17 +129,6 @@ impl Accepted {
         held_of(&self.votes, authority)
     }
 
-    /// What `place` would answer for a vote, which is not placed. Where that is not `Kept`, the vote may be placed.
-    pub fn would_answer(&self, held: &HeldVote) -> Placed
-        ensures answer { result ≡ placing self.now.votes held.now }
-        ensures may_place { result ≢ Placed.Kept → MayPlace self.now held.now }
-    {
-        match held_of(&self.votes, &held.vote().identity()) {
-            None => Placed::Kept,
-            Some(other) => against(&held.rank(), &other.rank()),
-        }
-    }
-
     /// Lets go of all votes, and keeps the room for them.
     pub fn clear(&mut self)
         ensures { self.new ≡ record self.old { votes = [] } }
@@ -144,12 +162,12 @@ fn put(votes: &mut Vec<HeldVote>, held: HeldVote) -> Placed
             Err(_) => unreachable!(),
         },
         Some(old) => {
-            let new = held.rank();
-            if is_above(&new, &old) {
+            let mut held = held;
+            if outranks(&mut held, &votes[at], &old) {
                 votes[at] = held;
                 Placed::Replaced { old }
             } else {
-                against(&new, &old)
+                against_held(&held, &old)
             }
         }
     }
@@ -178,15 +196,27 @@ fn slot(votes: &[HeldVote], authority: &Fingerprint) -> usize
         .count()
 }
 
-/// The rank of the vote at a place, if it is of the authority.
-fn rank_at(votes: &[HeldVote], place: usize, authority: &Fingerprint) -> Option<Rank>
-    ensures rank { result ≡ lending.rank_at votes.now place authority.now }
-    ensures within { IsSome result → place < length votes.now }
+/// The rank of the vote at a place, if it is of the authority. Its digest is known from then on.
+fn rank_at(votes: &mut Vec<HeldVote>, place: usize, authority: &Fingerprint) -> Option<Rank>
+    ensures rank { result ≡ lending.rank_at votes.old.items place authority.now }
+    ensures same { votes.new.items ≡ votes.old.items }
+    ensures len { vec_len votes.new ≡ vec_len votes.old }
+    ensures capacity { vec_capacity votes.new ≡ vec_capacity votes.old }
+    ensures within { IsSome result → place < vec_len votes.old }
 {
-    let held = votes.get(place)?;
-    if held.vote().identity().is_same(authority) {
-        Some(held.rank())
-    } else {
-        None
+    if !is_of(votes, place, authority) {
+        return None;
+    }
+    Some(votes[place].known_rank())
+}
+
+/// Whether a vote of the authority stands at a place.
+fn is_of(votes: &[HeldVote], place: usize, authority: &Fingerprint) -> bool
+    ensures of { result ≡ lending.is_of votes.now place authority.now }
+    ensures within { result ≡ true → place < length votes.now }
+{
+    match votes.get(place) {
+        Some(held) => held.vote().identity().is_same(authority),
+        None => false,
     }
 }

@@ -2,9 +2,9 @@
 ghost use Rattle.std.specs.Prelude.{◌≡◌};
 ghost use Rattle.key_port.specs.Answers.{rules};
 ghost use Rattle.vote_terms.specs.Acceptable.{IsVerified};
-ghost use Rattle.vote_terms.specs.Votes.{rank_of, vote_digest};
+ghost use Rattle.vote_terms.specs.Votes.{vote_digest};
 
-use crate::held::HeldVote;
+use crate::held::{HeldVote, rank_with};
 use crate::vote::Vote;
 use dir_values::{Digest1, Digest2};
 use key_port::Verifier;
@@ -16,6 +16,7 @@ use std::marker::{Model, PhantomData};
 pub struct CheckedVote<V: Verifier> {
     vote: Vote,
     digest: Digest1,
+    whole: Option<Digest2>,
     verifier: PhantomData<V>,
 }
 
@@ -24,12 +25,14 @@ impl<V: Verifier> Model for CheckedVote<V> {
     ghost use Rattle.key_port.specs.Answers.{rules};
     ghost use Rattle.vote_terms.specs.Acceptable.{IsVerified};
     ghost use Rattle.vote_terms.specs.Votes.{ReadVote, vote_digest};
+    ghost use Rattle.vote_doc.specs.Ranks.{IsWholeOf};
 
     ghost Value = { ReadVote };
 
     ghost view = { λ c. c.vote };
 
-    ghost invariant = { λ c. IsVerified (rules V.may_accept V.may_refuse) c.vote × (c.digest ≡ vote_digest c.vote) };
+    ghost invariant = { λ c. IsVerified (rules V.may_accept V.may_refuse) c.vote × (c.digest ≡ vote_digest c.vote)
+        × IsWholeOf c.vote c.whole };
 }
 
 impl<V: Verifier> CheckedVote<V> {
@@ -42,6 +45,7 @@ impl<V: Verifier> CheckedVote<V> {
         CheckedVote {
             vote,
             digest,
+            whole: None,
             verifier: PhantomData,
         }
     }
@@ -54,21 +58,18 @@ impl<V: Verifier> CheckedVote<V> {
         &self.vote
     }
 
+    /// Computes the digest of the vote's rank, where it is not known, so that what is made of the vote knows it.
+    pub fn know_rank(&mut self)
+        ensures { self.new ≡ self.old }
+    {
+        self.whole = Some(rank_with(&self.vote, self.whole).whole);
+    }
+
     /// The vote as one that may be held. Takes no memory.
     pub fn into_held(self) -> HeldVote
         ensures vote { result ≡ self }
         ensures verified { IsVerified (rules V.may_accept V.may_refuse) self }
     {
-        let whole = self.vote.rank().whole;
-        self.into_held_with(whole)
-    }
-
-    /// The same, where the SHA-256 of its bytes is known: it is not computed again. Takes no memory.
-    pub fn into_held_with(self, whole: Digest2) -> HeldVote
-        requires { whole ≡ (rank_of self).whole }
-        ensures vote { result ≡ self }
-        ensures verified { IsVerified (rules V.may_accept V.may_refuse) self }
-    {
-        HeldVote::new(self.vote, self.digest, whole)
+        HeldVote::new(self.vote, self.digest, self.whole)
     }
 }

@@ -1,0 +1,2 @@
+pub mod VoteEnds
+pub mod OwnVotes
