@@ -1,9 +1,8 @@
--- The tables of each kind of document are clear: they pass the tests.
+-- The tables of each of these kinds of documents are clear: they pass the tests.
 use Rattle.std.proofs.Common.{◌≡◌, true, [], ◌∷◌, refl}
 use Rattle.std.specs.Prelude.{IfSome}
 use Rattle.frame_terms.specs.Keywords.{same}
 use Rattle.frame_terms.specs.Order.{opener}
-use Rattle.authority_certs.specs.Tables.{cert_tables}
 use Rattle.consensus_frame.specs.declared.rows.ConsensusSection.{ConsensusSection}
 use Rattle.consensus_frame.specs.declared.rows.ConsensusSection.TheVariants as consensus
 use Rattle.consensus_frame.specs.Tables.{consensus_tables}
@@ -12,9 +11,6 @@ use Rattle.consensus_terms.specs.declared.flavour.Flavour.TheVariants.{Ns, Micro
 use Rattle.descriptor_frame.specs.Tables.{descriptor_tables}
 use Rattle.detached_frame.specs.Tables.{detached_tables}
 use Rattle.micro_desc.specs.Tables.{micro_tables}
-use Rattle.vote_frame.specs.declared.frame.VoteSection.{VoteSection}
-use Rattle.vote_frame.specs.declared.frame.VoteSection.TheVariants as vote
-use Rattle.vote_frame.specs.Tables.{vote_tables}
 use Rattle.document_laws.specs.Clear.{AreClear}
 use Rattle.document_laws.specs.Tests.{IsRegarded, PassTests, is_clear}
 use Rattle.document_laws.proofs.Exact.{are_exact}
@@ -22,18 +18,6 @@ use Rattle.document_laws.proofs.Tested.{are_clear}
 use Rattle.kind_laws.specs.Kinds.{KindsAreClear, KindsAreExact}
 
 -- ---- documents of one section
-
-certificates : PassTests cert_tables
-unfolding same
-certificates = record {
-  others = [];
-  begins = refl;
-  apart = refl;
-  first_stands = refl;
-  each = λ section. refl;
-  regarded = λ section item. refl;
-  entered = λ section. tt;
-}
 
 descriptors : PassTests descriptor_tables
 unfolding same
@@ -69,45 +53,6 @@ detached_signatures = record {
   each = λ section. refl;
   regarded = λ section item. refl;
   entered = λ section. tt;
-}
-
--- ---- votes
-
-vote_each : (section : VoteSection) → is_clear vote_tables section ≡ true
-unfolding same
-vote_each vote.Preamble = refl
-vote_each vote.Authority = refl
-vote_each vote.Certificate = refl
-vote_each vote.Entry = refl
-vote_each vote.Footer = refl
-
-vote_regarded : (section : VoteSection) → IsRegarded vote_tables section (opener vote_tables section)
-unfolding same
-vote_regarded vote.Preamble = λ item. refl
-vote_regarded vote.Authority = λ item. refl
-vote_regarded vote.Certificate = λ item. refl
-vote_regarded vote.Entry = λ item. refl
-vote_regarded vote.Footer = λ item. refl
-
-vote_entered : (section : VoteSection) → IfSome ((vote_tables.shape section).inner)
-    (λ inside. IsRegarded vote_tables section (opener vote_tables inside))
-unfolding same
-vote_entered vote.Preamble = tt
-vote_entered vote.Authority = λ item. refl
-vote_entered vote.Certificate = tt
-vote_entered vote.Entry = tt
-vote_entered vote.Footer = tt
-
-votes : PassTests vote_tables
-unfolding same
-votes = record {
-  others = vote.Authority ∷ vote.Entry ∷ vote.Footer ∷ [];
-  begins = refl;
-  apart = refl;
-  first_stands = refl;
-  each = vote_each;
-  regarded = vote_regarded;
-  entered = vote_entered;
 }
 
 -- ---- consensuses
@@ -151,8 +96,6 @@ consensuses flavour = record {
 
 pub kinds_are_clear : KindsAreClear
 kinds_are_clear = record {
-  certificates = are_clear cert_tables certificates;
-  votes = are_clear vote_tables votes;
   consensuses = λ flavour. are_clear (consensus_tables flavour) (consensuses flavour);
   descriptors = are_clear descriptor_tables descriptors;
   microdescriptors = are_clear micro_tables microdescriptors;
@@ -161,8 +104,6 @@ kinds_are_clear = record {
 
 pub kinds_are_exact : KindsAreExact
 kinds_are_exact = record {
-  certificates = are_exact cert_tables kinds_are_clear.certificates;
-  votes = are_exact vote_tables kinds_are_clear.votes;
   consensuses = λ flavour. are_exact (consensus_tables flavour) (kinds_are_clear.consensuses flavour);
   descriptors = are_exact descriptor_tables kinds_are_clear.descriptors;
   microdescriptors = are_exact micro_tables kinds_are_clear.microdescriptors;

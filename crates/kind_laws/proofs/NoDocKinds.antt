@@ -1,26 +1,10 @@
--- The tables of each kind of document refuse no item as a line or an object is refused.
-use Rattle.std.proofs.Common.{ℕ, Bool, true, false, Result, Ok, Err, refl, length}
-use Rattle.std.specs.Prelude.{nat_lt, if◌then◌else◌}
-use Rattle.std.specs.FinSet as set
-use Rattle.item_terms.specs.Items.{Item}
+-- The tables of each of these kinds of documents refuse no item as a line or an object is refused.
+use Rattle.std.proofs.Common.{ℕ, Result, Ok, Err}
 use Rattle.frame_terms.specs.declared.fault.FrameFault.{FrameFault}
-use Rattle.frame_terms.specs.declared.row.Limit.{Limit}
-use Rattle.frame_terms.specs.declared.row.Limit.TheVariants as limit
-use Rattle.frame_terms.specs.Rows.{limit_number}
-use Rattle.frame_values.specs.Arguments.{arguments_of}
 use Rattle.frame_values.specs.declared.values.Value.{Value}
 use Rattle.frame_values.specs.declared.values.Value.TheVariants as value
-use Rattle.frame_values.specs.Faults.{at_place, too_many, unless_fault}
-use Rattle.random_lines.specs.declared.line.RandomLine.{RandomLine}
-use Rattle.random_lines.specs.declared.value.SharedRandom.{SharedRandom}
 use Rattle.relay_entries.specs.declared.listed.Listed.{Listed}
-use Rattle.relay_entries.specs.declared.said.EdOpinion.TheVariants as opinion
-use Rattle.relay_entries.specs.declared.said.EntryKind.{EntryKind}
-use Rattle.relay_entries.specs.declared.said.EntryKind.TheVariants as kind
-use Rattle.relay_entries.specs.declared.said.EntryValue.{EntryValue}
-use Rattle.relay_entries.specs.declared.said.EntryValue.TheVariants as said
-use Rattle.relay_entries.specs.Listing.{is_next, note_entry, too_many_entries}
-use Rattle.authority_certs.specs.Tables.{cert_value}
+use Rattle.relay_entries.specs.Listing.{note_entry}
 use Rattle.consensus_frame.specs.declared.across.Across as consensus_across
 use Rattle.consensus_frame.specs.declared.value.ConsensusValue.{ConsensusValue}
 use Rattle.consensus_frame.specs.declared.value.ConsensusValue.TheVariants as listed
@@ -28,99 +12,9 @@ use Rattle.consensus_frame.specs.Tables as consensus
 use Rattle.descriptor_frame.specs.Lines as descriptor
 use Rattle.detached_frame.specs.Tables as detached
 use Rattle.micro_desc.specs.Lines as micro
-use Rattle.vote_frame.specs.Across as across
-use Rattle.vote_frame.specs.declared.across.Across as vote_across
-use Rattle.vote_frame.specs.declared.frame.VoteKind.{VoteKind}
-use Rattle.vote_frame.specs.declared.frame.VoteKind.TheVariants as item
-use Rattle.vote_frame.specs.declared.frame.VoteValue.{VoteValue}
-use Rattle.vote_frame.specs.declared.frame.VoteValue.TheVariants as own
-use Rattle.vote_frame.specs.Tables as vote
 use Rattle.feed_laws.specs.Known.{IsNoDoc}
 use Rattle.kind_laws.specs.Kinds.{KindsHaveNoDoc}
-
--- ---- faults of items
-
-placed : {V : Type 0} (read : Result V ℕ) → IsNoDoc (at_place read)
-placed (Ok value) = tt
-placed (Err place) = refl
-
-either_ok : {Y : Type 0} (test : Bool) (one other : Result Y FrameFault) → IsNoDoc one → IsNoDoc other
-    → IsNoDoc (if test then one else other)
-either_ok true one other h k = h
-either_ok false one other h k = k
-
-many : (limit : Limit) (item : Item) → IsNoDoc (too_many limit item)
-many limit item = either_ok (nat_lt (limit_number limit) (length (arguments_of item))) _ _ refl tt
-
-after_limit : {V : Type 0} (first : Result (Unit {0}) FrameFault) (other : Result V FrameFault) → IsNoDoc first
-    → IsNoDoc other
-    → IsNoDoc (unless_fault first other)
-after_limit (Ok _) other h k = k
-after_limit (Err fault) other h k = h
-
--- ---- entries
-
-entries : (listed : Listed) (of : EntryKind) (item : Item) → IsNoDoc (too_many_entries listed of item)
-entries listed kind.Relay item = either_ok (nat_lt listed.count (limit_number limit.Entries)) _ _ tt refl
-entries listed kind.Address item = tt
-entries listed kind.Flags item = tt
-entries listed kind.Rest item = tt
-entries listed kind.Bandwidths item = tt
-entries listed kind.Micro item = tt
-entries listed kind.Ed item = tt
-
-entry : (listed : Listed) (place : ℕ) (text : EntryValue) → IsNoDoc (note_entry listed place text)
-entry listed place (said.Relay relay) = either_ok (is_next listed.last relay.identity) _ _ tt refl
-entry listed place (said.Bandwidths bandwidths) = tt
-entry listed place (said.Micro micro) = tt
-entry listed place (said.Ed (opinion.Key key)) = either_ok (set.contains listed.keys key) _ _ refl tt
-entry listed place (said.Ed opinion.None) = tt
-entry listed place (said.Ed opinion.Absent) = tt
-
--- ---- votes
-
-vote_limits : (listed : Listed) (of : VoteKind) (item : Item) → IsNoDoc (vote.over_limit listed of item)
-vote_limits listed item.Version it = tt
-vote_limits listed item.Status it = tt
-vote_limits listed item.Methods it = many limit.Methods it
-vote_limits listed item.Time it = tt
-vote_limits listed item.Delays it = tt
-vote_limits listed item.KnownFlags it = many limit.KnownFlags it
-vote_limits listed item.Versions it = tt
-vote_limits listed item.Protocols it = tt
-vote_limits listed item.Params it = many limit.Params it
-vote_limits listed item.Rest it = tt
-vote_limits listed item.Source it = tt
-vote_limits listed (item.Random line) it = tt
-vote_limits listed item.Nothing it = tt
-vote_limits listed item.Signature it = tt
-vote_limits listed (item.Certificate of) it = tt
-vote_limits listed (item.Entry of) it = entries listed of it
-
-vote_listed : (before : vote_across.Across) (noted : Result Listed FrameFault) → IsNoDoc noted
-    → IsNoDoc (across.with_listed before noted)
-vote_listed before (Ok listed) h = tt
-vote_listed before (Err fault) h = h
-
-random : (before : vote_across.Across) (line : RandomLine) (read : Result SharedRandom ℕ)
-    → IsNoDoc (across.unless_wrong before line read)
-random before line (Ok value) = tt
-random before line (Err wrong) = refl
-
-vote_note : (before : vote_across.Across) (place : ℕ) (text : Value VoteValue)
-    → IsNoDoc (vote.note_value before place text)
-vote_note before place value.Nothing = tt
-vote_note before place (value.Text span) = tt
-vote_note before place (value.Number number) = tt
-vote_note before place (value.Fingerprint identity) = tt
-vote_note before place (value.Object span) = tt
-vote_note before place (value.Own (own.Delays one other)) = tt
-vote_note before place (value.Own (own.Source source)) = tt
-vote_note before place (value.Own (own.Random line read)) =
-    either_ok (across.has_line before line) _ _ refl (random before line read)
-vote_note before place (value.Own (own.Signature signature)) = tt
-vote_note before place (value.Own (own.Entry text)) =
-    vote_listed before (note_entry before.listed place text) (entry before.listed place text)
+use Rattle.vote_kinds.proofs.NoDocItems.{entry, placed}
 
 -- ---- consensuses
 
@@ -150,16 +44,6 @@ consensus_note before place (value.Own (listed.Entry text)) =
 
 pub kinds_have_no_doc : KindsHaveNoDoc
 kinds_have_no_doc = record {
-  certificates = record {
-    values = λ across kind item. placed (cert_value kind item);
-    notes = λ across one. tt;
-  };
-  votes = record {
-    values = λ across kind item.
-        after_limit (vote.over_limit across.listed kind item) (at_place (vote.value_at kind item))
-        (vote_limits across.listed kind item) (placed (vote.value_at kind item));
-    notes = λ across one. vote_note across one.place one.value;
-  };
   consensuses = λ flavour. record {
     values = λ across kind item. placed (consensus.value_at flavour across kind item);
     notes = λ across one. consensus_note across one.place one.value;

@@ -1,8 +1,8 @@
-// What holds of the tables of each kind of document.
+// What holds of the tables of each of these kinds of documents.
 ghost use Rattle.kind_laws.specs.Kinds.{KindsAreClear, KindsAreExact, KindsHaveNoDoc};
 
-/// A law: the tables of certificates, votes, consensuses of either flavour, server descriptors, microdescriptors and
-/// detached signatures are clear, and so sound.
+/// A law: the tables of consensuses of either flavour, server descriptors, microdescriptors and detached signatures are
+/// clear, and so sound.
 pub fn kinds_are_clear()
     ensures { KindsAreClear }
 {}

@@ -13,7 +13,7 @@ use Rattle.authority_certs.specs.Tables.{cert_tables}
 use Rattle.table_laws.specs.Order.{Part}
 use Rattle.document_laws.specs.Documents.{IsDocument}
 use Rattle.document_laws.specs.Parts.{IsPart}
-use Rattle.kind_laws.proofs.ClearKinds.{kinds_are_exact}
+use Rattle.vote_kinds.proofs.ClearVotes.{vote_kinds_are_exact}
 use Rattle.given_certs.specs.Within.{AreTakenIn}
 use Rattle.given_certs.proofs.Holding.{CertTaken, Said}
 use Rattle.given_certs.proofs.InVotes.{votes_hold}
@@ -71,7 +71,7 @@ alone_is bytes items taken before last contents is_part parts ends =
       each = (tt, is_part, tt);
       ends = record { before = before; last = last; parts = parts; ends = ends };
     } in
-    let read = (kinds_are_exact.certificates (length bytes) (items_of max_cert bytes) document).1 is_document in
+    let read = (vote_kinds_are_exact.certificates (length bytes) (items_of max_cert bytes) document).1 is_document in
     let lone =
     lone_is vote_tables vote.Authority vote.Certificate vote_kind.Certificate vote_kind.Version votes_hold bytes
     document read

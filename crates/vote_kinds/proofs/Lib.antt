@@ -1,0 +1,3 @@
+pub mod ClearVotes
+pub mod NoDocItems
+pub mod NoDocVotes

@@ -1,0 +1,5 @@
+use Rattle.vote_kinds.proofs.ClearVotes.{vote_kinds_are_exact}
+use Rattle.vote_kinds.proofs.laws.vote_kinds_are_exact.Goals as goal
+
+pub returns : goal.returns
+returns c = vote_kinds_are_exact
