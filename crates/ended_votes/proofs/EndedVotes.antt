@@ -18,7 +18,7 @@ use Rattle.part_laws.proofs.SoundLines.{ends_all}
 use Rattle.table_laws.specs.Order.{items_of}
 use Rattle.document_laws.specs.Documents.{AreParts, IsDocument}
 use Rattle.document_laws.specs.Documents.{EndsSo as AllEndSo}
-use Rattle.kind_laws.proofs.ClearKinds.{kinds_are_exact}
+use Rattle.vote_kinds.proofs.ClearVotes.{vote_kinds_are_exact}
 use Rattle.vote_frame.specs.Tables.{vote_tables}
 use Rattle.vote_frame.specs.declared.frame.VoteSection.{VoteSection}
 use Rattle.vote_frame.specs.declared.frame.VoteSection.TheVariants as section
@@ -27,7 +27,7 @@ use Rattle.vote_terms.specs.Votes.{ReadVote}
 use Rattle.vote_doc.specs.Kept.{kept_with, none_kept}
 use Rattle.vote_doc.specs.Reading.{max_vote, vote_of, with_facts}
 use Rattle.vote_feed.specs.Feeding.{EndsSo, end_of}
-use Rattle.vote_feed.proofs.VoteEnds.{vote_ends}
+use Rattle.vote_parts.proofs.VoteEnds.{vote_ends}
 use Rattle.vote_feed.proofs.Votes.{known_more, whole_there}
 use Rattle.ended_votes.specs.Ended.{OpenVotesAreNone, VotesEnd}
 use Rattle.ended_votes.proofs.LastPart.{VotePart, at_last, ends_at, ends_with}
@@ -191,8 +191,8 @@ ends_so : (bytes : List ℕ) (document : VoteDocument)
     → EndsSo (take document.used bytes) (Ok document.used)
 ends_so bytes document read more =
     let text = take document.used bytes ++ more in
-    let is = (kinds_are_exact.votes (length bytes) (read_of bytes) document).0 read in
-    let again = (kinds_are_exact.votes (length text) (read_of text) document).1 (there_too bytes document is more) in
+    let is = (vote_kinds_are_exact.votes (length bytes) (read_of bytes) document).0 read in
+    let again = (vote_kinds_are_exact.votes (length text) (read_of text) document).1 (there_too bytes document is more) in
     ap (λ (r : Result VoteDocument ReadRefusal). end_of (says_of text r)) again
 
 all_ends : (bytes : List ℕ) (vote : ReadVote) (end : ℕ) → vote_of bytes ≡ Ok (vote, end)

@@ -17,7 +17,7 @@ use Rattle.vote_frame.specs.declared.across.Across.{Across}
 use Rattle.vote_frame.specs.declared.frame.VoteSection.{VoteSection}
 use Rattle.vote_frame.specs.declared.frame.VoteSection.TheVariants as section
 use Rattle.vote_frame.specs.declared.frame.VoteValue.{VoteValue}
-use Rattle.vote_feed.proofs.VoteEnds.{vote_ends}
+use Rattle.vote_parts.proofs.VoteEnds.{vote_ends}
 
 abbrev pub VotePart : Type 0
 VotePart = Part VoteSection (Value VoteValue)

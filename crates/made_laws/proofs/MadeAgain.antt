@@ -1,13 +1,11 @@
 -- A vote that was made is read again.
 use Rattle.std.proofs.Common.{◌≡◌, ℕ, ◌+◌, ◌-◌, ◌^◌, ◌<◌, ◌≤◌, true, List, [], ◌∷◌, ◌++◌, length, take, drop, refl, sym}
 use Rattle.std.proofs.Common.{ap}
-use Rattle.std.proofs.Common.{subst, ◌∙◌, append_assoc, arith}
+use Rattle.std.proofs.Common.{◌∙◌, append_assoc, arith}
 use Rattle.std.specs.Prelude.{codes, map, min}
 use Rattle.std.proofs.lemmas.List.{length-append}
 use Rattle.item_terms.specs.Words.{first_is, is_letter_or_digit}
 use Rattle.frame_terms.specs.Keywords.{same}
-use Rattle.frame_values.specs.declared.values.Value.{Value}
-use Rattle.frame_terms.specs.declared.document.Taken.{Taken}
 use Rattle.frame_laws.proofs.LastRows.{last_item}
 use Rattle.frame_laws.proofs.Places.{after_all-append}
 use Rattle.frame_laws.proofs.Sections.{end_of, entries_in}
@@ -19,7 +17,6 @@ use Rattle.vote_terms.specs.declared.facts.VoteFacts.{VoteFacts}
 use Rattle.vote_text.specs.Made.{made_signed, made_text, signature_rest}
 use Rattle.vote_doc.specs.Facts.{vote_in}
 use Rattle.vote_doc.specs.Heads.{signed_to}
-use Rattle.vote_doc.specs.Reading.{max_vote}
 use Rattle.vote_doc.specs.declared.kept.Kept.{Kept}
 use Rattle.vote_frame.specs.Tables.{vote_tables}
 use Rattle.vote_frame.specs.declared.frame.VoteValue.{VoteValue}
@@ -34,7 +31,7 @@ use Rattle.given_certs.proofs.MovedParts.{certs_say}
 use Rattle.made_laws.specs.Made.{IsMadeInRange, IsMadeVote, MadeVotesAreRead}
 use Rattle.made_laws.proofs.MadeKept.{made_place}
 use Rattle.made_laws.proofs.MadeRead.{InVote, among, certificate_at, ends_at, given_first, given_kept, given_taken}
-use Rattle.made_laws.proofs.MadeRead.{made_read}
+use Rattle.made_laws.proofs.MadeRead.{made_read, made_vote}
 use Rattle.made_laws.proofs.MadeSays.{around_bytes, bytes_begin, made_says}
 use Rattle.made_laws.proofs.MadeTexts.{before_text, behind_text, signed_parts, unsigned_behind}
 
@@ -163,7 +160,7 @@ module _ (front : List ℕ) (facts : VoteFacts) (bytes rest : List ℕ) (below :
 pub made_again : MadeVotesAreRead
 made_again front facts bytes rest below given are =
     let stand = given_stand bytes facts.certificate given in (
-      vote_in (among front facts bytes rest) (given_kept (length front) facts bytes stand),
+      made_vote facts bytes stand,
       made_read front facts bytes rest stand given.first are,
-      is_made front facts bytes rest below stand given.first are,
+      is_made [] facts bytes [] (omega arith) stand given.first are,
     )

@@ -1,42 +1,39 @@
 -- The text of a vote that was made is read.
-use Rattle.std.proofs.Common.{◌≡◌, ℕ, ◌+◌, ◌≤◌, Bool, true, false, List, [], ◌∷◌, ◌++◌, length, Option, None, Result}
+use Rattle.std.proofs.Common.{◌≡◌, ℕ, ◌+◌, ◌≤◌, true, false, List, [], ◌∷◌, ◌++◌, length, take, Option, None, Result}
 use Rattle.std.proofs.Common.{Ok, refl}
 use Rattle.std.proofs.Common.{sym, ap, subst, ◌∙◌, arith, append_assoc}
 use Rattle.std.specs.Prelude.{map, ◌&&◌}
 use Rattle.std.proofs.lemmas.Bool.{and_right}
-use Rattle.std.proofs.lemmas.List.{drop_at, length-append}
+use Rattle.std.proofs.Math.Seq.{drop-append_seam, take-append_seam}
+use Rattle.std.proofs.lemmas.List.{append-nil, length-append}
 use Rattle.item_terms.specs.Items.{Contents, Item, contents, nothing}
 use Rattle.item_terms.specs.Words.{begins_dash, first_is, is_letter_or_digit}
 use Rattle.item_terms.specs.declared.fault.DocFault.{DocFault}
-use Rattle.dirdoc_grammar.specs.Writing.{AreWritable, NewItem, all_written, in_front, is_open, items_text}
+use Rattle.dirdoc_grammar.specs.Writing.{AreWritable, NewItem, all_written, in_front, is_open}
 use Rattle.dirdoc_laws.proofs.ItemsAgain.{items_again}
 use Rattle.dirdoc_laws.proofs.WrittenBytes.{differs}
 use Rattle.frame_terms.specs.Documents.{document_of, finish, group, onto, read_items, start}
-use Rattle.frame_terms.specs.Keywords.{same}
 use Rattle.frame_terms.specs.Sections.{lacking, stands}
-use Rattle.frame_terms.specs.declared.document.Taken.{Taken}
 use Rattle.frame_terms.specs.declared.fault.ReadRefusal.{ReadRefusal}
 use Rattle.frame_terms.specs.declared.keyword.Keyword.TheVariants as the
-use Rattle.frame_values.specs.declared.values.Value.{Value}
 use Rattle.frame_laws.proofs.Entries.{item_of, taken_at}
 use Rattle.frame_laws.proofs.Following.{first_read, section_read}
 use Rattle.frame_laws.proofs.Passing.{notes_passing}
-use Rattle.frame_laws.proofs.Places.{after_all, after_all-append, both_written}
-use Rattle.frame_laws.proofs.Sections.{entries_in, others_in, section_before_last, section_whole, taken_in}
-use Rattle.frame_laws.proofs.Steps.{opening}
+use Rattle.frame_laws.proofs.Places.{after_all-append, both_written}
+use Rattle.frame_laws.proofs.Sections.{entries_in, others_in, section_before_last, section_whole}
 use Rattle.frame_laws.proofs.WrittenRows.{ends_behind, is_closed}
 use Rattle.certificate_laws.proofs.CertRows.{certificate_version}
 use Rattle.vote_terms.specs.Votes.{ReadVote}
 use Rattle.vote_terms.specs.declared.facts.VoteFacts.{VoteFacts}
 use Rattle.vote_text.specs.Made.{made_text}
+use Rattle.vote_doc.specs.Behind as places
 use Rattle.vote_doc.specs.Facts.{vote_in}
 use Rattle.vote_doc.specs.Kept.{kept_with, none_kept}
-use Rattle.vote_doc.specs.Reading.{max_vote, vote_from, with_facts}
+use Rattle.vote_doc.specs.Reading.{max_vote, vote_from, vote_of, with_facts}
 use Rattle.vote_doc.specs.declared.kept.Kept.{Kept}
 use Rattle.vote_frame.specs.Across.{nothing_across}
 use Rattle.vote_frame.specs.Tables.{vote_tables}
 use Rattle.vote_frame.specs.declared.frame.VoteSection.TheVariants.{Authority, Certificate, Preamble}
-use Rattle.vote_frame.specs.declared.frame.VoteValue.{VoteValue}
 use Rattle.vote_laws.specs.Again.{HasValuesInRange}
 use Rattle.vote_laws.proofs.Heard.{forgotten, is_quiet}
 use Rattle.vote_laws.proofs.VoteItems.{VoteEntry, signature_entry, suits_source, suits_version}
@@ -234,7 +231,7 @@ abbrev read_as : List ℕ → Result VoteDocument ReadRefusal → Result (ReadVo
 read_as bytes document = with_facts bytes (finish kept_with none_kept document)
 
 abbrev answer : Kept → List ℕ → ℕ → Result (ReadVote × ℕ) ReadRefusal
-answer kept bytes end = Ok (vote_in bytes kept, end)
+answer kept bytes end = Ok (vote_in (take end bytes) kept, end)
 
 -- a made vote's text behind some bytes, and in front of others
 abbrev pub among : List ℕ → VoteFacts → List ℕ → List ℕ → List ℕ
@@ -245,26 +242,37 @@ abbrev pub given_kept : (at : ℕ) (facts : VoteFacts) (bytes : List ℕ) → In
 given_kept at facts bytes stand =
     made_kept at facts bytes (given_first at facts bytes stand ∷ given_taken at facts bytes stand)
 
--- it is read, whatever stands before and behind it, and ends where its text ends
+-- the vote that it is
+abbrev pub made_vote : (facts : VoteFacts) (bytes : List ℕ) → InVote facts bytes → ReadVote
+made_vote facts bytes stand = vote_in (among [] facts bytes []) (given_kept 0 facts bytes stand)
+
+-- it is read, whatever stands behind it, and ends where its text ends
+text_read : (facts : VoteFacts) (bytes rest : List ℕ) (stand : InVote facts bytes)
+    → first_is is_letter_or_digit bytes ≡ true → IsMadeInRange facts bytes
+    → vote_of (made_text facts bytes ++ rest) ≡ Ok (made_vote facts bytes stand, length (made_text facts bytes))
+text_read facts bytes rest stand first are =
+    let text = made_text facts bytes in
+    let all = among [] facts bytes rest in
+    let limit = 0 + max_vote in
+    let after = contents limit (made_place 0 facts bytes + length (behind_text facts)) nothing rest in
+    let own : take (length text) (text ++ rest) ≡ text ++ [] = take-append_seam text rest ∙ sym (append-nil text) in
+    let end : 0 + length text ≡ length text = omega arith in
+    ap (λ (c : Contents). read_as all (document_of vote_tables (length all) c))
+    (made_contents 0 facts bytes rest stand first are)
+    ∙ ap (λ (d : Result VoteDocument ReadRefusal). read_as all d)
+    (document_read 0 facts bytes stand are.values (length all) after.fault after.items)
+    ∙ ap (λ (k : Kept). answer k all (end_from (made_place 0 facts bytes) facts))
+    (made_all_kept 0 facts bytes (given_first 0 facts bytes stand)
+    (given_taken 0 facts bytes stand) stand.opens are.values.entries)
+    ∙ ap (λ (n : ℕ). answer (given_kept 0 facts bytes stand) all n) (ends_at 0 facts bytes are)
+    ∙ ap (λ (n : ℕ). answer (given_kept 0 facts bytes stand) all n) end
+    ∙ ap (λ (l : List ℕ). Ok (vote_in l (given_kept 0 facts bytes stand), length text)) own
+
+-- and whatever stands before it
 pub made_read : (front : List ℕ) (facts : VoteFacts) (bytes rest : List ℕ) (stand : InVote facts bytes)
     → first_is is_letter_or_digit bytes ≡ true → IsMadeInRange facts bytes
     → vote_from (length front) (among front facts bytes rest)
-    ≡ Ok (
-      vote_in (among front facts bytes rest) (given_kept (length front) facts bytes stand),
-      length front + length (made_text facts bytes),
-    )
+    ≡ Ok (made_vote facts bytes stand, length front + length (made_text facts bytes))
 made_read front facts bytes rest stand first are =
-    let at = length front in
-    let all = among front facts bytes rest in
-    let limit = at + max_vote in
-    let after = contents limit (made_place at facts bytes + length (behind_text facts)) nothing rest in
-    ap (λ (l : List ℕ). read_as all (document_of vote_tables (length all) (contents limit at nothing l)))
-    (drop_at front (made_text facts bytes ++ rest) (length front) refl)
-    ∙ ap (λ (c : Contents). read_as all (document_of vote_tables (length all) c))
-    (made_contents at facts bytes rest stand first are)
-    ∙ ap (λ (d : Result VoteDocument ReadRefusal). read_as all d)
-    (document_read at facts bytes stand are.values (length all) after.fault after.items)
-    ∙ ap (λ (k : Kept). answer k all (end_from (made_place at facts bytes) facts))
-    (made_all_kept at facts bytes (given_first at facts bytes stand)
-    (given_taken at facts bytes stand) stand.opens are.values.entries)
-    ∙ ap (λ (n : ℕ). answer (given_kept at facts bytes stand) all n) (ends_at at facts bytes are)
+    ap (λ (l : List ℕ). places.behind (length front) (vote_of l)) (drop-append_seam front (made_text facts bytes ++ rest))
+    ∙ ap (places.behind (length front)) (text_read facts bytes rest stand first are)

@@ -1,29 +1,28 @@
 -- What is read of a vote is in range, but for the limits.
-use Rattle.std.proofs.Common.{◌≡◌, ◌⊎◌, ℕ, true, List, [], ◌∷◌, ◌++◌, length, map}
-use Rattle.std.proofs.Common.{Result, Ok, Err, refl, sym, subst, arith, inl, inr}
+use Rattle.std.proofs.Common.{◌≡◌, ◌⊎◌, ℕ, true, List, [], ◌∷◌, ◌++◌, drop, length, map, take}
+use Rattle.std.proofs.Common.{refl, sym, subst, arith, inl, inr}
 use Rattle.std.specs.Prelude.{All, AllPairs, replicate}
 use Rattle.std.specs.List.{fold}
 use Rattle.std.proofs.lemmas.List.Elements.{All-head, All-map, All-tail, All-weaker}
 use Rattle.base64.specs.GeneralPurpose.{IsBytes}
-use Rattle.item_terms.specs.Items.{Item, items_from}
+use Rattle.item_terms.specs.Items.{Item, items_of}
 use Rattle.dir_values.specs.Digests.{identity_below}
 use Rattle.dir_values.proofs.Orders.{AllPairs-cons, AllPairs-head, AllPairs-nil, AllPairs-tail}
-use Rattle.frame_terms.specs.Documents.{Document, document_of, finish}
-use Rattle.frame_terms.specs.declared.fault.ReadRefusal.{ReadRefusal}
 use Rattle.frame_values.specs.declared.values.Value.{Value}
 use Rattle.table_laws.specs.Items.{AreItemsIn}
 use Rattle.table_laws.specs.Order.{AreInOrder, BeginsWithOpener, Part, sections_of}
 use Rattle.table_laws.proofs.Ordering.{stand_in_order}
-use Rattle.kind_laws.proofs.ClearKinds.{kinds_are_clear}
+use Rattle.vote_kinds.proofs.ClearVotes.{vote_kinds_are_clear}
 use Rattle.table_laws.proofs.Taking.{are_said}
 use Rattle.vote_terms.specs.Votes.{ReadVote}
 use Rattle.vote_terms.specs.declared.entry.EntryFacts.{EntryFacts}
 use Rattle.vote_entries.specs.Entries.{entry_in}
 use Rattle.vote_entries.specs.Kept.{KeptEntry}
 use Rattle.vote_text.specs.Texts.{vote_items}
-use Rattle.vote_doc.specs.Facts.{vote_in}
 use Rattle.vote_doc.specs.Kept.{kept_with, none_kept}
-use Rattle.vote_doc.specs.Reading.{max_vote, with_facts}
+use Rattle.vote_doc.specs.Reading.{max_vote}
+use Rattle.vote_parts.specs.Own.{IsOwn}
+use Rattle.vote_parts.proofs.OwnVotes.{own_read, placed_read}
 use Rattle.vote_doc.specs.declared.head.Head.{Head}
 use Rattle.vote_doc.specs.declared.kept.Kept.{Kept}
 use Rattle.vote_frame.specs.Tables.{vote_tables}
@@ -39,6 +38,7 @@ use Rattle.range_laws.proofs.EntryRoom.{VoteGroup, few_entries}
 use Rattle.range_laws.proofs.KeptEntries.{AreKept, IsKept, count_map}
 use Rattle.range_laws.proofs.KeptHeads.{AuthorityOf, HasAuthority, KeptIs, nothing_kept, one_more}
 use Rattle.range_laws.proofs.KeptSome.{AreSome, none_some, some_kept}
+use Rattle.range_laws.proofs.ReadBytes.{bytes_drop, bytes_take}
 use Rattle.range_laws.proofs.Saying.{EachSound, all_sound, each_stands}
 use Rattle.range_laws.proofs.KeptFacts.{facts_ranged}
 
@@ -125,38 +125,33 @@ none_left : (bytes : List ℕ) (head : Head) → AuthorityOf bytes head ⊎ HasA
 none_left bytes head (inl is) = is
 none_left bytes head (inr has) = absurd has
 
+-- what is read of a vote's own bytes is in range
+own_in_range : (bytes : List ℕ) (vote : ReadVote) → IsBytes bytes → IsOwn bytes vote → IsInRangeButForLimits vote.says
+own_in_range bytes vote are own =
+    let document = own.document in
+    let contents = items_of max_vote bytes in
+    let items = contents.items in
+    let groups = document.groups in
+    let stand = stand_in_order vote_tables vote_kinds_are_clear.votes.sound (length bytes) contents document own.is in
+    let has = subst HasAuthority (sym stand.are) (authority_there stand.parts stand.in_order) in
+    let kept = fold (λ k (g : VoteGroup). kept_with k g.section g.taken) none_kept groups in
+    let all =
+    groups_kept bytes are items (all_sound 0 max_vote bytes) none_kept groups
+    (are_said vote_tables (length bytes) contents document own.is) stand.begin (nothing_kept bytes groups has) in
+    let some =
+    some_kept none_kept groups
+    (none_some groups (few_entries (length bytes) contents document own.is)
+    (keys_apart (length bytes) contents document own.is)) in
+    subst (λ (v : ReadVote). IsInRangeButForLimits v.says) (sym own.kept)
+    (facts_ranged bytes are kept all.head (none_left bytes kept.head all.authority) all.entries
+    (entries_ranged bytes kept.entries all.entries some))
+
 pub vote_in_range : VotesReadAreInRange
 vote_in_range start bytes vote after are is =
-    by (document_of vote_tables (length bytes) (items_from start max_vote bytes)) refl is
-  where
-    items : List Item
-    items = (items_from start max_vote bytes).items
-
-    same_read : (a b : ReadVote × ℕ) (read : Result (ReadVote × ℕ) ReadRefusal) → read ≡ Ok a → read ≡ Ok b → a ≡ b
-    same_read a b read one other = cc
-
-    by : (read : Result (Document VoteSection (Value VoteValue)) ReadRefusal)
-        → document_of vote_tables (length bytes) (items_from start max_vote bytes) ≡ read
-        → with_facts bytes (finish kept_with none_kept read) ≡ Ok (vote, after) → IsInRangeButForLimits vote.says
-    by (Err refusal) got e = absurd (cc (e))
-    by (Ok document) got e =
-        let contents = items_from start max_vote bytes in
-        let groups = document.groups in
-        let stand = stand_in_order vote_tables kinds_are_clear.votes.sound (length bytes) contents document got in
-        let has = subst HasAuthority (sym stand.are) (authority_there stand.parts stand.in_order) in
-        let kept = fold (λ k (g : VoteGroup). kept_with k g.section g.taken) none_kept groups in
-        let all =
-        groups_kept bytes are items (all_sound start max_vote bytes) none_kept groups
-        (are_said vote_tables (length bytes) contents document got) stand.begin (nothing_kept bytes groups has) in
-        let some =
-        some_kept none_kept groups
-        (none_some groups (few_entries (length bytes) contents document got)
-        (keys_apart (length bytes) contents document got)) in
-        let found : ReadVote × ℕ = (vote_in bytes kept, document.used) in
-        subst (λ (read_ : ReadVote × ℕ). IsInRangeButForLimits read_.0.says)
-        (same_read found (vote, after) (Ok found) refl e)
-        (facts_ranged bytes are kept all.head (none_left bytes kept.head all.authority) all.entries
-        (entries_ranged bytes kept.entries all.entries some))
+    let placed = placed_read start bytes vote after is in
+    let rest = drop start bytes in
+    let own = own_read rest vote placed.0 placed.1 in
+    own_in_range (take placed.0 rest) vote (bytes_take placed.0 rest (bytes_drop start bytes are)) own.1
 
 pub vote_within : VotesWithinLimitsAreInRange
 vote_within facts is within = record {

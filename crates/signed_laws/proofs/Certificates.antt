@@ -1,6 +1,6 @@
 -- Of each certificate that is read the covered text is that of all its items but the last one's object.
 use Rattle.std.proofs.Common.{◌≡◌, ℕ, ◌≤◌, Bool, true, false, List, [], ◌∷◌, ◌++◌, length, Result, Ok, Err}
-use Rattle.std.proofs.Common.{None, Some, refl, sym, ap, subst, ◌∙◌, arith, inl, inr, append_assoc, append-nil}
+use Rattle.std.proofs.Common.{refl, sym, ap, subst, ◌∙◌, arith, inl, inr, append_assoc, append-nil}
 use Rattle.std.specs.Prelude.{◌||◌, map, replicate}
 use Rattle.std.proofs.lemmas.Option.{none-some}
 use Rattle.item_terms.specs.Items.{Item, items_of}
@@ -24,7 +24,7 @@ use Rattle.table_laws.specs.Order.{AreInOrder, Part, sections_of}
 use Rattle.table_laws.specs.Passing.{EndsWith}
 use Rattle.document_laws.specs.Documents.{AreParts, EndsSo, IsDocument}
 use Rattle.document_laws.specs.Parts.{AreBetween, AreOthers, IsPart}
-use Rattle.kind_laws.proofs.ClearKinds.{kinds_are_exact}
+use Rattle.vote_kinds.proofs.ClearVotes.{vote_kinds_are_exact}
 use Rattle.signed_laws.specs.Signed.{CertificatesCoverTheirItems, IsOfCovered, IsCertificateOfItems}
 use Rattle.signed_laws.proofs.Covered.{covered_is}
 use Rattle.signed_laws.proofs.KeywordTexts.{item_at-first, item_at-last, text_as}
@@ -196,7 +196,7 @@ module _ (bytes : List ℕ) where
   by_read cert end (Err refusal) e is = absurd (cc (is))
   by_read cert end (Ok document) e is =
       by_document document cert end
-      ((kinds_are_exact.certificates (length bytes) (items_of max_cert bytes) document).0 e) is
+      ((vote_kinds_are_exact.certificates (length bytes) (items_of max_cert bytes) document).0 e) is
 
 pub certificates_cover_their_items : CertificatesCoverTheirItems
 certificates_cover_their_items bytes cert used e =

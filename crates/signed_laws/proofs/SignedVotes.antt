@@ -1,10 +1,12 @@
 -- The signed text of each vote that is read.
 use Rattle.std.proofs.Common.{◌≡◌, ℕ, ◌+◌, ◌-◌, ◌≤◌, ◌<◌, ◌^◌, List, [], ◌∷◌, ◌++◌, length, Result, Ok, Err, refl, sym, ap}
-use Rattle.std.proofs.Common.{subst, ◌∙◌, arith, append_assoc}
+use Rattle.std.proofs.Common.{subst, ◌∙◌, arith, append_assoc, drop, take, length-drop}
 use Rattle.std.specs.Prelude.{codes, min, slice_range}
-use Rattle.item_terms.specs.Items.{Item, items_from}
+use Rattle.sha1.specs.Sha1.{sha1}
+use Rattle.item_terms.specs.Items.{Item, items_of}
 use Rattle.frame_terms.specs.declared.fault.ReadRefusal.{ReadRefusal}
 use Rattle.frame_terms.specs.Documents.{document_of, finish}
+use Rattle.authority_certs.specs.Certs.{cert_in}
 use Rattle.authority_certs.specs.declared.head.CertHead.{CertHead}
 use Rattle.vote_frame.specs.Tables.{vote_tables}
 use Rattle.vote_terms.specs.Votes.{ReadVote}
@@ -13,13 +15,14 @@ use Rattle.vote_doc.specs.declared.kept.Kept.{Kept}
 use Rattle.vote_doc.specs.Facts.{vote_in}
 use Rattle.vote_doc.specs.Kept.{kept_with, none_kept}
 use Rattle.vote_doc.specs.Reading.{max_vote, with_facts}
+use Rattle.vote_parts.proofs.OwnVotes.{placed_read}
 use Rattle.table_laws.proofs.Rules.{Holds}
-use Rattle.signed_laws.specs.Signed.{HasCertificate, IsVoteOfItems, VotesSignTheirItems}
+use Rattle.signed_laws.specs.Signed.{HasCertificate, IsOfCovered, IsVoteOfItems, VotesSignTheirItems}
 use Rattle.signed_laws.specs.Texts.{text_before, text_through}
 use Rattle.signed_laws.proofs.Covered.{covered_is}
 use Rattle.signed_laws.proofs.Lines.{Follow, StandsFrom, items_follow}
 use Rattle.signed_laws.proofs.Pairs.{parts_are}
-use Rattle.signed_laws.proofs.Slices.{among, begins_before, slices, spaced}
+use Rattle.signed_laws.proofs.Slices.{among, begins_before, cut_off, slices, spaced}
 use Rattle.signed_laws.proofs.VoteParts.{HasCert, HasEnd, HasSignature}
 use Rattle.signed_laws.proofs.VoteWalk.{D, keep}
 use Rattle.signed_laws.proofs.Votes.{IsWhole, all_walks}
@@ -28,9 +31,13 @@ use Rattle.signed_laws.proofs.Votes.{IsWhole, all_walks}
 not_cut : (n size : ℕ) → n ≤ size → size < 2 ^ 62 → min n (2 ^ 64 - 1) ≡ n
 not_cut n size le short = omega (arith, le, short)
 
-module _ (start : ℕ) (bytes : List ℕ) (short : length bytes < 2 ^ 62) (kept : Kept) (used : ℕ) where
+module _ (bytes : List ℕ) (short : length bytes < 2 ^ 62) (kept : Kept) (used : ℕ) where
   abbrev items : List Item
-  items = (items_from start max_vote bytes).items
+  items = (items_of max_vote bytes).items
+
+  -- the vote's own part
+  abbrev own : List ℕ
+  own = take used bytes
 
   abbrev head : Head
   head = kept.head
@@ -59,8 +66,8 @@ module _ (start : ℕ) (bytes : List ℕ) (short : length bytes < 2 ^ 62) (kept 
         ∙ sym (append_assoc cert.before (cert.first ∷ (end.inside ++ end.last ∷ signature.between))
         (last ∷ signature.left))
 
-    all_follow : Follow bytes start (first ∷ others)
-    all_follow = subst (λ (l : List Item). Follow bytes start l) come (items_follow start max_vote bytes)
+    all_follow : Follow bytes 0 (first ∷ others)
+    all_follow = subst (λ (l : List Item). Follow bytes 0 l) come (items_follow 0 max_vote bytes)
 
     cert_follows : StandsFrom bytes first.after cert.first × Follow bytes cert.first.after cert.others
     cert_follows =
@@ -85,7 +92,7 @@ module _ (start : ℕ) (bytes : List ℕ) (short : length bytes < 2 ^ 62) (kept 
     in_order =
         omega (
           arith,
-          begins_before bytes start first all_follow.0,
+          begins_before bytes 0 first all_follow.0,
           cert_follows.0.later,
           cert_in_order,
           begins_before bytes cert.first.after end.last end_follows.0,
@@ -142,7 +149,51 @@ module _ (start : ℕ) (bytes : List ℕ) (short : length bytes < 2 ^ 62) (kept 
       certifies = end.certifies;
     }
 
-    vote_is : IsVoteOfItems start bytes (vote_in bytes kept) used
+    covered_is_ : IsOfCovered bytes cert.first end.last (cert_in bytes head.certificate).covered
+    covered_is_ =
+        covered_is bytes cert.first.after cert.first end.last head.certificate end_follows.0 cert_in_order
+        (ap (λ (c : CertHead). c.begin) signature.keeps.certificate_is ∙ end.begin_is)
+        (ap (λ (c : CertHead). c.covered_end) signature.keeps.certificate_is ∙ end.covered_end)
+
+    -- ---- what stands in its own part
+
+    begins_within : head.begin ≤ last.place
+    begins_within = omega (arith, signature.keeps.begin_is, in_order)
+
+    ends_last : last.place ≤ last.after
+    ends_last = begins_before bytes end.last.after last last_follows.0
+
+    ends_within : last.after ≤ used
+    ends_within = omega (arith, signature.ends)
+
+    own_whole : slice_range own head.begin head.end ≡ slice_range bytes head.begin head.end
+    own_whole =
+        cut_off bytes used head.begin head.end
+        (omega (arith, begins_within, ends_last, ends_within)) (omega (arith, signature.keeps.end, ends_within))
+
+    own_signed : slice_range own head.begin head.signed_end ≡ slice_range bytes head.begin head.signed_end
+    own_signed =
+        cut_off bytes used head.begin head.signed_end
+        (omega (arith, begins_within, ends_last, ends_within))
+        (omega (arith, signature.keeps.signed_end ∙ not_cut place (length bytes) spaces.1 short, spaces.2, ends_within))
+
+    -- a part of the certificate up to a place within it
+    own_cert : (until : ℕ) → until ≤ end.last.after
+        → slice_range own head.certificate.begin until ≡ slice_range bytes head.certificate.begin until
+    own_cert until within =
+        cut_off bytes used head.certificate.begin until
+        (omega (
+          arith,
+          ap (λ (c : CertHead). c.begin) signature.keeps.certificate_is ∙ end.begin_is,
+          cert_in_order,
+          begins_before bytes cert.first.after end.last end_follows.0,
+          last_follows.0.later,
+          ends_last,
+          ends_within,
+        ))
+        (omega (arith, within, last_follows.0.later, ends_last, ends_within))
+
+    vote_is : IsVoteOfItems bytes (vote_in own kept) used
     vote_is = record {
       first = first;
       between = between;
@@ -152,36 +203,53 @@ module _ (start : ℕ) (bytes : List ℕ) (short : length bytes < 2 ^ 62) (kept 
       begins = begins;
       signs = signature.signs;
       ends = sym signature.ends;
-      whole = whole_is;
-      signed = signed_is;
+      whole = own_whole ∙ whole_is;
+      signed = own_signed ∙ signed_is;
       rest = slice_range bytes place last.after;
-      stands = begins_so;
+      stands = own_whole ∙ begins_so ∙ ap (λ (l : List ℕ). l ++ slice_range bytes place last.after) (sym own_signed);
       certificate = certificate_has;
       certificate_bytes =
-          ap (λ (c : CertHead). slice_range bytes c.begin c.end) signature.keeps.certificate_is
+          own_cert head.certificate.end
+          (omega (arith, ap (λ (c : CertHead). c.end) signature.keeps.certificate_is ∙ end.end))
+          ∙ ap (λ (c : CertHead). slice_range bytes c.begin c.end) signature.keeps.certificate_is
           ∙ ap (λ (n : ℕ). slice_range bytes n end.head.end) end.begin_is
           ∙ ap (λ (n : ℕ). slice_range bytes cert.first.place n) end.end;
-      covered = covered_is bytes cert.first.after cert.first end.last head.certificate end_follows.0 cert_in_order
-          (ap (λ (c : CertHead). c.begin) signature.keeps.certificate_is ∙ end.begin_is)
-          (ap (λ (c : CertHead). c.covered_end) signature.keeps.certificate_is ∙ end.covered_end);
+      covered = record {
+        line = covered_is_.line;
+        is_line = covered_is_.is_line;
+        covered =
+            ap sha1 (own_cert head.certificate.covered_end
+            (omega (
+              arith,
+              ap (λ (c : CertHead). c.covered_end) signature.keeps.certificate_is ∙ end.covered_end,
+              end_follows.0.until,
+            )))
+            ∙ covered_is_.covered;
+      };
     }
 
-module _ (start : ℕ) (bytes : List ℕ) (short : length bytes < 2 ^ 62) (vote : ReadVote) (after : ℕ) where
+module _ (bytes : List ℕ) (short : length bytes < 2 ^ 62) (vote : ReadVote) (after : ℕ) where
   by_read : (read : Result D ReadRefusal)
-      → Holds (λ document. IsWhole (length bytes) (items_from start max_vote bytes).fault
-      (items_from start max_vote bytes).items document) read
-      → with_facts bytes (finish kept_with none_kept read) ≡ Ok (vote, after) → IsVoteOfItems start bytes vote after
+      → Holds (λ document. IsWhole (length bytes) (items_of max_vote bytes).fault
+      (items_of max_vote bytes).items document) read
+      → with_facts bytes (finish kept_with none_kept read) ≡ Ok (vote, after) → IsVoteOfItems bytes vote after
   by_read (Err refusal) is e = absurd (cc (e))
   by_read (Ok document) is e =
       let kept = keep none_kept document.groups in
-      let found : IsVoteOfItems start bytes (vote_in bytes kept) document.used =
-      vote_is start bytes short kept document.used is.first is.others is.come is.begins is.rest in
-      let parts = parts_are (vote_in bytes kept) vote document.used after e in
-      subst (λ (n : ℕ). IsVoteOfItems start bytes vote n) parts.1
-      (subst (λ (v : ReadVote). IsVoteOfItems start bytes v document.used) parts.0 found)
+      let own = vote_in (take document.used bytes) kept in
+      let found : IsVoteOfItems bytes own document.used =
+      vote_is bytes short kept document.used is.first is.others is.come is.begins is.rest in
+      let parts = parts_are own vote document.used after e in
+      subst (λ (n : ℕ). IsVoteOfItems bytes vote n) parts.1
+      (subst (λ (v : ReadVote). IsVoteOfItems bytes v document.used) parts.0 found)
 
 pub votes_sign_their_items : VotesSignTheirItems
 votes_sign_their_items start bytes vote after short e =
-    by_read start bytes short vote after
-    (document_of vote_tables (length bytes) (items_from start max_vote bytes))
-    (all_walks (length bytes) (items_from start max_vote bytes).fault (items_from start max_vote bytes).items) e
+    let placed = placed_read start bytes vote after e in
+    let rest = drop start bytes in
+    let items = items_of max_vote rest in (
+      placed.0,
+      placed.2,
+      by_read rest (omega (arith, length-drop start bytes, short)) vote placed.0
+          (document_of vote_tables (length rest) items) (all_walks (length rest) items.fault items.items) placed.1,
+    )

@@ -3,7 +3,7 @@ use Rattle.std.proofs.Common.{◌≡◌, ℕ, ◌+◌, ◌-◌, ◌≤◌, List,
 use Rattle.std.proofs.Common.{arith, append_assoc}
 use Rattle.std.specs.Prelude.{slice_range}
 use Rattle.std.specs.List.{slice_get}
-use Rattle.std.proofs.lemmas.List.{drop-drop, length-append, length-drop, take-append-drop, take_at}
+use Rattle.std.proofs.lemmas.List.{drop-drop, drop-take, length-append, length-drop, take-append-drop, take-take, take_at}
 use Rattle.std.proofs.Math.Seq.{take-add}
 use Rattle.item_terms.specs.Items.{Item}
 use Rattle.item_terms.specs.Words as word
@@ -22,6 +22,15 @@ slices bytes from middle until first second =
     sym (ap (λ (n : ℕ). take n (drop from bytes)) parts
     ∙ take-add (middle - from) (until - middle) (drop from bytes)
     ∙ ap (λ (l : List ℕ). slice_range bytes from middle ++ take (until - middle) l) there)
+
+-- a text that ends before bytes are cut off
+pub cut_off : (bytes : List ℕ) (used from until : ℕ) → from ≤ used → until ≤ used
+    → slice_range (take used bytes) from until ≡ slice_range bytes from until
+cut_off bytes used from until begins ends =
+    let parts : used ≡ from + (used - from) = omega (arith, begins) in
+    ap (λ (n : ℕ). take (until - from) (drop from (take n bytes))) parts
+    ∙ ap (take (until - from)) (drop-take from (used - from) bytes)
+    ∙ take-take (until - from) (used - from) (drop from bytes) (omega (arith, ends))
 
 -- what stands at a place
 pub slice_of : (bytes : List ℕ) (from until : ℕ) (text rest : List ℕ) → drop from bytes ≡ text ++ rest

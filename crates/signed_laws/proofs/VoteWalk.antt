@@ -28,7 +28,7 @@ use Rattle.frame_laws.proofs.Steps.{opening}
 use Rattle.table_laws.proofs.Makes.{Makes}
 use Rattle.table_laws.proofs.Placing.{IsNotEnded, not_ended_more}
 use Rattle.table_laws.proofs.Rules.{Holds, alone, behind}
-use Rattle.kind_laws.proofs.ClearKinds.{kinds_are_clear}
+use Rattle.vote_kinds.proofs.ClearVotes.{vote_kinds_are_clear}
 use Rattle.table_laws.proofs.Ways.{IsEnding, IsEntering, IsOpening, LacksOpener, LaterMay}
 use Rattle.signed_laws.proofs.Pushes.{BeginsNone}
 use Rattle.signed_laws.proofs.VoteSections.{NextIs, V, begins_certificate, never_stops, next_is}
@@ -106,7 +106,7 @@ pub record IsOpen (section : VoteSection) (first : Taken V) (taken : List (Taken
 
 pub none_lacks : LacksOpener vote_tables → ⊥
 none_lacks lacks =
-    let once = kinds_are_clear.votes.sound.opener_once lacks.section in
+    let once = vote_kinds_are_clear.votes.sound.opener_once lacks.section in
     none-some once.row (sym lacks.has_none ∙ once.has_row)
 
 -- no section is open around one that another follows

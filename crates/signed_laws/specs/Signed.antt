@@ -1,8 +1,8 @@
 -- What is signed of each document that is read, in words (dir-spec, "Creating key certificates", "Vote and consensus
 -- status document formats").
-use Rattle.std.specs.Prelude.{◌≡◌, ◌≢◌, ℕ, ◌<◌, ◌^◌, List, ◌∷◌, ◌++◌, length, All, Ok, codes}
+use Rattle.std.specs.Prelude.{◌≡◌, ◌≢◌, ℕ, ◌+◌, ◌<◌, ◌^◌, List, ◌∷◌, ◌++◌, drop, length, All, Ok, codes}
 use Rattle.sha1.specs.Sha1.{sha1}
-use Rattle.item_terms.specs.Items.{Item, items_from, items_of}
+use Rattle.item_terms.specs.Items.{Item, items_of}
 use Rattle.dir_values.specs.declared.digest.Digest1.{Digest1}
 use Rattle.authority_certs.specs.declared.cert.Cert.{Cert}
 use Rattle.authority_certs.specs.Reading.{cert_of, max_cert}
@@ -58,19 +58,19 @@ pub record HasCertificate (items : List Item) : Type 0 where
   pub none_inside : NoneHas (codes "dir-key-certification") inside
   pub certifies : last.keyword ≡ codes "dir-key-certification"
 
--- The vote that begins at a place of the bytes: its first item is the first one from there on, and its last one, with
--- which it ends, is its signature. What is signed is the text of all items before the last, the word
+-- The vote that the bytes begin with: its first item is the first one there is, and its last one, with which it ends, is
+-- its signature. What is signed is the text of all items before the last, the word
 -- `directory-signature` and one space; so begins the text of all items. Of its certificate the vote has all bytes, and the
 -- digest of what is covered.
-pub record IsVoteOfItems (start : ℕ) (bytes : List ℕ) (vote : ReadVote) (after : ℕ) : Type 0 where
+pub record IsVoteOfItems (bytes : List ℕ) (vote : ReadVote) (used : ℕ) : Type 0 where
   pub first : Item
   pub between : List Item
   pub last : Item
   pub left : List Item
-  pub come : (items_from start max_vote bytes).items ≡ first ∷ (between ++ last ∷ left)
+  pub come : (items_of max_vote bytes).items ≡ first ∷ (between ++ last ∷ left)
   pub begins : first.keyword ≡ codes "network-status-version"
   pub signs : last.keyword ≡ codes "directory-signature"
-  pub ends : last.after ≡ after
+  pub ends : last.after ≡ used
   pub whole : vote.whole ≡ text_through bytes first last
   pub signed : vote.signed ≡ text_before bytes first last ++ codes "directory-signature "
   pub rest : List ℕ
@@ -80,8 +80,9 @@ pub record IsVoteOfItems (start : ℕ) (bytes : List ℕ) (vote : ReadVote) (aft
   pub covered : IsOfCovered bytes certificate.first certificate.last vote.says.certificate.covered
 
 -- Of each vote that is read, in an input of fewer than 2 ^ 62 bytes, `signed` is the text of all items before its
--- signature, the word `directory-signature` and one space.
+-- signature, the word `directory-signature` and one space: the items are those from its place on.
 abbrev pub VotesSignTheirItems : Type 0
 VotesSignTheirItems =
     (start : ℕ) (bytes : List ℕ) (vote : ReadVote) (after : ℕ) → length bytes < 2 ^ 62
-    → vote_from start bytes ≡ Ok (vote, after) → IsVoteOfItems start bytes vote after
+    → vote_from start bytes ≡ Ok (vote, after)
+    → (used : ℕ) × (after ≡ start + used) × IsVoteOfItems (drop start bytes) vote used

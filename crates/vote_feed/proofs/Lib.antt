@@ -1,8 +1,6 @@
 pub mod Going
 pub mod LastItem
 pub mod Opening
-pub mod NoDocs
-pub mod VoteEnds
 pub mod Votes
 pub mod Feeding
 pub mod BlankLines

@@ -1,7 +1,7 @@
 -- What is known of a vote whose bytes arrive.
 use Rattle.std.proofs.Common.{◌≡◌, ◌∙◌, ℕ, ◌+◌, ◌-◌, ◌≤◌, ◌⊎◌, false, List, [], ◌∷◌, ◌++◌, length, take, drop}
 use Rattle.std.proofs.Common.{append_assoc, Option, Some, None, Result, Ok, Err, refl, sym, ap, subst, inl, inr, arith}
-use Rattle.std.proofs.lemmas.List.{append-nil, length-append, length-take-le, take-append-drop}
+use Rattle.std.proofs.lemmas.List.{append-nil, length-append, length-take-le, take-append-drop, take_all}
 use Rattle.std.proofs.Math.Seq.{take-append-add}
 use Rattle.item_terms.specs.Items.{Contents, also, contents, nothing}
 use Rattle.item_terms.specs.declared.fault.DocFault.{DocFault}
@@ -40,9 +40,9 @@ use Rattle.vote_feed.specs.declared.intake.Intake.TheVariants as intake
 use Rattle.vote_feed.proofs.Going as going
 use Rattle.vote_feed.proofs.Going.{Late, Left, ends_late, ends_within}
 use Rattle.vote_feed.proofs.LastItem.{last_item, whole_part}
-use Rattle.vote_feed.proofs.NoDocs.{votes_have_no_doc}
 use Rattle.vote_feed.proofs.Opening.{not_beyond, open_now}
-use Rattle.vote_feed.proofs.VoteEnds.{vote_ends}
+use Rattle.vote_kinds.proofs.NoDocVotes.{vote_kinds_have_no_doc}
+use Rattle.vote_parts.proofs.VoteEnds.{vote_ends}
 
 abbrev Begun : Type 0
 Begun = Open VoteSection (Value VoteValue)
@@ -143,7 +143,7 @@ all_comes bytes old new across open_ kept taken (inr is) so at_ same takes later
 pub is_open : (bytes : List ℕ) (cursor : Cursor) (across : Across) (open_ : Begun) (kept : Kept)
     → VoteWaits bytes cursor across open_ kept → IsOpen bytes
 is_open bytes cursor across open_ kept waits end is =
-    open_now kept_with none_kept vote_tables max_vote votes_have_no_doc bytes cursor across open_ kept waits end
+    open_now kept_with none_kept vote_tables max_vote vote_kinds_have_no_doc.votes bytes cursor across open_ kept waits end
     (λ more. sym (voted (bytes ++ more)) ∙ is more)
 
 pub is_short : (bytes : List ℕ) (cursor : Cursor) (across : Across) (open_ : Begun) (kept : Kept)
@@ -241,13 +241,15 @@ not_both bytes whole faulty = absurd (cc (sym (whole []) ∙ faulty.refused []))
 
 -- the vote of which this is kept is the one that the bytes are
 pub vote_kept : (taken bytes : List ℕ) (kept : Kept) (vote : ReadVote) (count : ℕ) → IsKeptOf taken kept
-    → bytes ≡ taken → vote ≡ vote_in bytes kept → count ≡ length bytes → ReadsVote 0 taken (Ok (vote, count))
+    → bytes ≡ taken → vote ≡ vote_in bytes kept → count ≡ length bytes → ReadsVote taken (Ok (vote, count))
 vote_kept taken bytes kept vote count is same says count_is =
-    let size : count ≡ length taken = count_is ∙ ap length same in (
+    let size : count ≡ length taken = count_is ∙ ap length same in
+    let whole : take (length taken) taken ≡ taken = take_all (length taken) taken (omega arith) in (
       ap (λ (d : Result (Kept × ℕ) ReadRefusal). with_facts taken d)
           (ap (λ (l : List ℕ).
           finish kept_with none_kept (document_of vote_tables (length l) (contents max_vote 0 nothing l)))
           (sym (append-nil taken)) ∙ is [])
+          ∙ ap (λ (l : List ℕ). Ok (vote_in l kept, length taken)) whole
           ∙ ap (λ (v : ReadVote). Ok (v, length taken)) (sym (says ∙ ap (λ (l : List ℕ). vote_in l kept) same))
           ∙ ap (λ (n : ℕ). Ok (vote, n)) (sym size),
       omega (arith, size),
@@ -260,7 +262,7 @@ no_vote (Err other) refusal e = cc e
 
 -- where bytes are refused whatever follows, they are when nothing does
 pub vote_refused : (bytes : List ℕ) (fault : FrameFault) → EndsSo bytes (Err (Frame fault))
-    → ReadsVote 0 bytes (Err (Frame fault))
+    → vote_of bytes ≡ Err (Frame fault)
 vote_refused bytes fault ends =
     no_vote (vote_of bytes) (Frame fault)
     (ap (λ (l : List ℕ). end_of (vote_of l)) (sym (append-nil bytes)) ∙ ends [])

@@ -175,7 +175,7 @@ impl VoteFeeder {
     /// # Errors
     /// `Frame` is the first fault of the vote, with its place. `Memory` is want of memory.
     pub fn finish(self) -> Result<(Vote, usize), ReadRefusal>
-        ensures { ReadsVote 0 self result }
+        ensures { ReadsVote self result }
     {
         match self.state {
             State::Going | State::Anew => read_vote(self.alloc, self.bytes, self.beside),

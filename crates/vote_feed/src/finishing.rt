@@ -38,12 +38,13 @@ pub(crate) fn whole_vote(
 ) -> Result<(Vote, usize), ReadRefusal>
     requires within { KeepsWithin max_vote bytes.items beside }
     requires whole { IsKeptOf (taken_of bytes.items beside) kept }
-    ensures { ReadsVote 0 (taken_of bytes.items beside) result }
+    ensures { ReadsVote (taken_of bytes.items beside) result }
 {
     let bytes = with_beside(bytes, beside)?;
     let bytes = Bytes::from_vec(bytes)?;
-    match vote_in(alloc, &bytes, kept) {
-        Ok(vote) => Ok((vote, bytes.len())),
+    let count = bytes.len();
+    match vote_in(alloc, bytes, kept) {
+        Ok(vote) => Ok((vote, count)),
         Err(_) => Err(ReadRefusal::Memory),
     }
 }
@@ -58,9 +59,9 @@ pub(crate) fn read_vote(
     beside: Option<u8>,
 ) -> Result<(Vote, usize), ReadRefusal>
     requires { KeepsWithin max_vote bytes.items beside }
-    ensures { ReadsVote 0 (taken_of bytes.items beside) result }
+    ensures { ReadsVote (taken_of bytes.items beside) result }
 {
     let bytes = with_beside(bytes, beside)?;
     let bytes = Bytes::from_vec(bytes)?;
-    read(alloc, &bytes, 0)
+    read(alloc, &bytes)
 }

@@ -1,7 +1,7 @@
 -- A vote that was written is read again.
 use Rattle.std.proofs.Common.{◌≡◌, ℕ, ◌+◌, ◌≤◌, false, None, List, [], ◌∷◌, ◌++◌, length, take, drop, refl, sym, ap}
 use Rattle.std.proofs.Common.{subst}
-use Rattle.std.proofs.Common.{◌∙◌, append_assoc}
+use Rattle.std.proofs.Common.{◌∙◌, append_assoc, arith}
 use Rattle.std.specs.Prelude.{◌&&◌, map}
 use Rattle.std.proofs.lemmas.List.{length-append, map-append}
 use Rattle.item_terms.specs.Words.{begins_dash}
@@ -40,7 +40,7 @@ use Rattle.group_laws.proofs.ListRows.{protocols_back, versions_back}
 use Rattle.vote_laws.proofs.VoteLists.{params_back}
 use Rattle.vote_laws.proofs.VotePlaces.{authority_place, certificate_place, entries_place, footer_place, vote_end}
 use Rattle.vote_laws.proofs.VotePlaces.{in_preamble, vote_kept}
-use Rattle.vote_laws.proofs.VoteRead.{among, begins_at, closed, used_of, vote_read}
+use Rattle.vote_laws.proofs.VoteRead.{among, begins_at, closed, text_vote, used_of, vote_read}
 use Rattle.vote_laws.proofs.VoteRows.{authority, authority_written, certificate_row, footer, footer_ended}
 use Rattle.vote_laws.proofs.VoteRows.{has_certificate, preamble, preamble_written, signature_row}
 use Rattle.vote_laws.proofs.VoteRandoms.{kept_random, random_said}
@@ -221,16 +221,13 @@ vote_fits front facts rest are =
 
 pub votes_again : VotesAreReadAgain
 votes_again front facts rest below are =
-    let at = length front in
-    let bytes = among front facts rest in
-    let vote = vote_in bytes (vote_kept at facts) in
-    let back : IsReadBack facts vote = record {
-      says = kept_says front facts rest are;
-      whole = kept_whole front facts rest;
-      signed = signed_is front facts rest below are (vote_fits front facts rest are);
+    let back : IsReadBack facts (text_vote facts) = record {
+      says = kept_says [] facts [] are;
+      whole = kept_whole [] facts [];
+      signed = signed_is [] facts [] (omega arith) are (vote_fits [] facts [] are);
       certificate_bytes =
           whole_is vote_tables Certificate kind.Certificate has_certificate
-          (certificate_place at facts) facts.certificate are.certificate.says
-          bytes (certificate_stands front facts rest);
+          (certificate_place 0 facts) facts.certificate are.certificate.says
+          (among [] facts []) (certificate_stands [] facts []);
     } in
-    (vote, vote_read front facts rest are, back)
+    (text_vote facts, vote_read front facts rest are, back)

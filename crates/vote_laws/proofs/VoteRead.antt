@@ -1,8 +1,8 @@
 -- A vote that was written is read: its document, and where it ends.
-use Rattle.std.proofs.Common.{◌≡◌, ℕ, ◌+◌, ◌≤◌, false, List, [], ◌∷◌, ◌++◌, length, Option, None, Some, Result, Ok}
+use Rattle.std.proofs.Common.{◌≡◌, ℕ, ◌+◌, ◌≤◌, false, List, [], ◌∷◌, ◌++◌, length, take, Option, None, Some, Result, Ok}
 use Rattle.std.proofs.Common.{refl, sym, ap, subst, ◌∙◌, append_assoc, append-nil, arith}
 use Rattle.std.specs.Prelude.{◌&&◌, map}
-use Rattle.std.proofs.lemmas.List.{drop_at}
+use Rattle.std.proofs.Math.Seq.{drop-append_seam, take-append_seam}
 use Rattle.item_terms.specs.Items.{Contents, Item, contents, nothing}
 use Rattle.item_terms.specs.Words.{begins_dash}
 use Rattle.item_terms.specs.declared.fault.DocFault.{DocFault}
@@ -38,9 +38,10 @@ use Rattle.vote_terms.specs.Votes.{ReadVote}
 use Rattle.vote_terms.specs.declared.facts.SignatureFacts.{SignatureFacts}
 use Rattle.vote_terms.specs.declared.facts.VoteFacts.{VoteFacts}
 use Rattle.vote_text.specs.Texts.{vote_items, vote_text}
+use Rattle.vote_doc.specs.Behind.{behind}
 use Rattle.vote_doc.specs.Facts.{vote_in}
 use Rattle.vote_doc.specs.Kept.{kept_with, none_kept}
-use Rattle.vote_doc.specs.Reading.{max_vote, vote_from, with_facts}
+use Rattle.vote_doc.specs.Reading.{max_vote, vote_from, vote_of, with_facts}
 use Rattle.vote_doc.specs.declared.kept.Kept.{Kept}
 use Rattle.vote_frame.specs.Across.{nothing_across}
 use Rattle.vote_frame.specs.Tables.{vote_tables}
@@ -239,29 +240,42 @@ abbrev read_as : List ℕ → Result VoteDocument ReadRefusal → Result (ReadVo
 read_as bytes document = with_facts bytes (finish kept_with none_kept document)
 
 abbrev answer : Kept → List ℕ → ℕ → Result (ReadVote × ℕ) ReadRefusal
-answer kept bytes end = Ok (vote_in bytes kept, end)
+answer kept bytes end = Ok (vote_in (take end bytes) kept, end)
 
 -- a vote's text behind some bytes, and in front of others
 abbrev pub among : List ℕ → VoteFacts → List ℕ → List ℕ
 among front facts rest = front ++ (vote_text facts ++ rest)
 
--- a vote that was written is read, whatever stands before and behind it, and ends where its text ends
+-- the vote that a text is
+abbrev pub text_vote : VoteFacts → ReadVote
+text_vote facts = vote_in (among [] facts []) (vote_kept 0 facts)
+
+-- a vote that was written is read, whatever stands behind it, and ends where its text ends
+text_read : (facts : VoteFacts) (rest : List ℕ) → IsInRange facts
+    → vote_of (vote_text facts ++ rest) ≡ Ok (text_vote facts, length (vote_text facts))
+text_read facts rest are =
+    let text = vote_text facts in
+    let bytes = among [] facts rest in
+    let items = vote_items facts in
+    let limit = 0 + max_vote in
+    let after = contents limit (0 + length (items_text items)) nothing rest in
+    let own : take (length text) (text ++ rest) ≡ text ++ [] = take-append_seam text rest ∙ sym (append-nil text) in
+    let end : 0 + length text ≡ length text = omega arith in
+    ap (λ (c : Contents). read_as bytes (document_of vote_tables (length bytes) c))
+    (items_again limit 0 items rest (written_behind 0 max_vote items are.items) (closed facts rest))
+    ∙ ap (λ (l : List NewItem). read_as bytes
+    (document_of vote_tables (length bytes) (in_front (all_written 0 l) after))) (vote_same facts)
+    ∙ ap (λ (d : Result VoteDocument ReadRefusal). read_as bytes d)
+    (document_read (length bytes) 0 facts after.fault after.items are)
+    ∙ ap (λ (k : Kept). answer k bytes (vote_end 0 facts)) (all_kept 0 facts are)
+    ∙ ap (λ (k : ℕ). answer (vote_kept 0 facts) bytes k) (used_of 0 facts)
+    ∙ ap (λ (k : ℕ). answer (vote_kept 0 facts) bytes k) end
+    ∙ ap (λ (l : List ℕ). Ok (vote_in l (vote_kept 0 facts), length text)) own
+
+-- and whatever stands before it
 pub vote_read : (front : List ℕ) (facts : VoteFacts) (rest : List ℕ) → IsInRange facts
     → vote_from (length front) (among front facts rest)
-    ≡ Ok (vote_in (among front facts rest) (vote_kept (length front) facts), length front + length (vote_text facts))
+    ≡ Ok (text_vote facts, length front + length (vote_text facts))
 vote_read front facts rest are =
-    let at = length front in
-    let bytes = among front facts rest in
-    let items = vote_items facts in
-    let limit = at + max_vote in
-    let after = contents limit (at + length (items_text items)) nothing rest in
-    ap (λ (l : List ℕ). read_as bytes (document_of vote_tables (length bytes) (contents limit at nothing l)))
-    (drop_at front (vote_text facts ++ rest) (length front) refl)
-    ∙ ap (λ (c : Contents). read_as bytes (document_of vote_tables (length bytes) c))
-    (items_again limit at items rest (written_behind at max_vote items are.items) (closed facts rest))
-    ∙ ap (λ (l : List NewItem). read_as bytes
-    (document_of vote_tables (length bytes) (in_front (all_written at l) after))) (vote_same facts)
-    ∙ ap (λ (d : Result VoteDocument ReadRefusal). read_as bytes d)
-    (document_read (length bytes) at facts after.fault after.items are)
-    ∙ ap (λ (k : Kept). answer k bytes (vote_end at facts)) (all_kept at facts are)
-    ∙ ap (λ (k : ℕ). answer (vote_kept at facts) bytes k) (used_of at facts)
+    ap (λ (l : List ℕ). behind (length front) (vote_of l)) (drop-append_seam front (vote_text facts ++ rest))
+    ∙ ap (behind (length front)) (text_read facts rest are)

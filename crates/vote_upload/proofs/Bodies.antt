@@ -1,6 +1,6 @@
 -- What is known of the body of an upload, as a vote, whatever follows.
 use Rattle.std.proofs.Common.{◌≡◌, ◌∙◌, ℕ, ◌+◌, ◌<◌, ◌^◌, Bool, true, false, List, [], ◌++◌, length, take, drop}
-use Rattle.std.proofs.Common.{Result, Ok, Err, refl, sym, ap, subst, arith, append_assoc, append-nil, length-append}
+use Rattle.std.proofs.Common.{Result, Ok, Err, sym, ap, subst, append_assoc, append-nil}
 use Rattle.std.proofs.lemmas.List.{take-append-drop}
 use Rattle.item_terms.specs.Lines.{lines}
 use Rattle.frame_terms.specs.declared.fault.FrameFault.{FrameFault}
@@ -13,7 +13,7 @@ use Rattle.vote_feed.specs.Blanks.{blank_of}
 use Rattle.vote_feed.specs.declared.fed.Fed.{Fed}
 use Rattle.vote_feed.specs.declared.fed.Fed.TheVariants as fed
 use Rattle.vote_feed.specs.Feeding.{EndsSo, Feeds, IsOpen, IsWhole, are_blank_lines, end_of}
-use Rattle.whole_votes.proofs.WholeVotes.{whole_stand}
+use Rattle.whole_votes.proofs.WholeVotes.{whole_stay}
 use Rattle.ended_votes.proofs.EndedVotes.{open_are_none}
 use Rattle.blank_lines.specs.Blanks.{after_blanks}
 use Rattle.vote_upload.specs.Bodies.{BeginsWith, IsVoteOf}
@@ -30,7 +30,7 @@ end_or other (Ok end) = end
 end_or other (Err refusal) = other
 
 -- what is read of whole bytes is their vote
-pub vote_of_whole : (bytes : List ℕ) (vote : ReadVote) (end : ℕ) → IsWhole bytes → ReadsVote 0 bytes (Ok (vote, end))
+pub vote_of_whole : (bytes : List ℕ) (vote : ReadVote) (end : ℕ) → IsWhole bytes → ReadsVote bytes (Ok (vote, end))
     → IsVoteOf bytes vote
 vote_of_whole bytes vote end whole reads =
     let ends : end_of (Ok (vote, end)) ≡ Ok (length bytes) =
@@ -39,9 +39,9 @@ vote_of_whole bytes vote end whole reads =
 
 -- and no fault
 pub never_refused : (bytes : List ℕ) (result : Result (ReadVote × ℕ) ReadRefusal) (refusal : ReadRefusal)
-    (fault : FrameFault) → result ≡ Err refusal → refusal ≡ Frame fault → IsWhole bytes → ReadsVote 0 bytes result → ⊥
+    (fault : FrameFault) → result ≡ Err refusal → refusal ≡ Frame fault → IsWhole bytes → ReadsVote bytes result → ⊥
 never_refused bytes result refusal fault is same whole reads =
-    let refused = subst (λ (r : Result (ReadVote × ℕ) ReadRefusal). ReadsVote 0 bytes r)
+    let refused = subst (λ (r : Result (ReadVote × ℕ) ReadRefusal). ReadsVote bytes r)
     (is ∙ ap (λ (e : ReadRefusal). Err e) same) reads in
     let ends : Err (Frame fault) ≡ Ok (length bytes) =
     sym (ap end_of refused) ∙ end_there bytes (Ok (length bytes)) whole in
@@ -129,14 +129,13 @@ module _ (bytes : List ℕ) (vote : ReadVote) (behind : Blank) (blank : Bool) (b
   found_whole short is =
       let own = begins.own in
       let rest = begins.rest in
-      let size = ap (λ (l : List ℕ). length l) begins.parts in
       let all = sym (says rest begins.blank) ∙ is in
       record {
         used = length own;
         reads =
             ap vote_of begins.parts
-            ∙ whole_stand [] own rest vote (omega (arith, length-append own rest, size, short)) begins.whole begins.is
-            ∙ ap (λ (k : ℕ). Ok (vote, k)) (omega arith);
+            ∙ whole_stay own rest begins.whole
+            ∙ begins.is;
         alone =
             ap (after_blanks (length own)) begins.parts ∙ lines_behind own rest
             ∙ none_other (length own) (lines rest) all;

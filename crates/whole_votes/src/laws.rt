@@ -1,5 +1,16 @@
 // What holds of the bytes of a vote inside an input.
-ghost use Rattle.whole_votes.specs.Whole.{FaultyVotesStand, WholeVotesStand};
+ghost use Rattle.whole_votes.specs.Whole.{FaultyVotesStand, VotesMove, WholeVotesStand, WholeVotesStay};
+
+/// A law: a vote that stands behind other bytes is the one that it is alone, and ends so many bytes later; and so does
+/// its first fault stand.
+pub fn votes_move()
+    ensures { VotesMove }
+{}
+
+/// A law: bytes that are a whole vote are that vote, whatever follows them.
+pub fn whole_votes_stay()
+    ensures { WholeVotesStay }
+{}
 
 /// A law: bytes that are a whole vote are that vote, wherever they stand in an input, and whatever follows them.
 pub fn whole_votes_stand()

@@ -1,3 +1,0 @@
-pub mod MovedRows
-pub mod MovedMakes
-pub mod MovedReading
