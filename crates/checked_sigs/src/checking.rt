@@ -1,5 +1,6 @@
 // Checking detached signatures.
 ghost use Rattle.std.specs.Prelude.{◌≡◌, ◌≤◌, ◌<◌, ◌^◌, Err, IfOk, IfErr, IfSome, OnOk, Some, length, option_map};
+ghost use Rattle.sha1.specs.Sha1.{sha1};
 ghost use Rattle.dir_bytes.specs.Causes.{Rose};
 ghost use Rattle.key_port.specs.Answers.{rules};
 ghost use Rattle.period_terms.specs.Advances.{algorithm_of};
@@ -34,6 +35,7 @@ fn wanted_of<'a>(
     ensures offered { option_map (λ wanted. offer_of detached.now.valid_after wanted.flavour wanted.digest.now wanted.key.now line.now.line) result ≡ offered_by view.now detached.now line.now }
     ensures short { IfSome result (λ wanted. length wanted.digest.now ≤ 52) }
     ensures algorithm { IfSome result (λ wanted. line.now.line.algorithm ≡ algorithm_of wanted.flavour) }
+    ensures named { IfSome result (λ wanted. line.now.line.key_digest.0 ≡ sha1 wanted.key.now) }
 {
     let Some(flavour) = flavour_of(line) else {
         return None;
@@ -64,6 +66,7 @@ fn ask<V: Verifier>(
 ) -> Result<Option<CheckedSig<V>>, SigRefusal>
     requires short { length wanted.now.digest.now ≤ 52 }
     requires algorithm { line.now.algorithm ≡ algorithm_of wanted.now.flavour }
+    requires named { line.now.key_digest.0 ≡ sha1 wanted.now.key.now }
     ensures judged { IfOk result (λ checked. IsJudged (rules V.may_accept V.may_refuse) V.steps (offer_of valid_after wanted.now.flavour wanted.now.digest.now wanted.now.key.now line.now) checked verifier.old verifier.new) }
     ensures refused { IfErr result (λ refusal. FailsLine V.steps (Some (offer_of valid_after wanted.now.flavour wanted.now.digest.now wanted.now.key.now line.now)) refusal verifier.old verifier.new) }
     ensures fault { IfErr result (λ refusal. refusal ≡ SigRefusal.VerifierFault → Rose (V.faults verifier.old) (V.faults verifier.new)) }

@@ -1,5 +1,6 @@
 // What a line of detached signatures is over, and whose key it names.
-ghost use Rattle.std.specs.Prelude.{◌≡◌, ◌≤◌, IfSome, length, option_map};
+ghost use Rattle.std.specs.Prelude.{◌≡◌, ◌≤◌, IfSome, length, option_map, true};
+ghost use Rattle.sha1.specs.Sha1.{sha1};
 ghost use Rattle.std.specs.List.{find};
 ghost use Rattle.detached_sigs.specs.Signers.{is_line_of};
 ghost use Rattle.period_terms.specs.Advances.{algorithm_of};
@@ -69,14 +70,16 @@ pub(crate) fn digest_over(detached: &Detached, flavour: Flavour) -> Option<&[u8]
 
 /// Whether a line names a key's authority and the digest of its bytes.
 fn is_line(key: &SignerKey, line: &SignatureLine) -> bool
-    ensures { result ≡ is_line_of key.now line.now }
+    ensures value { result ≡ is_line_of key.now line.now }
+    ensures named { result ≡ true → line.now.key_digest.0 ≡ sha1 key.now.key }
 {
     line.identity.is_same(&key.authority) && line.key_digest.0 == Sha1::digest(key.key.as_bytes())
 }
 
 /// The first key that a line names.
 pub(crate) fn key_of<'a>(keys: &'a [SignerKey], line: &SignatureLine) -> Option<&'a SignerKey>
-    ensures { option_map (λ key. key.now) result ≡ asking.key_of keys.now line.now }
+    ensures key { option_map (λ key. key.now) result ≡ asking.key_of keys.now line.now }
+    ensures named { IfSome result (λ key. line.now.key_digest.0 ≡ sha1 key.now.key) }
 {
     'keys: for key in keys {
         if is_line(key, line) {

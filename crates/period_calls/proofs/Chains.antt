@@ -1,10 +1,9 @@
 -- What comes one after the other.
 use Rattle.std.proofs.Common.{◌≡◌, ℕ, ◌+◌, List, [], ◌∷◌, ◌++◌, length, drop, refl, ap, subst, ◌∙◌, append_assoc, arith}
-use Rattle.std.proofs.Common.{true}
 use Rattle.std.proofs.lemmas.List.{append-nil}
 use Rattle.key_port.specs.Answers.{Relation, Rules}
-use Rattle.key_port.specs.declared.verifier.KeyKind.TheVariants as key_kind
 use Rattle.vote_terms.specs.Votes.{ReadVote}
+use Rattle.vote_terms.specs.Acceptable.{IsVerified}
 use Rattle.period_terms.specs.declared.answer.Answer.{Answer}
 use Rattle.period_terms.specs.declared.answer.Answer.TheVariants as kinds
 use Rattle.period_terms.specs.declared.answer.Offer.{Offer}
@@ -17,6 +16,7 @@ use Rattle.period_terms.specs.declared.state.State.{State}
 use Rattle.period_terms.specs.Offers as offers
 use Rattle.period_terms.specs.SignIns as sign_ins
 use Rattle.period_terms.specs.Steps.{step}
+use Rattle.period_laws.specs.Checked.{IsAcceptedAs}
 use Rattle.period_core.specs.Signing.{Advances}
 use Rattle.period_calls.specs.declared.coming.Coming.TheVariants as variants
 use Rattle.period_calls.specs.Calls.{Arrival, TakesOne, TakesAll}
@@ -24,12 +24,13 @@ use Rattle.period_calls.specs.Calls.{Arrival, TakesOne, TakesAll}
 -- ---- one thing that comes
 
 pub takes_vote : (may_give : Relation) (rules : Rules) (old new : State) (one : Arrival) (vote : ReadVote) (via : Via)
-    (now : ℕ) (answer : Offer) → one ≡ variants.Vote vote via now → answer ≡ (offers.offer old vote via now).answer
+    (now : ℕ) (answer : Offer) → one ≡ variants.Vote vote via now → IsVerified rules vote
+    → answer ≡ (offers.offer old vote via now).answer
     → new ≡ (offers.offer old vote via now).after → TakesOne may_give rules old one (kinds.Vote answer) new
-takes_vote may_give rules old new one vote via now answer is answered after = rw is (record {
+takes_vote may_give rules old new one vote via now answer is verified answered after = rw is (record {
   event = Offered vote via now;
   is = refl;
-  checked = tt;
+  checked = verified;
   answered = ap kinds.Vote answered;
   after = after;
 })
@@ -47,7 +48,7 @@ takes_moment may_give rules old new one now answer is advances = rw is (record {
 
 pub takes_signature : (may_give : Relation) (rules : Rules) (old new : State) (one : Arrival)
     (signature : OfferedSignature) (answer : SignIn) → one ≡ variants.Signature signature
-    → rules.may_accept key_kind.Signing signature.key signature.digest signature.signature ≡ true
+    → IsAcceptedAs rules signature
     → answer ≡ (sign_ins.sign_in old signature).answer → new ≡ (sign_ins.sign_in old signature).after
     → TakesOne may_give rules old one (kinds.Signature answer) new
 takes_signature may_give rules old new one signature answer is accepted answered after = rw is (record {

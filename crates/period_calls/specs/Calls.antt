@@ -10,7 +10,7 @@ use Rattle.period_terms.specs.declared.signature.OfferedSignature.{OfferedSignat
 use Rattle.period_terms.specs.declared.state.State.{State}
 use Rattle.period_terms.specs.Histories.{run}
 use Rattle.period_terms.specs.Steps.{step}
-use Rattle.period_laws.specs.Periods.{IsChecked, AreChecked}
+use Rattle.period_laws.specs.Checked.{IsChecked, AreChecked}
 use Rattle.period_calls.specs.declared.coming.Coming.{Coming}
 use Rattle.period_calls.specs.declared.coming.Coming.TheVariants.{Vote, Moment, Signature}
 

@@ -24,17 +24,22 @@ pub fn take<N: Signer, V: Verifier>(
     signer: &mut N,
     verifier: &mut V,
 ) -> Result<Answer, Memory>
-    ensures step { IfOk result (λ answer. TakesOne N.may_give (rules V.may_accept V.may_refuse) station.old coming answer station.new) }
+    ensures step { IfOk result
+        (λ answer. TakesOne N.may_give (rules V.may_accept V.may_refuse) station.old coming answer station.new) }
     ensures err { OnErr result (station.new ≡ station.old) }
 {
     match coming {
-        Coming::Vote { vote, via, now } => Ok(Answer::Vote(station.offer(vote, via, now))),
+        Coming::Vote { vote, via, now } => {
+            let _ = vote.vote();
+            Ok(Answer::Vote(station.offer(vote, via, now)))
+        }
         Coming::Moment { now } => match station.advance(alloc, now, signer, verifier) {
             Ok(answer) => Ok(Answer::Moment(answer)),
             Err(fault) => Err(fault),
         },
         Coming::Signature { signature } => {
             let _ = signature.signature();
+            let _ = signature.key_digest();
             Ok(Answer::Signature(station.sign_in(signature)))
         }
     }

@@ -1,16 +1,11 @@
 -- What signatures of a period are checked against.
 use Rattle.std.specs.Prelude.{map, Option, option_map}
-use Rattle.vote_terms.specs.Votes.{ReadVote}
 use Rattle.consensus_terms.specs.declared.consensus.Consensus.{Consensus}
 use Rattle.consensus_terms.specs.declared.flavour.Flavour.TheVariants.{Ns, Microdesc}
-use Rattle.detached_sigs.specs.declared.key.SignerKey.{SignerKey}
 use Rattle.period_terms.specs.declared.state.State.{State}
 use Rattle.period_terms.specs.States.{digest_of}
+pub use Rattle.signature_terms.specs.Keys.{signer_key}
 use Rattle.signature_terms.specs.declared.view.PeriodView.{PeriodView}
-
--- the signing key of a held vote
-abbrev pub signer_key : ReadVote → SignerKey
-signer_key vote = record { authority = vote.says.identity; key = vote.says.certificate.signing_key }
 
 -- what signatures over a consensus are checked against
 abbrev pub view_over : State → Consensus → PeriodView

@@ -1,6 +1,6 @@
 -- What is held, and what is computed, told from the accepted votes.
 use Rattle.std.proofs.Common.{◌≡◌, ℕ, Bool, true, false, cond, List, [], ◌∷◌, ◌++◌, length, Option, Some, None, refl}
-use Rattle.std.proofs.Common.{sym, ap, ◌∙◌, subst, ⊎_elim}
+use Rattle.std.proofs.Common.{sym, ap, ◌∙◌, subst, ⊎_elim, append-nil}
 use Rattle.std.specs.Prelude.{Contains}
 use Rattle.std.proofs.lemmas.Bool.{false≢true}
 use Rattle.dir_values.specs.declared.digest.Fingerprint.{Fingerprint}
@@ -48,8 +48,7 @@ is_set Ended = true
 
 -- what is held and computed is that of these votes
 record Stands (roster : List Fingerprint) (acc : List ReadVote) (members : List Fingerprint) (votes : List ReadVote)
-    (valid_after : ℕ)
-    (stage : Stage) (computed : Option Consensus) : Type 0 where
+    (valid_after : ℕ) (stage : Stage) (computed : Option Consensus) : Type 0 where
   roster_is : members ≡ roster
   votes_is : votes ≡ held acc
   wanted : (v : ReadVote) → In v acc → (v.says.valid_after ≡ valid_after) × (has_member roster v.says.identity ≡ true)
@@ -58,10 +57,6 @@ record Stands (roster : List Fingerprint) (acc : List ReadVote) (members : List 
 
 abbrev StandsAt : List Fingerprint → List ReadVote → State → Type 0
 StandsAt roster acc s = Stands roster acc s.roster s.votes s.valid_after s.stage s.computed
-
-nil_end : (l : List ReadVote) → l ++ [] ≡ l
-nil_end [] = refl
-nil_end (v ∷ l) = ap (λ (m : List ReadVote). v ∷ m) (nil_end l)
 
 -- ---- votes
 
@@ -123,14 +118,13 @@ abbrev with_answer : List ReadVote → ReadVote → Bool → List ReadVote
 with_answer acc v passed = acc ++ cond passed (v ∷ []) []
 
 vote_stands : (roster : List Fingerprint) (acc : List ReadVote) (s : State) (v : ReadVote) (o : Outcome Offer)
-    → Offering s v o
-    → StandsAt roster acc s → StandsAt roster (with_answer acc v (accepts o.answer)) o.after
+    → Offering s v o → StandsAt roster acc s → StandsAt roster (with_answer acc v (accepts o.answer)) o.after
 vote_stands roster acc s v o row k =
     let P : Outcome Offer → Type 0 = λ x. StandsAt roster (with_answer acc v (accepts x.answer)) x.after in
     elim row [
       | refused answer e q a ↦ subst P (sym e)
           (subst (λ (b : Bool). StandsAt roster (with_answer acc v b) s) (sym a)
-          (subst (λ (l : List ReadVote). StandsAt roster l s) (sym (nil_end acc)) k))
+          (subst (λ (l : List ReadVote). StandsAt roster l s) (sym (append-nil acc)) k))
       | had answer h p m f n e q a ↦ subst P (sym e)
           (subst (λ (b : Bool). StandsAt roster (with_answer acc v b) s) (sym a) (had_stands roster acc s v h p m f n
           k))
@@ -227,8 +221,7 @@ line_stands Ns line roster acc s k = k
 line_stands Microdesc line roster acc s k = k
 
 signature_stands : (roster : List Fingerprint) (acc : List ReadVote) (s : State) (signature : OfferedSignature)
-    (o : Outcome SignIn) → SigningIn s signature o
-    → StandsAt roster acc s → StandsAt roster acc o.after
+    (o : Outcome SignIn) → SigningIn s signature o → StandsAt roster acc s → StandsAt roster acc o.after
 signature_stands roster acc s signature o row k = elim row [
   | refuses answer e q ↦ subst (λ (x : Outcome SignIn). StandsAt roster acc x.after) (sym e) k
   | keeps c p is d key n open_it e ↦ subst (λ (x : Outcome SignIn). StandsAt roster acc x.after) (sym e)
@@ -269,6 +262,10 @@ after_all start events begin = run_stands events start.roster [] start (start_st
 
 -- ---- the laws
 
+-- the roster is that of the start
+pub roster_stays : (start : State) (events : List Event) → IsStart start → (run start events).roster ≡ start.roster
+roster_stays start events begin = (after_all start events begin).roster_is
+
 pub are_held : HeldAreHeld
 are_held start events begin = (after_all start events begin).votes_is
 
@@ -297,7 +294,6 @@ one_text one other events others alike apart =
       votes = are_held one events alike.first ∙ same ∙ sym (are_held other others alike.second);
       texts = λ c d e f flavour. ap (λ (x : Consensus). unsigned flavour x)
           (of_accepted one events alike.first c e ∙ ap (λ (x : List Fingerprint). consensus (length x) (held l))
-          alike.roster
-          ∙ ap (λ (x : List ReadVote). consensus (length other.roster) x) same
+          alike.roster ∙ ap (λ (x : List ReadVote). consensus (length other.roster) x) same
           ∙ sym (of_accepted other others alike.second d f));
     }

@@ -10,7 +10,14 @@ pub mod Accepted
 pub mod Leading
 pub mod Told
 pub mod Signers
+pub mod LinesTold
 pub mod Given
 pub mod Keeping
 pub mod Storing
 pub mod Standing
+pub mod Verified
+pub mod Backed
+pub mod SigningKeys
+pub mod Counted
+pub mod Publishing
+pub mod Currents

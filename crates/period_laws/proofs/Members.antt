@@ -96,7 +96,7 @@ module _ {X : Type 0} where
   -- ---- counts
 
   -- those that pass, from the front on
-  abbrev tally : (X → Bool) → List X → ℕ
+  abbrev pub tally : (X → Bool) → List X → ℕ
   tally p [] = 0
   tally p (x ∷ xs) = cond (p x) 1 0 + tally p xs
 
@@ -104,7 +104,7 @@ module _ {X : Type 0} where
   summed p [] n = omega arith
   summed p (x ∷ xs) n = summed p xs (n + cond (p x) 1 0) ∙ omega arith
 
-  count_is : (p : X → Bool) (xs : List X) → count_by p xs ≡ tally p xs
+  pub count_is : (p : X → Bool) (xs : List X) → count_by p xs ≡ tally p xs
   count_is p xs = summed p xs 0 ∙ omega arith
 
   -- two tests of one member, or no more passes of both than members

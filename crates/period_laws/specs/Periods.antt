@@ -135,19 +135,22 @@ SignedIsPublished = (state : State) (now : ℕ) (given : Signing) (c : Consensus
 
 -- ---- signatures
 
--- What comes was checked before: a signature was accepted, and what the signer gave was accepted or refused.
-abbrev pub IsChecked : Relation → Rules → State → Event → Type 0
-IsChecked may_give rules state (Offered vote via now) = Unit {0}
-IsChecked may_give rules state (Advanced now given) = MayGiveAt may_give rules state given
-IsChecked may_give rules state (SignedIn signature) =
-    rules.may_accept key_kind.Signing signature.key signature.digest signature.signature ≡ true
-IsChecked may_give rules state Read = Unit {0}
+-- Each thing that comes has a fact, in the state to which it comes.
+abbrev pub Along : (State → Event → Type 0) → State → List Event → Type 0
+Along Fact state [] = Unit {0}
+Along Fact state (event ∷ events) = Fact state event × Along Fact (step state event).after events
 
--- all that comes was
-abbrev pub AreChecked : Relation → Rules → State → List Event → Type 0
-AreChecked may_give rules state [] = Unit {0}
-AreChecked may_give rules state (event ∷ events) =
-    IsChecked may_give rules state event × AreChecked may_give rules (step state event).after events
+-- What comes is signed well: a signature was accepted, and what the signer gave was accepted or refused.
+abbrev pub IsSignedWell : Relation → Rules → State → Event → Type 0
+IsSignedWell may_give rules state (Offered vote via now) = Unit {0}
+IsSignedWell may_give rules state (Advanced now given) = MayGiveAt may_give rules state given
+IsSignedWell may_give rules state (SignedIn signature) =
+    rules.may_accept key_kind.Signing signature.key signature.digest signature.signature ≡ true
+IsSignedWell may_give rules state Read = Unit {0}
+
+-- all that comes is
+abbrev pub AreSignedWell : Relation → Rules → State → List Event → Type 0
+AreSignedWell may_give rules state events = Along (IsSignedWell may_give rules) state events
 
 -- The signature may be accepted over the digest of what is computed, by the key of its authority's held vote.
 pub record IsAccepted (may_accept : Relation) (state : State) (flavour : Flavour) (line : SignatureLine) : Type 0 where
@@ -159,10 +162,10 @@ pub record IsAccepted (may_accept : Relation) (state : State) (flavour : Flavour
   pub accepted :
       may_accept key_kind.Signing vote.says.certificate.signing_key (digest_of flavour c) line.signature ≡ true
 
--- Whatever came that was checked, each signature that is held is so.
+-- Whatever came that is signed well, each signature that is held is so.
 abbrev pub LinesAreAccepted : Type 0
 LinesAreAccepted = (may_give : Relation) (rules : Rules) (start : State) (events : List Event) → IsStart start
-    → AreChecked may_give rules start events
+    → AreSignedWell may_give rules start events
     → (flavour : Flavour) (line : SignatureLine) → Contains (lines_of flavour (run start events)) line
     → IsAccepted rules.may_accept (run start events) flavour line
 

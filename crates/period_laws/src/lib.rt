@@ -2,6 +2,7 @@
 #![tactic(auto)]
 
 mod chances;
+mod checked;
 mod kept;
 mod short_forms;
 mod stations;
@@ -10,6 +11,10 @@ mod worlds;
 
 pub use chances::{
     first_votes_are_kept, greater_votes_replace, majorities_compute, signatures_are_kept,
+};
+pub use checked::{
+    accepted_are_acceptable, checked_goes_on, currents_were_published, history_runs,
+    signers_are_counted,
 };
 pub use kept::{changes_tell, steps_keep_it};
 pub use short_forms::{base_is_last_begin, forms_are_stored};

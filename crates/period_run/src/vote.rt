@@ -38,7 +38,7 @@ fn signed_vote(alloc: Global, authority: &Authority, part: &str) -> Result<Vote>
     if bytes.len() > 100_000 {
         bail!("the vote is long");
     }
-    match read(alloc, &bytes, 0) {
+    match read(alloc, &bytes) {
         Ok((vote, _)) => Ok(vote),
         Err(_) => bail!("no vote"),
     }

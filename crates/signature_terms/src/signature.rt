@@ -1,5 +1,6 @@
 // A signature that was checked.
 ghost use Rattle.std.specs.Prelude.{◌≡◌, ◌≤◌, IfOk, length, true};
+ghost use Rattle.sha1.specs.Sha1.{sha1};
 ghost use Rattle.key_port.specs.declared.verifier.KeyKind.TheVariants as kind;
 ghost use Rattle.period_terms.specs.Advances.{algorithm_of};
 ghost use Rattle.period_terms.specs.SignIns.{line_of};
@@ -13,7 +14,7 @@ use period_terms::ShortBytes;
 use std::alloc::Global;
 use std::marker::{Model, PhantomData};
 
-/// A signature that a verifier may accept, by a key over a digest.
+/// A signature that a verifier may accept over a digest, by the key whose digest it names.
 #[derive(Drop)]
 pub struct CheckedSig<V: Verifier> {
     line: SignatureLine,
@@ -26,15 +27,25 @@ pub struct CheckedSig<V: Verifier> {
 
 impl<V: Verifier> Model for CheckedSig<V> {
     ghost use Rattle.std.specs.Prelude.{◌≡◌, true};
+    ghost use Rattle.sha1.specs.Sha1.{sha1};
     ghost use Rattle.key_port.specs.declared.verifier.KeyKind.TheVariants as kind;
     ghost use Rattle.period_terms.specs.Advances.{algorithm_of};
     ghost use Rattle.period_terms.specs.declared.signature.OfferedSignature.{OfferedSignature};
 
     ghost Value = { OfferedSignature };
 
-    ghost view = { λ s. record { authority = s.line.identity; key = s.key; key_digest = s.line.key_digest; flavour = s.flavour; valid_after = s.valid_after; digest = s.digest; signature = s.line.signature } };
+    ghost view = { λ s. record {
+      authority = s.line.identity;
+      key = s.key;
+      key_digest = s.line.key_digest;
+      flavour = s.flavour;
+      valid_after = s.valid_after;
+      digest = s.digest;
+      signature = s.line.signature;
+    } };
 
-    ghost invariant = { λ s. (V.may_accept kind.Signing s.key s.digest s.line.signature ≡ true) × (s.line.algorithm ≡ algorithm_of s.flavour) };
+    ghost invariant = { λ s. (V.may_accept kind.Signing s.key s.digest s.line.signature ≡ true)
+        × (s.line.algorithm ≡ algorithm_of s.flavour) × (s.line.key_digest.0 ≡ sha1 s.key) };
 }
 
 /// A copy of a line.
@@ -50,7 +61,7 @@ fn copy_of(alloc: Global, line: &SignatureLine) -> Result<SignatureLine, Memory>
 }
 
 impl<V: Verifier> CheckedSig<V> {
-    /// A signature over this digest of a flavour that the verifier may accept by this key.
+    /// A signature over this digest of a flavour that the verifier may accept by this key, whose digest the line names.
     ///
     /// # Errors
     /// `Memory` is want of memory.
@@ -64,6 +75,7 @@ impl<V: Verifier> CheckedSig<V> {
     ) -> Result<CheckedSig<V>, Memory>
         requires short { length digest.now ≤ 52 }
         requires algorithm { line.now.algorithm ≡ algorithm_of flavour }
+        requires named { line.now.key_digest.0 ≡ sha1 key.now }
         requires accepted { V.may_accept kind.Signing key.now digest.now line.now.signature ≡ true }
         ensures { IfOk result (λ sig. sig ≡ offered valid_after flavour digest.now key.now line.now) }
     {
@@ -93,7 +105,8 @@ impl<V: Verifier> CheckedSig<V> {
 
     /// The digest of that key.
     pub fn key_digest(&self) -> Digest1
-        ensures { result ≡ self.now.key_digest }
+        ensures value { result ≡ self.now.key_digest }
+        ensures named { self.now.key_digest.0 ≡ sha1 self.now.key }
     {
         self.line.key_digest
     }
@@ -127,11 +140,12 @@ impl<V: Verifier> CheckedSig<V> {
         self.line.signature.as_bytes()
     }
 
-    /// The line, and the digest that was signed: a signature that the verifier may accept.
+    /// The line, and the digest that was signed: a signature that the verifier may accept by the key that the line names.
     pub fn into_parts(self) -> (SignatureLine, ShortBytes)
         ensures line { result.0 ≡ line_of self }
         ensures digest { result.1 ≡ self.digest }
         ensures accepted { V.may_accept kind.Signing self.key self.digest self.signature ≡ true }
+        ensures named { self.key_digest.0 ≡ sha1 self.key }
     {
         (self.line, self.digest)
     }
