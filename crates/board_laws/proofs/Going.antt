@@ -1,6 +1,7 @@
 -- A pass goes on by each event and each reading.
-use Rattle.std.proofs.Common.{◌≡◌, ℕ, List, [], ◌++◌, Option, refl, sym, ap, ◌∙◌, subst, append_assoc, append-nil}
+use Rattle.std.proofs.Common.{◌≡◌, List, [], ◌++◌, Option, refl, sym, ap, ◌∙◌, subst, append_assoc, append-nil}
 use mathlib.Core.List.{IsPrefix}
+use Rattle.key_port.specs.Answers.{Rules}
 use Rattle.descriptor_doc.specs.declared.descriptor.Descriptor.{Descriptor}
 use Rattle.vote_pool.specs.declared.answers.Keep.{Keep}
 use Rattle.vote_pool.specs.Pools.{Pooled}
@@ -68,30 +69,32 @@ goes_on a b c g h = record {
   pool = on_there a.pool b.pool c.pool g.pool h.pool;
 }
 
-module _ (board : Locks) (a b : Parts) where
+module _ (rules : Rules) (board : Locks) (a b : Parts) where
   -- by an event at the station
-  pub goes_makes : (event : Event) (answer : Answer) → Makes board a b event answer → Goes a b
+  pub goes_makes : (event : Event) (answer : Answer) → Makes rules board a b event answer → Goes a b
   goes_makes event answer makes = record {
     station = event_there _ _ _ _ event board.station a.station b.station answer makes.takes;
     pool = is_there a.pool b.pool makes.pool;
   }
 
   -- by a reading of the station
-  pub goes_sees : {A : Type 0} (right : State → A → Type 0) (answer : A) → Sees board a b right answer → Goes a b
+  pub goes_sees : {A : Type 0} (right : State → A → Type 0) (answer : A) → Sees rules board a b right answer
+      → Goes a b
   goes_sees right answer sees = record {
     station = reading_there _ _ right board.station a.station b.station answer sees.takes;
     pool = is_there a.pool b.pool sees.pool;
   }
 
   -- by a descriptor that is kept, or not
-  pub goes_stores : (descriptor : Descriptor) (answer : Keep) → Stores board a b descriptor answer → Goes a b
+  pub goes_stores : (descriptor : Descriptor) (answer : Keep) → Stores rules board a b descriptor answer → Goes a b
   goes_stores descriptor answer stores = record {
     station = is_there a.station b.station stores.station;
     pool = event_there _ _ _ _ descriptor board.pool a.pool b.pool answer stores.takes;
   }
 
   -- by a reading of the pool
-  pub goes_looks : {A : Type 0} (right : Pooled → A → Type 0) (answer : A) → Looks board a b right answer → Goes a b
+  pub goes_looks : {A : Type 0} (right : Pooled → A → Type 0) (answer : A) → Looks rules board a b right answer
+      → Goes a b
   goes_looks right answer looks = record {
     station = is_there a.station b.station looks.station;
     pool = reading_there _ _ right board.pool a.pool b.pool answer looks.takes;

@@ -1,9 +1,10 @@
 -- The numbers of changes.
 use Rattle.std.proofs.Common.{◌≡◌, ℕ, ◌+◌, ◌==◌, nat_le, Bool, true, false, not, cond, List, [], ◌∷◌, ◌++◌, length}
 use Rattle.std.proofs.Common.{Option, Some, None, bytes_eq}
-use Rattle.dir_values.specs.Rosters.{has_member}
 use Rattle.std.proofs.Common.{refl, sym, ap, ◌∙◌, subst, arith, option_to_list, length-append}
 use Rattle.std.proofs.lemmas.List.{length-map}
+use Rattle.key_port.specs.Answers.{Rules}
+use Rattle.dir_values.specs.Rosters.{has_member}
 use Rattle.vote_terms.specs.Votes.{ReadVote, rank_of}
 use Rattle.vote_terms.specs.Held.{outranks}
 use Rattle.consensus_terms.specs.declared.consensus.Consensus.{Consensus}
@@ -26,6 +27,7 @@ use Rattle.period_terms.specs.Offers.{offer, compared, keeping, is_late, with_vo
 use Rattle.period_terms.specs.SignIns.{sign_in, sign_in_over, keep_signature}
 use Rattle.period_terms.specs.States.{Outcome, unchanged, vote_of, digest_of, has_key, has_line, lines_of, is_ended}
 use Rattle.period_terms.specs.Steps.{step}
+use Rattle.period_laws.specs.Checked.{IsCheckedHistory}
 use Rattle.period_laws.proofs.Leading as leading
 use Rattle.board_terms.specs.Boards.{IsNumber, answer_at, position_of_offer, position_of_sign_in}
 use Rattle.board_terms.specs.Turns.{TakesEvent}
@@ -151,8 +153,8 @@ sign_in_in (Moment answer) = signs.Have
 sign_in_in (Signature answer) = answer
 sign_in_in Reading = signs.Have
 
-module _ (event : Event) (lock : Lock State) (before then : Knowledge State Entry) (answer : Answer)
-    (takes : TakesEvent after IsHistory answer_at entry_if event lock before then answer) where
+module _ (rules : Rules) (event : Event) (lock : Lock State) (before then : Knowledge State Entry) (answer : Answer)
+    (takes : TakesEvent after (IsCheckedHistory rules) answer_at entry_if event lock before then answer) where
   -- what was found before the event
   abbrev found : State
   found = after lock.start (entries takes.story)
@@ -167,7 +169,7 @@ module _ (event : Event) (lock : Lock State) (before then : Knowledge State Entr
   found_front =
       leading.front lock.start (entries takes.story)
       (history_before (entries takes.story) lock.start (option_to_list (entry_if event answer))
-      (subst (λ (l : List Entry). IsHistory lock.start l) whole takes.is_story))
+      (subst (λ (l : List Entry). IsHistory lock.start l) whole takes.is_story.is))
 
   -- and the entry, if there is one, is seen besides
   all_seen : length then.seen ≡ length (entries takes.story) + length (option_to_list (entry_if event answer))
@@ -175,26 +177,29 @@ module _ (event : Event) (lock : Lock State) (before then : Knowledge State Entr
       sym (length-map then.seen (λ (x : ℕ × Entry). x.1)) ∙ ap (λ (l : List Entry). length l) whole
       ∙ length-append (entries takes.story) (option_to_list (entry_if event answer))
 
-module _ (lock : Lock State) (before then : Knowledge State Entry) where
+module _ (rules : Rules) (lock : Lock State) (before then : Knowledge State Entry) where
   pub offer_number : (vote : ReadVote) (via : Via) (now : ℕ) (answer : Offer)
-      → TakesEvent after IsHistory answer_at entry_if (Offered vote via now) lock before then (Vote answer)
+      → TakesEvent after (IsCheckedHistory rules) answer_at entry_if (Offered vote via now) lock before then
+      (Vote answer)
       → IsNumber (lock.start.front + length then.seen) (position_of_offer answer)
   offer_number vote via now answer takes =
       let event : Event = Offered vote via now in
-      let s : State = found event lock before then (Vote answer) takes in
+      let s : State = found rules event lock before then (Vote answer) takes in
       offer_place lock.start.front s.front (length (entries takes.story)) (length then.seen) event answer
       (subst (λ (a : Offer). IsNext s.front (position_of_offer a)) (sym (ap offer_in takes.answer_is))
       (of_offer s vote via now))
-      (found_front event lock before then (Vote answer) takes) (all_seen event lock before then (Vote answer) takes)
+      (found_front rules event lock before then (Vote answer) takes)
+      (all_seen rules event lock before then (Vote answer) takes)
 
   pub sign_in_number : (signature : OfferedSignature) (answer : SignIn)
-      → TakesEvent after IsHistory answer_at entry_if (SignedIn signature) lock before then (Signature answer)
+      → TakesEvent after (IsCheckedHistory rules) answer_at entry_if (SignedIn signature) lock before then
+      (Signature answer)
       → IsNumber (lock.start.front + length then.seen) (position_of_sign_in answer)
   sign_in_number signature answer takes =
       let event : Event = SignedIn signature in
-      let s : State = found event lock before then (Signature answer) takes in
+      let s : State = found rules event lock before then (Signature answer) takes in
       sign_in_place lock.start.front s.front (length (entries takes.story)) (length then.seen) event answer
       (subst (λ (a : SignIn). IsNext s.front (position_of_sign_in a)) (sym (ap sign_in_in takes.answer_is))
       (of_sign_in s signature))
-      (found_front event lock before then (Signature answer) takes)
-      (all_seen event lock before then (Signature answer) takes)
+      (found_front rules event lock before then (Signature answer) takes)
+      (all_seen rules event lock before then (Signature answer) takes)

@@ -19,8 +19,9 @@ use Rattle.period_terms.specs.declared.event.Event.TheVariants.{Advanced}
 use Rattle.period_terms.specs.declared.event.Signing.{Signing}
 use Rattle.period_terms.specs.declared.state.State.{State}
 use Rattle.period_terms.specs.Advances.{MayGiveAt}
-use Rattle.period_terms.specs.Histories.{IsHistory, after, entry_if}
+use Rattle.period_terms.specs.Histories.{after, entry_if}
 use Rattle.period_terms.specs.Steps.{step}
+use Rattle.period_laws.specs.Checked.{IsCheckedHistory}
 use Rattle.board_terms.specs.Stocks.{stock_after, AreKept, kept_if}
 use Rattle.board_terms.specs.Turns.{Stands, TakesEvent, TakesReading, AnswersThere}
 
@@ -39,8 +40,9 @@ abbrev pub answer_at : State → Event → Answer
 answer_at state event = (step state event).answer
 
 -- what an event finds at a station, and that its entry may come there
-abbrev pub StepsThere : Event → State → List Entry → Answer → Type 0
-StepsThere event start story answer = AnswersThere after IsHistory answer_at entry_if event start story answer
+abbrev pub StepsThere : Rules → Event → State → List Entry → Answer → Type 0
+StepsThere rules event start story answer =
+    AnswersThere after (IsCheckedHistory rules) answer_at entry_if event start story answer
 
 -- The pass is of the board.
 pub record IsAt (board : Locks) (pass : Parts) : Type 0 where
@@ -56,37 +58,41 @@ pub record IsPair (station : Lock State) (pool : Lock Pooled) (pass : Parts) : T
 abbrev pub IsNew : Locks → Parts → Type 0
 IsNew board pass = IsPair board.station board.pool pass
 
-module _ (board : Locks) (before then : Parts) where
-  -- One event of the pass at the station's lock: the answer is that of the station after one list.
+module _ (rules : Rules) (board : Locks) (before then : Parts) where
+  -- One event of the pass at the station's lock: the answer is that of the station after one list, whose events were
+  -- checked before they came, as this was.
   pub record Makes (event : Event) (answer : Answer) : Type 0 where
-    pub takes : TakesEvent after IsHistory answer_at entry_if event board.station before.station then.station answer
+    pub takes :
+        TakesEvent after (IsCheckedHistory rules) answer_at entry_if event board.station before.station then.station
+        answer
     pub pool : then.pool ≡ before.pool
 
   -- One reading of the pass at the station's lock.
   pub record Sees {A : Type 0} (right : State → A → Type 0) (answer : A) : Type 0 where
-    pub takes : TakesReading after IsHistory right board.station before.station then.station answer
+    pub takes : TakesReading after (IsCheckedHistory rules) right board.station before.station then.station answer
     pub pool : then.pool ≡ before.pool
 
   -- One advance: an event with something that the signer may give there.
-  pub record Moves (may_give : Relation) (rules : Rules) (now : ℕ) (answer : Advance) : Type 0 where
+  pub record Moves (may_give : Relation) (now : ℕ) (answer : Advance) : Type 0 where
     pub given : Signing
     pub makes : Makes (Advanced now given) (Moment answer)
     pub may : MayGiveAt may_give rules (after board.station.start (entries makes.takes.story)) given
 
   -- An advance, or there was no memory and nothing was changed.
-  abbrev pub Advances : Relation → Rules → ℕ → Result Advance Memory → Type 0
-  Advances may_give rules now (Ok answer) = Moves may_give rules now answer
-  Advances may_give rules now (Err fault) = Sees (λ state answer. Unit {0}) fault
+  abbrev pub Advances : Relation → ℕ → Result Advance Memory → Type 0
+  Advances may_give now (Ok answer) = Moves may_give now answer
+  Advances may_give now (Err fault) = Sees (λ state answer. Unit {0}) fault
 
-  -- One descriptor that is kept, or not: the answer is that of the pool after one list.
+  -- One descriptor that is kept, or not: the answer is that of the pool after one list, whose descriptors were checked
+  -- before they came, as this was.
   pub record Stores (descriptor : Descriptor) (answer : Keep) : Type 0 where
     pub takes :
-        TakesEvent stock_after AreKept answer_to kept_if descriptor board.pool before.pool then.pool answer
+        TakesEvent stock_after (AreKept rules) answer_to kept_if descriptor board.pool before.pool then.pool answer
     pub station : then.station ≡ before.station
 
   -- One reading of the pass at the pool's lock.
   pub record Looks {A : Type 0} (right : Pooled → A → Type 0) (answer : A) : Type 0 where
-    pub takes : TakesReading stock_after AreKept right board.pool before.pool then.pool answer
+    pub takes : TakesReading stock_after (AreKept rules) right board.pool before.pool then.pool answer
     pub station : then.station ≡ before.station
 
 -- the number of the change that an offered vote made
@@ -120,7 +126,7 @@ abbrev pub IsPlace : Locks → Parts → Option ℕ → Type 0
 IsPlace board then position = IsNumber (board.station.start.front + length then.station.seen) position
 
 -- What a closed board leaves: the station and the pool each stand for one list, which begins with what each pass has
--- seen, and whose entries are those of the passes, each once.
-pub record Leaves (board : Locks) (passes : List Parts) (left : State) (kept : Pooled) : Type 0 where
-  pub station : EndsIn (Stands after IsHistory) board.station (map (λ p. p.station) passes) left
-  pub pool : EndsIn (Stands stock_after AreKept) board.pool (map (λ p. p.pool) passes) kept
+-- seen, and whose entries are those of the passes, each once; each event and each descriptor was checked before it came.
+pub record Leaves (rules : Rules) (board : Locks) (passes : List Parts) (left : State) (kept : Pooled) : Type 0 where
+  pub station : EndsIn (Stands after (IsCheckedHistory rules)) board.station (map (λ p. p.station) passes) left
+  pub pool : EndsIn (Stands stock_after (AreKept rules)) board.pool (map (λ p. p.pool) passes) kept

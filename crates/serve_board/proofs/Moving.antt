@@ -13,8 +13,10 @@ use Rattle.period_terms.specs.declared.event.Event.TheVariants.{Advanced}
 use Rattle.period_terms.specs.declared.event.Signing.{Signing}
 use Rattle.period_terms.specs.declared.state.State.{State}
 use Rattle.period_terms.specs.Advances.{MayGiveAt, advance, given_told}
-use Rattle.period_terms.specs.Histories.{IsHistory, after, entry_if}
-use Rattle.period_terms.specs.States.{Outcome}
+use Rattle.period_terms.specs.Histories.{after, entry_if}
+use Rattle.period_laws.specs.Checked.{IsCheckedHistory}
+use Rattle.period_laws.proofs.Verified.{anyone_may}
+use Rattle.period_terms.specs.States.{Outcome, vote_of}
 use Rattle.period_laws.proofs.Given.{told}
 use Rattle.board_terms.specs.Boards as boards
 use Rattle.board_terms.specs.Boards.{Locks, Parts, answer_at}
@@ -40,36 +42,46 @@ same_comes old now given answer new a n =
     ap (λ (x : Signing). advance old now x) (told_is old now given answer new a n) ∙ told old now given
 
 module _ (may_give : Relation) (rules : Rules) (now : ℕ) where
+  -- what is told may be given
+  may_told : (value new : State) (answer : Advance) (step : Advances may_give rules value now answer new)
+      → MayGiveAt may_give rules value (given_told answer new)
+  may_told value new answer step =
+      subst (λ (g : Signing). MayGiveAt may_give rules value g)
+      (sym (told_is value now step.given answer new step.comes.0 step.comes.1))
+      (told_may may_give rules value now step.given step.may)
+
   -- an advance of a value is one of what it stands for
   pub moves_there : (value new start : State) (story : List Entry) (answer : Result Advance Memory)
-      → Stands after IsHistory value start story
+      → Stands after (IsCheckedHistory rules) value start story
       → IfOk answer (λ (a : Advance). Advances may_give rules value now a new)
       → MovesThere may_give rules now start story answer new
   moves_there value new start story (Ok answer) stands step = (
-    steps_there value start story (Advanced now (given_told answer new)) (Moment answer) stands
+    steps_there rules value start story (Advanced now (given_told answer new)) (Moment answer) stands
+        (anyone_may may_give rules value.computed (vote_of value.votes value.own) (given_told answer new)
+        (may_told value new answer step))
         (ap Moment (step.comes.0 ∙ sym (ap (λ (o : Outcome Advance). o.answer)
         (same_comes value now step.given answer new step.comes.0 step.comes.1)))),
     subst (λ (s : State). MayGiveAt may_give rules s (given_told answer new)) stands.value_is
-        (subst (λ (g : Signing). MayGiveAt may_give rules value g)
-        (sym (told_is value now step.given answer new step.comes.0 step.comes.1))
-        (told_may may_give rules value now step.given step.may)),
+        (may_told value new answer step),
   )
   moves_there value new start story (Err fault) stands step = stands.is_story
 
   -- the value after it stands for the list with its entry
   pub moves_more : (value new start : State) (story : List Entry) (answer : Result Advance Memory)
-      → Stands after IsHistory value start story
+      → Stands after (IsCheckedHistory rules) value start story
       → IfOk answer (λ (a : Advance). Advances may_give rules value now a new) → OnErr answer (new ≡ value)
-      → Stands after IsHistory new start (story ++ option_to_list (moved_entry now answer new))
+      → Stands after (IsCheckedHistory rules) new start (story ++ option_to_list (moved_entry now answer new))
   moves_more value new start story (Ok answer) stands step left =
       let same : advance value now (given_told answer new) ≡ advance value now step.given =
       same_comes value now step.given answer new step.comes.0 step.comes.1 in
-      stands_more value new start story (Advanced now (given_told answer new)) (Moment answer) stands
+      stands_more rules value new start story (Advanced now (given_told answer new)) (Moment answer) stands
+      (anyone_may may_give rules value.computed (vote_of value.votes value.own) (given_told answer new)
+      (may_told value new answer step))
       (ap Moment (step.comes.0 ∙ sym (ap (λ (o : Outcome Advance). o.answer) same)))
       (step.comes.1 ∙ sym (ap (λ (o : Outcome Advance). o.after) same))
   moves_more value new start story (Err fault) stands step left =
-      subst (λ (l : List Entry). Stands after IsHistory new start l) (sym (append-nil story))
-      (subst (λ (s : State). Stands after IsHistory s start story) (sym left) stands)
+      subst (λ (l : List Entry). Stands after (IsCheckedHistory rules) new start l) (sym (append-nil story))
+      (subst (λ (s : State). Stands after (IsCheckedHistory rules) s start story) (sym left) stands)
 
   module _ {R E : Type 0} (board : Locks) (before : Parts) (then : Knowledge State Entry)
       (answers : State → List Entry → R → E → Type 0) (entry : R → E → Option Entry) (reply : R) (event : E)
@@ -78,7 +90,7 @@ module _ (may_give : Relation) (rules : Rules) (now : ℕ) where
     pub advance_told : (answer : Result Advance Memory) (new : State)
         → MovesThere may_give rules now board.station.start (entries turn.story) answer new
         → entry reply event ≡ moved_entry now answer new
-        → boards.Advances board before (record { station = then; pool = before.pool }) may_give rules now answer
+        → boards.Advances rules board before (record { station = then; pool = before.pool }) may_give now answer
     advance_told (Ok answer) new moves same = record {
       given = given_told answer new;
       makes = record {
@@ -89,8 +101,8 @@ module _ (may_give : Relation) (rules : Rules) (now : ℕ) where
           seen = turn.seen ∙ ap (λ (x : Option Entry). turn.story ++ entry_by before.station.number x) same;
           mine = turn.mine ∙ ap (λ (x : Option Entry). before.station.mine ++ entry_by before.station.number x) same;
           is_story =
-              (event_told after IsHistory board.station before.station then answers entry reply event turn answer_at
-              entry_if (Advanced now (given_told answer new)) (Moment answer) moves.0 same owns).is_story;
+              (event_told after (IsCheckedHistory rules) board.station before.station then answers entry reply event turn
+              answer_at entry_if (Advanced now (given_told answer new)) (Moment answer) moves.0 same owns).is_story;
           owns = owns;
           number = turn.number;
           of = turn.of;
@@ -101,7 +113,7 @@ module _ (may_give : Relation) (rules : Rules) (now : ℕ) where
     }
     advance_told (Err fault) new moves same = record {
       takes =
-          reading_told after IsHistory board.station before.station then answers entry reply event turn
+          reading_told after (IsCheckedHistory rules) board.station before.station then answers entry reply event turn
           (λ state answer. Unit {0}) fault (record { right_there = tt; is_story = moves }) same owns;
       pool = refl;
     }

@@ -1,14 +1,16 @@
 -- Pairs of passes that have seen nothing, one of each lock.
-use Rattle.std.proofs.Common.{◌≡◌, ℕ, zero, suc, ◌+◌, ◌<◌, List, [], ◌∷◌, ◌++◌, length, Some, None}
+use Rattle.std.proofs.Common.{◌≡◌, ◌≢◌, ℕ, zero, suc, ◌+◌, ◌<◌, ◌≤◌, List, [], ◌∷◌, ◌++◌, length, Some, None}
 use Rattle.std.proofs.Common.{refl, sym, ap, ◌∙◌, subst, arith, length-append}
 use Rattle.std.specs.Prelude.{All, slice_get}
-use Rattle.std.proofs.lemmas.List.Elements.{All-weaker}
+use Rattle.std.proofs.lemmas.List.Elements.{All-push, All-weaker}
+use Rattle.std.proofs.lemmas.List.Quantifiers.{all_pairs_push}
 use Rattle.descriptor_doc.specs.declared.descriptor.Descriptor.{Descriptor}
 use Rattle.vote_pool.specs.Pools.{Pooled}
 use Rattle.period_lock.specs.Turns.{Lock, Knowledge, AreDealt, newcomer}
 use Rattle.period_terms.specs.declared.entry.Entry.{Entry}
 use Rattle.period_terms.specs.declared.state.State.{State}
 use Rattle.board_terms.specs.Boards.{Locks, Parts, IsAt, IsPair}
+use Rattle.serve_board.specs.Passes.{DifferInNumber}
 
 module _ {A : Type 0} where
   before_last : (xs : List A) (x : A) (k : ℕ) → k < length xs → slice_get (xs ++ x ∷ []) k ≡ slice_get xs k
@@ -64,6 +66,22 @@ pair_of station pool n here there h t =
       here = h ∙ ap (λ (m : ℕ). newcomer station m) (sym number);
       there = t ∙ ap (λ (m : ℕ). newcomer pool m) (sym number);
     }
+
+-- the number of one pass more is below all others'
+pub numbers_above : (n count : ℕ) (passes : List Parts) (new : Parts) → new.station.number ≡ n → count ≡ n + 1
+    → All (λ pass. count ≤ pass.station.number) passes → All (λ pass. n ≤ pass.station.number) (passes ++ new ∷ [])
+numbers_above n count passes new is one above =
+    All-push (λ (pass : Parts). n ≤ pass.station.number) passes new
+    (All-weaker (λ (pass : Parts). count ≤ pass.station.number) (λ (pass : Parts). n ≤ pass.station.number)
+    (λ pass below. omega (arith, below, one)) passes above)
+    (omega (arith, is))
+
+-- and differs from them
+pub numbers_differ : (n count : ℕ) (passes : List Parts) (new : Parts) → new.station.number ≡ n → count ≡ n + 1
+    → All (λ pass. count ≤ pass.station.number) passes → DifferInNumber passes → DifferInNumber (passes ++ new ∷ [])
+numbers_differ n count passes new is one above differ =
+    all_pairs_push (λ (a b : Parts). a.station.number ≢ b.station.number) passes new differ
+    (λ k d below same. absurd (omega (arith, above k d below, same, is, one)))
 
 -- a pair of new passes is a pass of the board
 of_pair : (board : Locks) (pass : Parts) → IsPair board.station board.pool pass → IsAt board pass

@@ -1,5 +1,6 @@
 -- What is said of what a board and a pass have inside is said of what they are seen as.
 use Rattle.std.proofs.Common.{◌≡◌, refl, sym, subst}
+use Rattle.key_port.specs.Answers.{Rules}
 use Rattle.descriptor_doc.specs.declared.descriptor.Descriptor.{Descriptor}
 use Rattle.vote_pool.specs.declared.answers.Keep.{Keep}
 use Rattle.vote_pool.specs.Pools.{Pooled, answer_to}
@@ -8,7 +9,8 @@ use Rattle.period_terms.specs.declared.answer.Answer.{Answer}
 use Rattle.period_terms.specs.declared.entry.Entry.{Entry}
 use Rattle.period_terms.specs.declared.event.Event.{Event}
 use Rattle.period_terms.specs.declared.state.State.{State}
-use Rattle.period_terms.specs.Histories.{IsHistory, after, entry_if}
+use Rattle.period_terms.specs.Histories.{after, entry_if}
+use Rattle.period_laws.specs.Checked.{IsCheckedHistory}
 use Rattle.board_terms.specs.Boards.{Locks, Parts, IsAt, Makes, Sees, Stores, Looks, answer_at}
 use Rattle.board_terms.specs.Stocks.{stock_after, AreKept, kept_if}
 use Rattle.board_terms.specs.Turns.{TakesEvent, TakesReading}
@@ -44,35 +46,37 @@ module _ (inside board : Locks) (parts before : Parts) (b : inside ≡ board) (p
       pool = subst (λ (l : Locks). IsOf l.pool then) b of;
     }
 
-  -- an event or a reading of a part is one of the pass
-  pub makes : (then : Knowledge State Entry) (event : Event) (answer : Answer)
-      → TakesEvent after IsHistory answer_at entry_if event inside.station parts.station then answer
-      → Makes board before (record { station = then; pool = parts.pool }) event answer
-  makes then event answer takes =
-      seen_as
-      (λ (l : Locks) (q : Parts). Makes l q (record { station = then; pool = parts.pool }) event answer)
-      (record { takes = takes; pool = refl })
+  module _ (rules : Rules) where
+    -- an event or a reading of a part is one of the pass
+    pub makes : (then : Knowledge State Entry) (event : Event) (answer : Answer)
+        → TakesEvent after (IsCheckedHistory rules) answer_at entry_if event inside.station parts.station then answer
+        → Makes rules board before (record { station = then; pool = parts.pool }) event answer
+    makes then event answer takes =
+        seen_as
+        (λ (l : Locks) (q : Parts). Makes rules l q (record { station = then; pool = parts.pool }) event answer)
+        (record { takes = takes; pool = refl })
 
-  pub sees : {A : Type 0} (then : Knowledge State Entry) (right : State → A → Type 0) (answer : A)
-      → TakesReading after IsHistory right inside.station parts.station then answer
-      → Sees board before (record { station = then; pool = parts.pool }) right answer
-  sees then right answer takes =
-      seen_as
-      (λ (l : Locks) (q : Parts). Sees l q (record { station = then; pool = parts.pool }) right answer)
-      (record { takes = takes; pool = refl })
+    pub sees : {A : Type 0} (then : Knowledge State Entry) (right : State → A → Type 0) (answer : A)
+        → TakesReading after (IsCheckedHistory rules) right inside.station parts.station then answer
+        → Sees rules board before (record { station = then; pool = parts.pool }) right answer
+    sees then right answer takes =
+        seen_as
+        (λ (l : Locks) (q : Parts). Sees rules l q (record { station = then; pool = parts.pool }) right answer)
+        (record { takes = takes; pool = refl })
 
-  pub stores : (then : Knowledge Pooled Descriptor) (descriptor : Descriptor) (answer : Keep)
-      → TakesEvent stock_after AreKept answer_to kept_if descriptor inside.pool parts.pool then answer
-      → Stores board before (record { station = parts.station; pool = then }) descriptor answer
-  stores then descriptor answer takes =
-      seen_as
-      (λ (l : Locks) (q : Parts). Stores l q (record { station = parts.station; pool = then }) descriptor answer)
-      (record { takes = takes; station = refl })
+    pub stores : (then : Knowledge Pooled Descriptor) (descriptor : Descriptor) (answer : Keep)
+        → TakesEvent stock_after (AreKept rules) answer_to kept_if descriptor inside.pool parts.pool then answer
+        → Stores rules board before (record { station = parts.station; pool = then }) descriptor answer
+    stores then descriptor answer takes =
+        seen_as
+        (λ (l : Locks) (q : Parts). Stores rules l q (record { station = parts.station; pool = then }) descriptor
+        answer)
+        (record { takes = takes; station = refl })
 
-  pub looks : {A : Type 0} (then : Knowledge Pooled Descriptor) (right : Pooled → A → Type 0) (answer : A)
-      → TakesReading stock_after AreKept right inside.pool parts.pool then answer
-      → Looks board before (record { station = parts.station; pool = then }) right answer
-  looks then right answer takes =
-      seen_as
-      (λ (l : Locks) (q : Parts). Looks l q (record { station = parts.station; pool = then }) right answer)
-      (record { takes = takes; station = refl })
+    pub looks : {A : Type 0} (then : Knowledge Pooled Descriptor) (right : Pooled → A → Type 0) (answer : A)
+        → TakesReading stock_after (AreKept rules) right inside.pool parts.pool then answer
+        → Looks rules board before (record { station = parts.station; pool = then }) right answer
+    looks then right answer takes =
+        seen_as
+        (λ (l : Locks) (q : Parts). Looks rules l q (record { station = parts.station; pool = then }) right answer)
+        (record { takes = takes; station = refl })

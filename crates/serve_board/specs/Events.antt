@@ -20,15 +20,17 @@ use Rattle.period_terms.specs.declared.event.Via.{Via}
 use Rattle.period_terms.specs.declared.signature.OfferedSignature.{OfferedSignature}
 use Rattle.period_terms.specs.declared.state.State.{State}
 use Rattle.period_terms.specs.Advances.{MayGiveAt, given_told}
-use Rattle.period_terms.specs.Histories.{IsHistory, after, entry_if}
-use Rattle.board_terms.specs.Boards.{StepsThere, answer_at}
+use Rattle.period_terms.specs.Histories.{after, entry_if}
+use Rattle.period_laws.specs.Checked.{IsCheckedHistory}
+use Rattle.board_terms.specs.Boards.{StepsThere}
 use Rattle.board_terms.specs.Stocks.{stock_after, AreKept, kept_if}
 use Rattle.board_terms.specs.Turns.{AnswersThere}
 
 -- a reply that is there, and is that to an offered vote
-abbrev pub OffersThere : ReadVote → Via → ℕ → State → List Entry → Option Offer → Type 0
-OffersThere vote via now start story None = ⊥
-OffersThere vote via now start story (Some answer) = StepsThere (Offered vote via now) start story (Vote answer)
+abbrev pub OffersThere : Rules → ReadVote → Via → ℕ → State → List Entry → Option Offer → Type 0
+OffersThere rules vote via now start story None = ⊥
+OffersThere rules vote via now start story (Some answer) =
+    StepsThere rules (Offered vote via now) start story (Vote answer)
 
 -- the entry of the event that offers a vote, if it had one
 abbrev pub offered_entry : Option ReadVote → Via → ℕ → Option Offer → Option Entry
@@ -37,9 +39,10 @@ offered_entry (Some vote) via now None = None
 offered_entry (Some vote) via now (Some answer) = entry_if (Offered vote via now) (Vote answer)
 
 -- a reply that is there, and is that to an offered signature
-abbrev pub SignsThere : OfferedSignature → State → List Entry → Option SignIn → Type 0
-SignsThere signature start story None = ⊥
-SignsThere signature start story (Some answer) = StepsThere (SignedIn signature) start story (Signature answer)
+abbrev pub SignsThere : Rules → OfferedSignature → State → List Entry → Option SignIn → Type 0
+SignsThere rules signature start story None = ⊥
+SignsThere rules signature start story (Some answer) =
+    StepsThere rules (SignedIn signature) start story (Signature answer)
 
 -- the entry of the event that offers a signature, if it had one
 abbrev pub signed_entry : Option OfferedSignature → Option SignIn → Option Entry
@@ -48,10 +51,10 @@ signed_entry (Some signature) None = None
 signed_entry (Some signature) (Some answer) = entry_if (SignedIn signature) (Signature answer)
 
 -- a reply that is there, and is that to a descriptor
-abbrev pub KeepsThere : Descriptor → Pooled → List Descriptor → Option Keep → Type 0
-KeepsThere descriptor start story None = ⊥
-KeepsThere descriptor start story (Some answer) =
-    AnswersThere stock_after AreKept answer_to kept_if descriptor start story answer
+abbrev pub KeepsThere : Rules → Descriptor → Pooled → List Descriptor → Option Keep → Type 0
+KeepsThere rules descriptor start story None = ⊥
+KeepsThere rules descriptor start story (Some answer) =
+    AnswersThere stock_after (AreKept rules) answer_to kept_if descriptor start story answer
 
 -- the entry of the event that keeps a descriptor, if it had one
 abbrev pub kept_entry : Option Descriptor → Option Keep → Option Descriptor
@@ -67,9 +70,9 @@ moved_entry now (Err fault) then = None
 -- an advance with what the answer and the state after it tell that the signer gave; or there was no memory
 abbrev pub MovesThere : Relation → Rules → ℕ → State → List Entry → Result Advance Memory → State → Type 0
 MovesThere may_give rules now start story (Ok answer) then =
-    StepsThere (Advanced now (given_told answer then)) start story (Moment answer)
+    StepsThere rules (Advanced now (given_told answer then)) start story (Moment answer)
     × MayGiveAt may_give rules (after start story) (given_told answer then)
-MovesThere may_give rules now start story (Err fault) then = IsHistory start story
+MovesThere may_give rules now start story (Err fault) then = IsCheckedHistory rules start story
 
 -- A count of faults did not fall, and it rose where the fault was answered.
 pub record CountsFault (fault : Type 0) (before now : ℕ) : Type 0 where

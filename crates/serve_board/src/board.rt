@@ -5,6 +5,7 @@ ghost use Rattle.key_port.specs.Answers.{rules};
 ghost use Rattle.period_terms.specs.declared.answer.Answer.TheVariants as answers;
 ghost use Rattle.period_terms.specs.declared.event.Event.TheVariants as events;
 ghost use Rattle.board_terms.specs.Boards.{Advances, IsAt, IsNew, IsPlace, Looks, Makes, Sees, Stores, position_of_offer, position_of_sign_in};
+ghost use Rattle.serve_board.specs.Passes.{DifferInNumber};
 
 use crate::advancing::AdvanceStation;
 use crate::opening::pair;
@@ -64,6 +65,7 @@ impl<V: Verifier> Board<V> {
         ensures start { IfOk result (λ r. (r.0.station.start ≡ station) × (r.0.pool.start ≡ pool)) }
         ensures passes { IfOk result (λ r. (r.0.station.passes ≡ passes) × (r.0.pool.passes ≡ passes) × (length r.1.items ≡ passes)) }
         ensures new { IfOk result (λ r. All (IsNew r.0) r.1.items) }
+        ensures numbers { IfOk result (λ r. DifferInNumber r.1.items) }
         ensures at { IfOk result (λ r. All (IsAt r.0) r.1.items) }
     {
         let roster = station.roster().copy(alloc)?;
@@ -105,10 +107,14 @@ impl<V: Verifier> Board<V> {
         now: u64,
     ) -> Offer
         requires at { IsAt self.now pass.old }
-        ensures event { Makes self.now pass.old pass.new (events.Offered vote via now) (answers.Vote result) }
+        ensures event { Makes (rules V.may_accept V.may_refuse) self.now pass.old pass.new
+            (events.Offered vote via now) (answers.Vote result) }
         ensures position { IsPlace self.now pass.new (position_of_offer result) }
         ensures at { IsAt self.now pass.new }
     {
+        let mut vote = vote;
+        // Outside the turn: none waits while it is computed.
+        vote.know_rank();
         let mut event = OfferVote {
             vote: Some(vote),
             via,
@@ -123,7 +129,8 @@ impl<V: Verifier> Board<V> {
     /// Offers a signature.
     pub fn sign_in<R: Wait>(&self, rt: &R, pass: &mut Pass<V>, signature: CheckedSig<V>) -> SignIn
         requires at { IsAt self.now pass.old }
-        ensures event { Makes self.now pass.old pass.new (events.SignedIn signature) (answers.Signature result) }
+        ensures event { Makes (rules V.may_accept V.may_refuse) self.now pass.old pass.new
+            (events.SignedIn signature) (answers.Signature result) }
         ensures position { IsPlace self.now pass.new (position_of_sign_in result) }
         ensures at { IsAt self.now pass.new }
     {
@@ -150,7 +157,7 @@ impl<V: Verifier> Board<V> {
         verifier: &mut V,
     ) -> Result<Advance, Memory>
         requires at { IsAt self.now pass.old }
-        ensures event { Advances self.now pass.old pass.new N.may_give (rules V.may_accept V.may_refuse) now result }
+        ensures event { Advances (rules V.may_accept V.may_refuse) self.now pass.old pass.new N.may_give now result }
         ensures at { IsAt self.now pass.new }
         ensures signer_fault { result ≡ Ok Advance.SignerFault → Rose (N.faults signer.old) (N.faults signer.new) }
         ensures signer_faults { N.faults signer.old ≤ N.faults signer.new }
@@ -175,7 +182,8 @@ impl<V: Verifier> Board<V> {
         question: Q,
     ) -> (Q::Reply, Q)
         requires at { IsAt self.now pass.old }
-        ensures reading { Sees self.now pass.old pass.new (λ state answer. Q.finds question state answer result.1) result.0 }
+        ensures reading { Sees (rules V.may_accept V.may_refuse) self.now pass.old pass.new
+            (λ state answer. Q.finds question state answer result.1) result.0 }
         ensures at { IsAt self.now pass.new }
     {
         let mut event = AskStation { question };
@@ -186,7 +194,7 @@ impl<V: Verifier> Board<V> {
     /// Keeps a descriptor, or not.
     pub fn keep<R: Wait>(&self, rt: &R, pass: &mut Pass<V>, entry: PoolEntry<V>) -> Keep
         requires at { IsAt self.now pass.old }
-        ensures event { Stores self.now pass.old pass.new entry result }
+        ensures event { Stores (rules V.may_accept V.may_refuse) self.now pass.old pass.new entry result }
         ensures at { IsAt self.now pass.new }
     {
         let mut event = KeepEntry { entry: Some(entry) };
@@ -204,7 +212,8 @@ impl<V: Verifier> Board<V> {
         question: Q,
     ) -> (Q::Reply, Q)
         requires at { IsAt self.now pass.old }
-        ensures reading { Looks self.now pass.old pass.new (λ pool answer. Q.finds question pool answer result.1) result.0 }
+        ensures reading { Looks (rules V.may_accept V.may_refuse) self.now pass.old pass.new
+            (λ pool answer. Q.finds question pool answer result.1) result.0 }
         ensures at { IsAt self.now pass.new }
     {
         let mut event = AskPool { question };

@@ -1,5 +1,6 @@
 // The meeting of all passes of a board.
 ghost use Rattle.std.specs.Prelude.{◌≡◌, ◌≤◌, [], All, length, map, vec_capacity, IfOk};
+ghost use Rattle.key_port.specs.Answers.{rules};
 ghost use Rattle.board_terms.specs.Boards.{IsAt, Leaves};
 
 use crate::board::Board;
@@ -61,7 +62,7 @@ impl<V: Verifier> Board<V> {
         requires all { (self.station.passes ≤ length passes.items) × (self.pool.passes ≤ length passes.items) }
         requires empty { (rooms.stations.items ≡ []) × (rooms.pools.items ≡ []) }
         requires room { (length passes.items ≤ vec_capacity rooms.stations) × (length passes.items ≤ vec_capacity rooms.pools) }
-        ensures { Leaves self passes.items result.0 result.1 }
+        ensures { Leaves (rules V.may_accept V.may_refuse) self passes.items result.0 result.1 }
     {
         let Rooms { stations, pools } = part(passes, rooms);
         let Board {

@@ -1,5 +1,6 @@
 // What is read of the station under its lock.
 ghost use Rattle.std.specs.Prelude.{◌≡◌, MatchResult, option_map};
+ghost use Rattle.key_port.specs.Answers.{rules};
 ghost use Rattle.period_core.specs.Views as views;
 ghost use Rattle.period_terms.specs.Readings as readings;
 ghost use Rattle.board_terms.specs.Boards.{IsAt, Sees};
@@ -88,7 +89,8 @@ impl<V: Verifier> Board<V> {
     /// When the period begins, in seconds since 1970-01-01 00:00:00 UTC.
     pub fn valid_after<R: Wait>(&self, rt: &R, pass: &mut Pass<V>) -> u64
         requires at { IsAt self.now pass.old }
-        ensures reading { Sees self.now pass.old pass.new (λ state answer. answer ≡ state.valid_after) result }
+        ensures reading { Sees (rules V.may_accept V.may_refuse) self.now pass.old pass.new
+            (λ state answer. answer ≡ state.valid_after) result }
         ensures at { IsAt self.now pass.new }
     {
         let (reply, _) = self.ask(rt, pass, AskValidAfter);
@@ -106,7 +108,8 @@ impl<V: Verifier> Board<V> {
         pass: &mut Pass<V>,
     ) -> Result<Option<PeriodView>, Memory>
         requires at { IsAt self.now pass.old }
-        ensures reading { Sees self.now pass.old pass.new (λ state answer. MatchResult answer (λ view. view ≡ views.view_of state) (λ _. Unit {0})) result }
+        ensures reading { Sees (rules V.may_accept V.may_refuse) self.now pass.old pass.new
+            (λ state answer. MatchResult answer (λ view. view ≡ views.view_of state) (λ _. Unit {0})) result }
         ensures at { IsAt self.now pass.new }
     {
         let (reply, _) = self.ask(rt, pass, AskView { alloc });
@@ -125,7 +128,8 @@ impl<V: Verifier> Board<V> {
         name: &Name,
     ) -> Result<Option<Text>, Memory>
         requires at { IsAt self.now pass.old }
-        ensures reading { Sees self.now pass.old pass.new (λ state answer. MatchResult answer (λ text. text ≡ readings.document_of state name.now) (λ _. Unit {0})) result }
+        ensures reading { Sees (rules V.may_accept V.may_refuse) self.now pass.old pass.new
+            (λ state answer. MatchResult answer (λ text. text ≡ readings.document_of state name.now) (λ _. Unit {0})) result }
         ensures at { IsAt self.now pass.new }
     {
         let (reply, _) = self.ask(rt, pass, AskDocument { alloc, name: *name });
@@ -144,7 +148,8 @@ impl<V: Verifier> Board<V> {
         flavour: Flavour,
     ) -> Result<Option<Text>, Memory>
         requires at { IsAt self.now pass.old }
-        ensures reading { Sees self.now pass.old pass.new (λ state answer. MatchResult answer (λ text. text ≡ readings.next_consensus_of flavour state) (λ _. Unit {0})) result }
+        ensures reading { Sees (rules V.may_accept V.may_refuse) self.now pass.old pass.new
+            (λ state answer. MatchResult answer (λ text. text ≡ readings.next_consensus_of flavour state) (λ _. Unit {0})) result }
         ensures at { IsAt self.now pass.new }
     {
         let (reply, _) = self.ask(rt, pass, AskNextConsensus { alloc, flavour });

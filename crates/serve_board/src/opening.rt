@@ -2,6 +2,7 @@
 ghost use Rattle.std.specs.Prelude.{◌≡◌, ◌≤◌, [], All, length, vec_capacity};
 ghost use Rattle.period_lock.specs.Turns.{AreDealt};
 ghost use Rattle.board_terms.specs.Boards.{IsPair};
+ghost use Rattle.serve_board.specs.Passes.{DifferInNumber};
 
 use crate::pass::Pass;
 use crate::period::Period;
@@ -23,6 +24,7 @@ pub(crate) fn pair<V: Verifier>(
     requires room { length stations.items ≤ vec_capacity room }
     ensures count { length result.items ≡ length stations.items }
     ensures pairs { All (IsPair station.now pool.now) result.items }
+    ensures numbers { DifferInNumber result.items }
 {
     let _ = station;
     let _ = pool;

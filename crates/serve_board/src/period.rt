@@ -1,6 +1,8 @@
 // A station under a lock.
 ghost use Rattle.std.specs.Prelude.{◌≡◌, ◌+◌, List, length};
-ghost use Rattle.period_terms.specs.Histories.{IsHistory, after};
+ghost use Rattle.key_port.specs.Answers.{rules};
+ghost use Rattle.period_terms.specs.Histories.{after};
+ghost use Rattle.period_laws.specs.Checked.{IsCheckedHistory};
 ghost use Rattle.period_terms.specs.declared.entry.Entry.{Entry};
 ghost use Rattle.period_terms.specs.declared.state.State.{State};
 ghost use Rattle.board_terms.specs.Turns.{Stands};
@@ -10,7 +12,8 @@ use period_core::Station;
 use period_lock::Storied;
 use period_terms::Entry;
 
-/// A station under a lock. It stands for the station at the start and the events that changed it since.
+/// A station under a lock. It stands for the station at the start and the events that changed it since, which were
+/// checked before they came.
 #[derive(Drop)]
 pub struct Period<V: Verifier> {
     pub(crate) station: Station<V>,
@@ -18,7 +21,9 @@ pub struct Period<V: Verifier> {
 
 /// The count of all changes of a station.
 fn front_of<V: Verifier>(station: &Station<V>) -> u64
-    ensures { (start : State) (story : List Entry) → Stands after IsHistory station.now start story → result ≡ start.front + length story }
+    ensures { (start : State) (story : List Entry)
+        → Stands after (IsCheckedHistory (rules V.may_accept V.may_refuse)) station.now start story
+        → result ≡ start.front + length story }
 {
     station.front()
 }
@@ -28,7 +33,8 @@ impl<V: Verifier> Storied for Period<V> {
 
     type Entry = Entry;
 
-    ghost stands = { λ period start story. Stands after IsHistory period.station start story };
+    ghost stands = { λ period start story.
+        Stands after (IsCheckedHistory (rules V.may_accept V.may_refuse)) period.station start story };
 
     ghost start_of = { λ period. period.station };
 

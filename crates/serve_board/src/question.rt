@@ -1,6 +1,8 @@
 // What is asked of a value under a lock, and changes nothing there.
 ghost use Rattle.std.specs.Prelude.{◌≡◌, None};
-ghost use Rattle.period_terms.specs.Histories.{IsHistory, after};
+ghost use Rattle.key_port.specs.Answers.{rules};
+ghost use Rattle.period_terms.specs.Histories.{after};
+ghost use Rattle.period_laws.specs.Checked.{IsCheckedHistory};
 ghost use Rattle.board_terms.specs.Stocks.{AreKept, stock_after};
 ghost use Rattle.board_terms.specs.Turns.{FindsThere};
 
@@ -33,7 +35,8 @@ impl<V: Verifier, Q: Question<Station<V>>> Event<Period<V>> for AskStation<Q> {
     type Reply = Q::Reply;
 
     ghost answers = { λ before start story reply event.
-        FindsThere after IsHistory (λ state answer. Q.finds before.question state answer event.question) start story reply };
+        FindsThere after (IsCheckedHistory (rules V.may_accept V.may_refuse))
+        (λ state answer. Q.finds before.question state answer event.question) start story reply };
 
     ghost entry_of = { λ before reply event. None };
 
@@ -52,7 +55,8 @@ impl<V: Verifier, Q: Question<Pool<V>>> Event<Reserve<V>> for AskPool<Q> {
     type Reply = Q::Reply;
 
     ghost answers = { λ before start story reply event.
-        FindsThere stock_after AreKept (λ pool answer. Q.finds before.question pool answer event.question) start story reply };
+        FindsThere stock_after (AreKept (rules V.may_accept V.may_refuse))
+        (λ pool answer. Q.finds before.question pool answer event.question) start story reply };
 
     ghost entry_of = { λ before reply event. None };
 

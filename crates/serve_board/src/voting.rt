@@ -1,5 +1,6 @@
 // The event that offers a vote.
 ghost use Rattle.std.specs.Prelude.{IfSome};
+ghost use Rattle.key_port.specs.Answers.{rules};
 ghost use Rattle.serve_board.specs.Events.{OffersThere, offered_entry};
 
 use crate::period::Period;
@@ -19,13 +20,17 @@ pub(crate) struct OfferVote<V: Verifier> {
 impl<V: Verifier> Event<Period<V>> for OfferVote<V> {
     type Reply = Option<Offer>;
 
-    ghost answers = { λ before start story reply event. IfSome before.vote (λ vote. OffersThere vote before.via before.now start story reply) };
+    ghost answers = { λ before start story reply event. IfSome before.vote
+        (λ vote. OffersThere (rules V.may_accept V.may_refuse) vote before.via before.now start story reply) };
 
     ghost entry_of = { λ before reply event. offered_entry before.vote before.via before.now reply };
 
     fn apply(&mut self, state: &mut Period<V>) -> Option<Offer> {
         match self.vote.take() {
-            Some(vote) => Some(state.station.offer(vote, self.via, self.now)),
+            Some(vote) => {
+                let _ = vote.vote();
+                Some(state.station.offer(vote, self.via, self.now))
+            }
             None => None,
         }
     }

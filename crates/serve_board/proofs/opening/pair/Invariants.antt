@@ -1,6 +1,7 @@
 use Rattle.std.proofs.Common.{◌≡◌, ◌≤◌, ◌+◌, All, length, vec_len, vec_capacity}
 use Rattle.period_lock.specs.Turns.{AreDealt}
 use Rattle.board_terms.specs.Boards.{IsPair}
+use Rattle.serve_board.specs.Passes.{DifferInNumber}
 use Rattle.serve_board.proofs.opening.pair.Given as goal
 
 abbrev pub invariant-passes : goal.invariant-passes
@@ -10,6 +11,8 @@ invariant-passes g l = record {
   count : length l.passes.items + length l.stations.items ≡ length l.fn.stations.items;
   room : length l.fn.stations.items ≤ vec_capacity l.passes;
   pairs : All (IsPair l.station l.pool) l.passes.items;
+  above : All (λ pass. length l.stations.items ≤ pass.station.number) l.passes.items;
+  numbers : DifferInNumber l.passes.items;
 }
 
 abbrev pub decreases-passes : goal.decreases-passes

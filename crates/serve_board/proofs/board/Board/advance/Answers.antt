@@ -1,5 +1,5 @@
 use Rattle.std.proofs.Common.{◌≡◌, refl}
-use Rattle.key_port.specs.Answers.{rules}
+use Rattle.key_port.specs.Answers.{Rules, rules}
 use Rattle.board_terms.specs.Boards.{Locks, Parts, Advances}
 use Rattle.serve_board.proofs.Moving.{advance_told}
 use Rattle.serve_board.proofs.Views.{seen_as, station_of, at_station}
@@ -7,15 +7,16 @@ use Rattle.serve_board.proofs.board.Board.advance.Goals as goal
 
 pub returns-clause-event : goal.returns-clause-event
 returns-clause-event g c =
+    let rules : Rules = rules g.V.Verifier.may_accept g.V.Verifier.may_refuse in
     let inside : Locks = record { station = c.self.inside.station; pool = c.self.inside.pool } in
     let parts : Parts = record { station = c.pass.inside.station; pool = c.pass.inside.pool } in
     let turn = c.turn-answer.ensures.turn in
     seen_as inside c.args.self.now parts c.args.pass.now c.self.view_is c.pass.view_is
-    (λ (l : Locks) (q : Parts). Advances l q (record { station = c.turn-answer.new.pass; pool = c.pass.inside.pool })
-    g.N.Signer.may_give (rules g.V.Verifier.may_accept g.V.Verifier.may_refuse) c.args.now c.turn-answer.result.0)
-    (advance_told g.N.Signer.may_give (rules g.V.Verifier.may_accept g.V.Verifier.may_refuse) c.args.now inside parts
-    c.turn-answer.new.pass _ _ c.turn-answer.result _ turn c.turn-answer.ensures.mine c.turn-answer.result.0
-    c.turn-answer.result.1.value turn.answer.0.moves refl)
+    (λ (l : Locks) (q : Parts). Advances rules l q
+    (record { station = c.turn-answer.new.pass; pool = c.pass.inside.pool }) g.N.Signer.may_give c.args.now
+    c.turn-answer.result.0)
+    (advance_told g.N.Signer.may_give rules c.args.now inside parts c.turn-answer.new.pass _ _ c.turn-answer.result _
+    turn c.turn-answer.ensures.mine c.turn-answer.result.0 c.turn-answer.result.1.value turn.answer.0.moves refl)
 
 pub returns-clause-at : goal.returns-clause-at
 returns-clause-at g c =

@@ -1,15 +1,18 @@
 use Rattle.std.proofs.Common.{◌≡◌, refl}
-use Rattle.period_terms.specs.Histories.{IsHistory, after}
+use Rattle.key_port.specs.Answers.{Rules, rules}
+use Rattle.period_terms.specs.Histories.{after}
+use Rattle.period_laws.specs.Checked.{IsCheckedHistory}
 use Rattle.board_terms.proofs.Standing.{reading_told}
 use Rattle.serve_board.proofs.Views.{station_of, at_station, sees}
 use Rattle.serve_board.proofs.board.Board.ask.Goals as goal
 
 pub returns-clause-reading : goal.returns-clause-reading
 returns-clause-reading g c =
-    sees _ c.args.self.now _ c.args.pass.now c.self.view_is c.pass.view_is c.turn-reply.new.pass
+    let rules : Rules = rules g.V.Verifier.may_accept g.V.Verifier.may_refuse in
+    sees _ c.args.self.now _ c.args.pass.now c.self.view_is c.pass.view_is rules c.turn-reply.new.pass
     (λ state answer. g.Q.Question.finds c.args.question state answer c.turn-reply.new.event.question)
     c.turn-reply.result
-    (reading_told after IsHistory c.self.inside.station c.pass.inside.station c.turn-reply.new.pass _ _
+    (reading_told after (IsCheckedHistory rules) c.self.inside.station c.pass.inside.station c.turn-reply.new.pass _ _
     c.turn-reply.result _ c.turn-reply.ensures.turn
     (λ state answer. g.Q.Question.finds c.args.question state answer c.turn-reply.new.event.question)
     c.turn-reply.result c.turn-reply.ensures.turn.answer refl c.turn-reply.ensures.mine)

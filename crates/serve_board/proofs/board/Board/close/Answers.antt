@@ -1,7 +1,9 @@
 use Rattle.std.proofs.Common.{map, subst, sym}
+use Rattle.key_port.specs.Answers.{Rules, rules}
 use Rattle.period_lock.specs.Turns.{AreOf, EndsIn}
+use Rattle.period_terms.specs.Histories.{after}
+use Rattle.period_laws.specs.Checked.{IsCheckedHistory}
 use Rattle.board_terms.specs.Boards.{Locks, Parts}
-use Rattle.period_terms.specs.Histories.{IsHistory, after}
 use Rattle.board_terms.specs.Stocks.{stock_after, AreKept}
 use Rattle.board_terms.specs.Turns.{Stands}
 use Rattle.board_terms.proofs.Meetings.{stations_of, pools_of, ends_as}
@@ -20,15 +22,17 @@ close-requires-2 g c = record {
 }
 
 pub returns : goal.returns
-returns g c = record {
-  station =
-      subst (λ (b : Locks). EndsIn (Stands after IsHistory) b.station
-      (map (λ (p : Parts). p.station) c.args.passes.items) c.in-Ok.period.station) c.self.view_is
-      (ends_as (λ t. t.station) (Stands after IsHistory) c.self.inside.station _ _ c.in-Ok.period
-      c.part-stations.ensures.stations c.in-Ok.ensures.closed);
-  pool =
-      subst (λ (b : Locks). EndsIn (Stands stock_after AreKept) b.pool
-      (map (λ (p : Parts). p.pool) c.args.passes.items) c.in-Ok-close.reserve.pool) c.self.view_is
-      (ends_as (λ t. t.pool) (Stands stock_after AreKept) c.self.inside.pool _ _ c.in-Ok-close.reserve
-      c.part-stations.ensures.pools c.in-Ok-close.ensures.closed);
-}
+returns g c =
+    let rules : Rules = rules g.V.Verifier.may_accept g.V.Verifier.may_refuse in
+    record {
+      station =
+          subst (λ (b : Locks). EndsIn (Stands after (IsCheckedHistory rules)) b.station
+          (map (λ (p : Parts). p.station) c.args.passes.items) c.in-Ok.period.station) c.self.view_is
+          (ends_as (λ t. t.station) (Stands after (IsCheckedHistory rules)) c.self.inside.station _ _ c.in-Ok.period
+          c.part-stations.ensures.stations c.in-Ok.ensures.closed);
+      pool =
+          subst (λ (b : Locks). EndsIn (Stands stock_after (AreKept rules)) b.pool
+          (map (λ (p : Parts). p.pool) c.args.passes.items) c.in-Ok-close.reserve.pool) c.self.view_is
+          (ends_as (λ t. t.pool) (Stands stock_after (AreKept rules)) c.self.inside.pool _ _ c.in-Ok-close.reserve
+          c.part-stations.ensures.pools c.in-Ok-close.ensures.closed);
+    }

@@ -1,4 +1,5 @@
 use Rattle.std.proofs.Common.{◌≡◌, refl}
+use Rattle.key_port.specs.Answers.{Rules, rules}
 use Rattle.board_terms.specs.Stocks.{stock_after, AreKept}
 use Rattle.board_terms.proofs.Standing.{reading_told}
 use Rattle.serve_board.proofs.Views.{pool_of, at_pool, looks}
@@ -6,10 +7,11 @@ use Rattle.serve_board.proofs.board.Board.look.Goals as goal
 
 pub returns-clause-reading : goal.returns-clause-reading
 returns-clause-reading g c =
-    looks _ c.args.self.now _ c.args.pass.now c.self.view_is c.pass.view_is c.turn-reply.new.pass
+    let rules : Rules = rules g.V.Verifier.may_accept g.V.Verifier.may_refuse in
+    looks _ c.args.self.now _ c.args.pass.now c.self.view_is c.pass.view_is rules c.turn-reply.new.pass
     (λ pool answer. g.Q.Question.finds c.args.question pool answer c.turn-reply.new.event.question)
     c.turn-reply.result
-    (reading_told stock_after AreKept c.self.inside.pool c.pass.inside.pool c.turn-reply.new.pass _ _
+    (reading_told stock_after (AreKept rules) c.self.inside.pool c.pass.inside.pool c.turn-reply.new.pass _ _
     c.turn-reply.result _ c.turn-reply.ensures.turn
     (λ pool answer. g.Q.Question.finds c.args.question pool answer c.turn-reply.new.event.question)
     c.turn-reply.result c.turn-reply.ensures.turn.answer refl c.turn-reply.ensures.mine)

@@ -1,0 +1,7 @@
+-- The passes of one board.
+use Rattle.std.specs.Prelude.{◌≢◌, List, AllPairs}
+use Rattle.board_terms.specs.Boards.{Parts}
+
+-- no two of the passes have one number
+abbrev pub DifferInNumber : List Parts → Type 0
+DifferInNumber passes = AllPairs (λ one other. one.station.number ≢ other.station.number) passes
