@@ -1,40 +1,54 @@
--- Whatever is found, the pass has gone on.
+-- Whatever is found, the pass has gone on; and after want of memory it has added nothing.
 use Rattle.std.proofs.Common.{◌≡◌, ℕ, List, Option, Some, None, Result, Ok, Err, sym, subst, drop}
 use Rattle.dir_bytes.specs.declared.fault.Memory.{Memory}
-use Rattle.period_terms.specs.declared.state.State.{State}
+use Rattle.key_port.specs.Answers.{Rules}
+use Rattle.consensus_terms.specs.declared.flavour.Flavour.{Flavour}
 use Rattle.vote_pool.specs.Pools.{Pooled}
+use Rattle.period_terms.specs.declared.name.Name.TheVariants as names
+use Rattle.period_terms.specs.declared.state.State.{State}
+use Rattle.period_terms.specs.Readings.{document_of}
 use Rattle.http_words.specs.DigestLists.{digest_list}
 use Rattle.http_words.specs.declared.asked.Asked.{Asked}
 use Rattle.http_words.specs.declared.asked.Asked.TheVariants as asked
 use Rattle.board_terms.specs.Boards.{Locks, Parts}
 use Rattle.board_laws.specs.Going.{Goes}
 use Rattle.board_laws.proofs.Going.{goes_same, goes_sees, goes_looks}
-use Rattle.serve_answers.specs.Finding.{Reads, Finds, FindsNothing, FindsMicros, FindsAsked}
+use Rattle.serve_answers.specs.Finding.{Reads, ReadsCurrent, Finds, FindsNothing, FindsMicros, FindsAsked, flavour_of}
+use Rattle.serve_answers.specs.Finding.{AddsNothing}
 
-module _ (board : Locks) (before then : Parts) where
+module _ (rules : Rules) (board : Locks) (before then : Parts) where
   reads_goes : (document : State → Option (List ℕ)) (result : Result (Option (List ℕ)) Memory)
-      → Reads board before then document result → Goes before then
-  reads_goes document (Ok found) sees = goes_sees board before then (λ state answer. answer ≡ document state) found sees
+      → Reads rules board before then document result → Goes before then
+  reads_goes document (Ok found) sees =
+      goes_sees rules board before then (λ state answer. answer ≡ document state) found sees
   reads_goes document (Err fault) nothing = nothing.goes
 
+  current_goes : (flavour : Flavour) (result : Result (Option (List ℕ)) Memory)
+      → ReadsCurrent rules board before then flavour result → Goes before then
+  current_goes flavour (Ok found) reads =
+      goes_sees rules board before then (λ state answer. answer ≡ document_of state (names.Current flavour)) found
+      reads.0
+  current_goes flavour (Err fault) nothing = nothing.goes
+
   finds_goes : (document : Pooled → Option (List ℕ)) (result : Result (Option (List ℕ)) Memory)
-      → Finds board before then document result → Goes before then
+      → Finds rules board before then document result → Goes before then
   finds_goes document (Ok found) looks =
-      goes_looks board before then (λ pool answer. answer ≡ document pool) found looks
+      goes_looks rules board before then (λ pool answer. answer ≡ document pool) found looks
   finds_goes document (Err fault) nothing = nothing.goes
 
-  nothing_goes : (result : Result (Option (List ℕ)) Memory) → FindsNothing board before then result → Goes before then
+  nothing_goes : (result : Result (Option (List ℕ)) Memory) → FindsNothing rules board before then result
+      → Goes before then
   nothing_goes (Ok found) same = subst (Goes before) (sym same.1) (goes_same before)
   nothing_goes (Err fault) nothing = nothing.goes
 
   micros_goes : (digests : Option (List (List ℕ))) (result : Result (Option (List ℕ)) Memory)
-      → FindsMicros board before then digests result → Goes before then
+      → FindsMicros rules board before then digests result → Goes before then
   micros_goes None result found = nothing_goes result found
   micros_goes (Some digests) result found = finds_goes _ result found
 
   -- whatever is asked for, the pass has gone on
   pub asked_goes : (what : Asked) (path : List ℕ) (result : Result (Option (List ℕ)) Memory)
-      → FindsAsked board before then what path result → Goes before then
+      → FindsAsked rules board before then what path result → Goes before then
   asked_goes asked.PostVote path result found = nothing_goes result found
   asked_goes asked.PostSignatures path result found = nothing_goes result found
   asked_goes asked.PostDescriptor path result found = nothing_goes result found
@@ -43,7 +57,7 @@ module _ (board : Locks) (before then : Parts) where
   asked_goes (asked.VoteByDigest digest) path result found = reads_goes _ result found
   asked_goes (asked.Next form) path result found = reads_goes _ result found
   asked_goes asked.NextSignatures path result found = reads_goes _ result found
-  asked_goes (asked.Current form) path result found = reads_goes _ result found
+  asked_goes (asked.Current form) path result found = current_goes (flavour_of form) result found
   asked_goes asked.AllKeys path result found = reads_goes _ result found
   asked_goes (asked.KeysOf authority) path result found = reads_goes _ result found
   asked_goes asked.AllDescriptors path result found = finds_goes _ result found
@@ -51,3 +65,28 @@ module _ (board : Locks) (before then : Parts) where
   asked_goes (asked.Micros place) path result found = micros_goes (digest_list (drop place path)) result found
   asked_goes asked.Unknown path result found = nothing_goes result found
   asked_goes asked.NotAllowed path result found = nothing_goes result found
+
+  micros_adds : (digests : Option (List (List ℕ))) (fault : Memory)
+      → FindsMicros rules board before then digests (Err fault) → AddsNothing before then
+  micros_adds None fault nothing = nothing
+  micros_adds (Some digests) fault nothing = nothing
+
+  -- whatever is asked for, after want of memory nothing was added
+  pub asked_adds : (what : Asked) (path : List ℕ) (fault : Memory)
+      → FindsAsked rules board before then what path (Err fault) → AddsNothing before then
+  asked_adds asked.PostVote path fault nothing = nothing
+  asked_adds asked.PostSignatures path fault nothing = nothing
+  asked_adds asked.PostDescriptor path fault nothing = nothing
+  asked_adds asked.OwnVote path fault nothing = nothing
+  asked_adds (asked.VoteOf authority) path fault nothing = nothing
+  asked_adds (asked.VoteByDigest digest) path fault nothing = nothing
+  asked_adds (asked.Next form) path fault nothing = nothing
+  asked_adds asked.NextSignatures path fault nothing = nothing
+  asked_adds (asked.Current form) path fault nothing = nothing
+  asked_adds asked.AllKeys path fault nothing = nothing
+  asked_adds (asked.KeysOf authority) path fault nothing = nothing
+  asked_adds asked.AllDescriptors path fault nothing = nothing
+  asked_adds (asked.DescriptorOf relay) path fault nothing = nothing
+  asked_adds (asked.Micros place) path fault nothing = micros_adds (digest_list (drop place path)) fault nothing
+  asked_adds asked.Unknown path fault nothing = nothing
+  asked_adds asked.NotAllowed path fault nothing = nothing

@@ -25,12 +25,13 @@ module _ (rules : Rules) (board : Locks) (before then : Parts) (faults faults_th
   vote_goes asks asks_then last (inl none) = goes_still before then none.1.1
   vote_goes asks asks_then last (inr (inl refused)) = goes_still before then refused.still.1
   vote_goes asks asks_then last (inr (inr offered)) =
-      goes_makes board before then (Offered offered.vote Upload last) (Vote offered.offer) offered.makes
+      goes_makes rules board before then (Offered offered.vote Upload last) (Vote offered.offer) offered.makes
 
   module _ (allows : RelayFacts → Ruling → Bool) where
-    ruled_goes : (descriptor : Descriptor) → TakesRuled board before then allows descriptor answer → Goes before then
+    ruled_goes : (descriptor : Descriptor) → TakesRuled rules board before then allows descriptor answer
+        → Goes before then
     ruled_goes descriptor (inl out) = goes_still before then out.still
-    ruled_goes descriptor (inr taken) = goes_stores board before then descriptor taken.keep taken.stores
+    ruled_goes descriptor (inr taken) = goes_stores rules board before then descriptor taken.keep taken.stores
 
     -- of a descriptor
     pub descriptor_goes : TakesDescriptor rules board before then faults faults_then allows body answer

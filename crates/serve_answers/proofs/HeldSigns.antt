@@ -4,6 +4,7 @@ use Rattle.std.proofs.Common.{◌++◌, Bool, true, false, cond, refl, subst, ar
 use Rattle.std.specs.Int.{from_bool}
 use Rattle.std.proofs.lemmas.List.{length_push}
 use Rattle.std.proofs.lemmas.List.Sums.{sum_by-append}
+use Rattle.key_port.specs.Answers.{Rules}
 use Rattle.period_terms.specs.declared.answer.Answer.TheVariants.{Signature}
 use Rattle.period_terms.specs.declared.answer.SignIn.{SignIn}
 use Rattle.period_terms.specs.declared.event.Event.TheVariants.{SignedIn}
@@ -21,12 +22,13 @@ pub few_more : {X : Type 0} (b : Bool) (held more : ℕ) (offered : List X) (las
 few_more true held more offered last few one = omega (arith, few, one, length_push offered last)
 few_more false held more offered last few one = omega (arith, few, one, length_push offered last)
 
-module _ (board : Locks) where
+module _ (rules : Rules) (board : Locks) where
   each_more : (a b c : Parts) (signatures : List OfferedSignature) (answers : List SignIn) (last : OfferedSignature)
-      (answer : SignIn) → SignsEach board a signatures b answers → Makes board b c (SignedIn last) (Signature answer)
-      → SignsEach board a (signatures ++ last ∷ []) c (answers ++ answer ∷ [])
+      (answer : SignIn) → SignsEach rules board a signatures b answers
+      → Makes rules board b c (SignedIn last) (Signature answer)
+      → SignsEach rules board a (signatures ++ last ∷ []) c (answers ++ answer ∷ [])
   each_more a b c [] [] last answer each makes =
-      (c, subst (λ (p : Parts). Makes board p c (SignedIn last) (Signature answer)) each makes, refl)
+      (c, subst (λ (p : Parts). Makes rules board p c (SignedIn last) (Signature answer)) each makes, refl)
   each_more a b c [] (y ∷ ys) last answer each makes = absurd each
   each_more a b c (x ∷ xs) [] last answer each makes = absurd each
   each_more a b c (x ∷ xs) (y ∷ ys) last answer each makes =
@@ -34,8 +36,9 @@ module _ (board : Locks) where
 
   -- one more
   pub signs_more : (a b c : Parts) (signatures : List OfferedSignature) (last : OfferedSignature) (answer : SignIn)
-      (held more : ℕ) → SignsHeld board a signatures b held → Makes board b c (SignedIn last) (Signature answer)
-      → more ≡ from_bool (is_held answer) → SignsHeld board a (signatures ++ last ∷ []) c (held + more)
+      (held more : ℕ) → SignsHeld rules board a signatures b held
+      → Makes rules board b c (SignedIn last) (Signature answer)
+      → more ≡ from_bool (is_held answer) → SignsHeld rules board a (signatures ++ last ∷ []) c (held + more)
   signs_more a b c signatures last answer held more signs makes one = (
     signs.0 ++ answer ∷ [],
     each_more a b c signatures signs.0 last answer signs.1 makes,

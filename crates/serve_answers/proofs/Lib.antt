@@ -7,3 +7,5 @@ pub mod HeldSigns
 pub mod LineCounts
 pub mod Signed
 pub mod Telling
+pub mod Nothing
+pub mod Standing

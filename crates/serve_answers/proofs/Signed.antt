@@ -13,13 +13,13 @@ use Rattle.board_terms.specs.Boards.{Locks, Parts, Sees}
 use Rattle.serve_answers.specs.Handling.{OffersAccepted, SeesView, TakesSignatures}
 use Rattle.serve_answers.proofs.LineCounts.{line_count}
 
-module _ (board : Locks) (before : Parts) where
+module _ (rules : Rules) (board : Locks) (before : Parts) where
   -- what was seen to check signatures against
   view_seen : (then : Parts) (view : Option PeriodView)
-      → Sees board before then
+      → Sees rules board before then
       (λ (state : State) (answer : Result (Option PeriodView) Memory).
       MatchResult answer (λ found. found ≡ view_of state) (λ _. Unit {0})) (Ok view)
-      → SeesView board before then view
+      → SeesView rules board before then view
   view_seen then view sees = record {
     takes = record {
       longer = sees.takes.longer;
@@ -34,15 +34,16 @@ module _ (board : Locks) (before : Parts) where
   }
 
   -- they are offered
-  pub each_offered : {V : Type 0} (rules : Rules) (steps : Steps V) (faults faults_then : ℕ)
+  pub each_offered : {V : Type 0} (steps : Steps V) (faults faults_then : ℕ)
       (verifier verifier_then : V) (body : List ℕ) (between then : Parts) (found : Option PeriodView)
       (view : PeriodView) (tally : Tally) (answer : Reply) → found ≡ Some view
-      → Sees board before between
+      → Sees rules board before between
       (λ (state : State) (answer : Result (Option PeriodView) Memory).
       MatchResult answer (λ found. found ≡ view_of state) (λ _. Unit {0})) (Ok found)
-      → ChecksAll rules steps body view tally verifier verifier_then → OffersAccepted board between tally then answer
+      → ChecksAll rules steps body view tally verifier verifier_then
+      → OffersAccepted rules board between tally then answer
       → TakesSignatures rules steps board before then faults faults_then verifier verifier_then body answer
-  each_offered rules steps faults faults_then verifier verifier_then body between then found view tally answer is sees
+  each_offered steps faults faults_then verifier verifier_then body between then found view tally answer is sees
       checks offers =
       inr (inr record {
         view = view;
@@ -50,7 +51,7 @@ module _ (board : Locks) (before : Parts) where
         detached = checks.d;
         tally = tally;
         held = offers.held;
-        sees = subst (SeesView board before between) is (view_seen between found sees);
+        sees = subst (SeesView rules board before between) is (view_seen between found sees);
         is = checks.is;
         tells = checks.tells;
         signed = offers.signed;

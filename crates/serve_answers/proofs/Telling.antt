@@ -1,6 +1,6 @@
 -- What is told of an outcome.
 use Rattle.std.proofs.Common.{◌≡◌, ℕ, List, [], length, take, Option, Some, None, Result, Ok, Err}
-use Rattle.std.proofs.Common.{sym, ◌∙◌, subst, arith, append-nil}
+use Rattle.std.proofs.Common.{sym, ◌∙◌, subst, arith, append-nil, inr}
 use Rattle.std.proofs.lemmas.List.{take_all}
 use Rattle.std.specs.Io.KnownBytes.{Appends, Keeps}
 use Rattle.dir_http.specs.declared.response.WriteRefusal.{WriteRefusal}
@@ -48,4 +48,4 @@ module _ (written written_then : Option (List ℕ)) (write_faults write_faults_t
   served status.ReadFault handles tells = absurd tells
   served (status.WriteFault sent) handles tells =
       record { outcome = outcome; handles = handles; fewer = tells.0; wrote = tells.1; rose = tells.2 }
-  served status.Memory handles tells = tells
+  served status.Memory handles tells = (tells, inr (outcome, handles))

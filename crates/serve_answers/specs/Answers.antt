@@ -32,7 +32,7 @@ IsCaused faults faults_then reply.VerifierFault = Rose faults faults_then
 IsCaused faults faults_then reply.Memory = ⊥
 IsCaused faults faults_then answer = Unit {0}
 
-module _ (board : Locks) (before then : Parts) (allows : RelayFacts → Ruling → Bool) where
+module _ (rules : Rules) (board : Locks) (before then : Parts) (allows : RelayFacts → Ruling → Bool) where
   -- The rules allow to leave the relay out, and no event was made.
   pub record LeavesOut (descriptor : Descriptor) (answer : Reply) : Type 0 where
     pub allowed : IsTrue (allows (known_of [] descriptor) Reject)
@@ -45,7 +45,7 @@ module _ (board : Locks) (before then : Parts) (allows : RelayFacts → Ruling �
     pub keep : Keep
     pub other : ruling ≢ Reject
     pub allowed : IsTrue (allows (known_of [] descriptor) ruling)
-    pub stores : Stores board before then descriptor keep
+    pub stores : Stores rules board before then descriptor keep
     pub told : answer ≡ reply_to_keep keep
 
   -- what comes of a descriptor that holds, by the rules; nothing is measured of its relay
@@ -73,7 +73,7 @@ module _ (rules : Rules) (board : Locks) (before then : Parts) (faults faults_th
       pub is : IsVote body vote
       pub accepted : IsAcceptable rules board.station.start.roster vote.says.valid_after vote
       pub asked : Rose asks asks_then
-      pub makes : Makes board before then (Offered vote Upload last) (Vote offer)
+      pub makes : Makes rules board before then (Offered vote Upload last) (Vote offer)
       pub told : answer ≡ reply_to_offer offer
 
     -- what comes of a vote that is uploaded
@@ -96,7 +96,7 @@ module _ (rules : Rules) (board : Locks) (before then : Parts) (faults faults_th
       pub descriptor : Descriptor
       pub is : IsDescriptor body descriptor
       pub verified : descriptors.IsVerified rules descriptor
-      pub ruled : TakesRuled board before then allows descriptor answer
+      pub ruled : TakesRuled rules board before then allows descriptor answer
 
     -- what comes of a descriptor that is uploaded
     abbrev pub TakesDescriptor : List ℕ → Reply → Type 0

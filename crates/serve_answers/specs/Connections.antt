@@ -1,5 +1,5 @@
 -- What comes of one connection.
-use Rattle.std.specs.Prelude.{◌≡◌, ◌≢◌, ◌<◌, ℕ, List, [], take, length, Option, Some, Result, Ok, Err}
+use Rattle.std.specs.Prelude.{◌≡◌, ◌≢◌, ◌<◌, ◌⊎◌, ℕ, List, [], take, length, Option, Some, Result, Ok, Err}
 use Rattle.std.specs.Io.KnownBytes.{Appends}
 use Rattle.dir_bytes.specs.Causes.{Rose}
 use Rattle.dir_http.specs.declared.fault.HttpFault.{HttpFault}
@@ -18,6 +18,7 @@ use Rattle.serve_answers.specs.declared.answering.Handled.TheVariants as handled
 use Rattle.serve_answers.specs.declared.outcome.Outcome.{Outcome}
 use Rattle.serve_answers.specs.declared.outcome.Outcome.TheVariants.{Replied}
 use Rattle.serve_answers.specs.Outcomes.{code_of, body_of}
+use Rattle.serve_answers.specs.Finding.{AddsNothing}
 
 -- the text of the response that tells an outcome
 abbrev pub text_of : Outcome → List ℕ
@@ -65,12 +66,11 @@ module _ (Does : Asked → List ℕ → List ℕ → Outcome → Type 0) (before
     pub reads : ReadsWhole left read
     pub does : DoesFor read outcome
 
-  -- Something came of a request; or none was read, and nothing was done. After want of memory an event may have been
-  -- made.
+  -- Something came of a request; or none was read, and nothing was done. After want of memory nothing was added.
   abbrev pub IsHandled : Option (List ℕ) → Handled → Type 0
   IsHandled left (handled.Done outcome) = Handles left outcome
   IsHandled left (handled.Unread fault) = ReadsWhole left (Err fault) × (then ≡ before)
-  IsHandled left handled.Memory = Unit {0}
+  IsHandled left handled.Memory = AddsNothing before then
 
   module _ (left written written_then : Option (List ℕ)) (read_faults read_faults_then : ℕ)
       (write_faults write_faults_then : ℕ) where
@@ -89,9 +89,12 @@ module _ (Does : Asked → List ℕ → List ℕ → Outcome → Type 0) (before
       pub wrote : Appends written written_then (take sent (text_of outcome))
       pub rose : Rose write_faults write_faults_then
 
-    -- What came of a connection. After want of memory an event may have been made, and the response 500 was tried.
+    -- What came of a connection. After want of memory the response 500 was tried; and nothing was added, or what a
+    -- request asked for was done, which could not be told.
     abbrev pub Serves : ConnStatus → Type 0
     Serves (status.Answered code) = Answers code
     Serves status.ReadFault = Rose read_faults read_faults_then × (then ≡ before)
     Serves (status.WriteFault sent) = Breaks sent
-    Serves status.Memory = TriesShortage written written_then
+    Serves status.Memory =
+        TriesShortage written written_then
+        × (AddsNothing before then ⊎ ((outcome : Outcome) × Handles left outcome))

@@ -1,6 +1,7 @@
 -- What is found of what is asked for.
 use Rattle.std.specs.Prelude.{◌≡◌, ℕ, List, drop, Option, Some, None, Result, Ok, Err}
 use Rattle.dir_bytes.specs.declared.fault.Memory.{Memory}
+use Rattle.key_port.specs.Answers.{Rules}
 use Rattle.consensus_terms.specs.declared.flavour.Flavour.{Flavour}
 use Rattle.consensus_terms.specs.declared.flavour.Flavour.TheVariants as flavour
 use Rattle.http_words.specs.DigestLists.{digest_list}
@@ -10,9 +11,12 @@ use Rattle.http_words.specs.declared.asked.Form.{Form}
 use Rattle.http_words.specs.declared.asked.Form.TheVariants as form
 use Rattle.vote_terms.specs.Held.{vote_of}
 use Rattle.vote_pool.specs.Pools.{Pooled, descriptor_for}
+use Rattle.period_lock.specs.Turns.{entries}
 use Rattle.period_terms.specs.declared.name.Name.TheVariants as names
 use Rattle.period_terms.specs.declared.state.State.{State}
+use Rattle.period_terms.specs.Histories.{IsStart}
 use Rattle.period_terms.specs.Readings.{document_of, next_consensus_of}
+use Rattle.period_laws.specs.Publications.{WasPublished}
 use Rattle.signature_document.specs.Next.{next_signatures_of}
 use Rattle.board_terms.specs.Boards.{Locks, Parts, Sees, Looks}
 use Rattle.board_laws.specs.Going.{Goes}
@@ -30,15 +34,29 @@ pub record AddsNothing (before then : Parts) : Type 0 where
   pub station : then.station.mine ≡ before.station.mine
   pub pool : then.pool.mine ≡ before.pool.mine
 
-module _ (board : Locks) (before then : Parts) where
+module _ (rules : Rules) (board : Locks) (before then : Parts) where
   -- what is read of the station after one list, or there was no memory
   abbrev pub Reads : (State → Option (List ℕ)) → Result (Option (List ℕ)) Memory → Type 0
-  Reads document (Ok found) = Sees board before then (λ state answer. answer ≡ document state) found
+  Reads document (Ok found) = Sees rules board before then (λ state answer. answer ≡ document state) found
   Reads document (Err fault) = AddsNothing before then
+
+  -- a text of a flavour that stands was published, in what the pass has then seen, where the board began as an authority
+  -- begins
+  abbrev pub IsPublished : Flavour → Option (List ℕ) → Type 0
+  IsPublished flavour None = Unit {0}
+  IsPublished flavour (Some text) =
+      IsStart board.station.start → WasPublished rules board.station.start (entries then.station.seen) flavour text
+
+  -- the current consensus of a flavour is read, and was published, or there was no memory
+  abbrev pub ReadsCurrent : Flavour → Result (Option (List ℕ)) Memory → Type 0
+  ReadsCurrent flavour (Ok found) =
+      Sees rules board before then (λ state answer. answer ≡ document_of state (names.Current flavour)) found
+      × IsPublished flavour found
+  ReadsCurrent flavour (Err fault) = AddsNothing before then
 
   -- what is read of the pool after one list, or there was no memory
   abbrev pub Finds : (Pooled → Option (List ℕ)) → Result (Option (List ℕ)) Memory → Type 0
-  Finds document (Ok found) = Looks board before then (λ pool answer. answer ≡ document pool) found
+  Finds document (Ok found) = Looks rules board before then (λ pool answer. answer ≡ document pool) found
   Finds document (Err fault) = AddsNothing before then
 
   -- nothing is asked for that there is
@@ -65,8 +83,7 @@ module _ (board : Locks) (before then : Parts) where
       Reads (λ state. document_of state (names.VoteByDigest record { 0 = digest })) result
   FindsAsked (asked.Next form) path result = Reads (λ state. next_consensus_of (flavour_of form) state) result
   FindsAsked asked.NextSignatures path result = Reads (λ state. next_signatures_of state) result
-  FindsAsked (asked.Current form) path result =
-      Reads (λ state. document_of state (names.Current (flavour_of form))) result
+  FindsAsked (asked.Current form) path result = ReadsCurrent (flavour_of form) result
   FindsAsked asked.AllKeys path result = Reads (λ state. unless_empty (certificates_of state.votes)) result
   FindsAsked (asked.KeysOf authority) path result =
       Reads (λ state. unless_empty (certificate_if (vote_of state.votes record { 0 = authority }))) result

@@ -48,14 +48,14 @@ is_held signs.Have = true
 is_held signs.Closed = false
 is_held (signs.Kept position) = true
 
-module _ (board : Locks) where
+module _ (rules : Rules) (board : Locks) where
   -- one event for each signature, one after the other
   abbrev pub SignsEach : Parts → List OfferedSignature → Parts → List SignIn → Type 0
   SignsEach from [] to [] = to ≡ from
   SignsEach from [] to (answer ∷ answers) = ⊥
   SignsEach from (signature ∷ signatures) to [] = ⊥
   SignsEach from (signature ∷ signatures) to (answer ∷ answers) =
-      (between : Parts) × Makes board from between (SignedIn signature) (Signature answer)
+      (between : Parts) × Makes rules board from between (SignedIn signature) (Signature answer)
       × SignsEach between signatures to answers
 
   -- one event for each signature, of which so many are held then
@@ -71,7 +71,7 @@ module _ (board : Locks) where
 
   -- what signatures are checked against was seen, if there are texts
   abbrev pub SeesView : Parts → Parts → Option PeriodView → Type 0
-  SeesView before then view = Sees board before then (λ state found. found ≡ view_of state) view
+  SeesView before then view = Sees rules board before then (λ state found. found ≡ view_of state) view
 
 module _ {V : Type 0} (rules : Rules) (steps : Steps V) (board : Locks) (before then : Parts) (faults faults_then : ℕ)
     (verifier verifier_then : V) where
@@ -79,7 +79,7 @@ module _ {V : Type 0} (rules : Rules) (steps : Steps V) (board : Locks) (before 
   pub record RefusesSignatures (body : List ℕ) (answer : Reply) : Type 0 where
     pub view : PeriodView
     pub refusal : SigRefusal
-    pub sees : SeesView board before then (Some view)
+    pub sees : SeesView rules board before then (Some view)
     pub refused : checks.RefusedBy steps body view refusal verifier verifier_then
     pub told : reply_to_signatures refusal ≡ Some answer
     pub caused : IsCaused faults faults_then answer
@@ -92,16 +92,16 @@ module _ {V : Type 0} (rules : Rules) (steps : Steps V) (board : Locks) (before 
     pub detached : Detached
     pub tally : Tally
     pub held : ℕ
-    pub sees : SeesView board before between (Some view)
+    pub sees : SeesView rules board before between (Some view)
     pub is : checks.IsFor body view detached
     pub tells : checks.TellsLines rules steps view detached detached.signatures tally verifier verifier_then
-    pub signed : SignsHeld board between tally.checked then held
+    pub signed : SignsHeld rules board between tally.checked then held
     pub told : answer ≡ reply.Taken held (length detached.signatures)
 
   -- What comes of signatures that are uploaded: where there are no texts they are not computed, whatever the body is.
   abbrev pub TakesSignatures : List ℕ → Reply → Type 0
   TakesSignatures body answer =
-      (SeesView board before then None × (answer ≡ reply.Refused word.NotComputed))
+      (SeesView rules board before then None × (answer ≡ reply.Refused word.NotComputed))
       ⊎ (RefusesSignatures body answer ⊎ OffersSignatures body answer)
 
 -- ---- all requests
@@ -120,10 +120,10 @@ Replies Takes (Replied answer) = Takes answer
 Replies Takes (Found text) = ⊥
 
 -- the document that was found, or that there is none
-abbrev pub Finds : Locks → Parts → Parts → Asked → List ℕ → Outcome → Type 0
-Finds board before then ask path (Found text) = FindsAsked board before then ask path (Ok (Some text))
-Finds board before then ask path (Replied answer) =
-    (answer ≡ reply.NotFound) × FindsAsked board before then ask path (Ok None)
+abbrev pub Finds : Rules → Locks → Parts → Parts → Asked → List ℕ → Outcome → Type 0
+Finds rules board before then ask path (Found text) = FindsAsked rules board before then ask path (Ok (Some text))
+Finds rules board before then ask path (Replied answer) =
+    (answer ≡ reply.NotFound) × FindsAsked rules board before then ask path (Ok None)
 
 module _ {V : Type 0} (rules : Rules) (steps : Steps V) (board : Locks) (before then : Parts) (counted : Counted)
     (verifier verifier_then : V) (allows : RelayFacts → Ruling → Bool) where
@@ -141,7 +141,7 @@ module _ {V : Type 0} (rules : Rules) (steps : Steps V) (board : Locks) (before 
       (TakesSignatures rules steps board before then counted.faults counted.faults_then verifier verifier_then body)
       outcome
   Does asked.NotAllowed path body outcome = (outcome ≡ Replied reply.NotAllowed) × (then ≡ before)
-  Does ask path body outcome = Finds board before then ask path outcome
+  Does ask path body outcome = Finds rules board before then ask path outcome
 
 -- a fault of the verifier is told as an outcome only where its count rose, and want of memory never
 abbrev pub IsCausedOutcome : ℕ → ℕ → Outcome → Type 0

@@ -29,7 +29,8 @@ fn keep_ruled<R: Wait, W: Rules, F: Fn(RelayFacts) -> Ruling, V: Verifier>(
 ) -> Reply
     requires at { IsAt board.now pass.old }
     requires hook { KeepsTo W.allows F.pre F.post hook.now.rules hook.now.ask }
-    ensures ruled { TakesRuled board.now pass.old pass.new (W.allows hook.now.rules) entry result }
+    ensures ruled { TakesRuled (rules V.may_accept V.may_refuse) board.now pass.old pass.new
+        (W.allows hook.now.rules) entry result }
     ensures at { IsAt board.now pass.new }
 {
     match hook.rule(&known_of(&entry)) {

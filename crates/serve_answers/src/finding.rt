@@ -1,5 +1,6 @@
 // What is found of what is asked for.
 ghost use Rattle.std.specs.Prelude.{◌≡◌, drop};
+ghost use Rattle.key_port.specs.Answers.{rules};
 ghost use Rattle.http_words.specs.DigestLists.{digest_list};
 ghost use Rattle.board_laws.specs.Going.{Goes};
 ghost use Rattle.board_terms.specs.Boards.{IsAt};
@@ -49,7 +50,8 @@ fn find_micros<R: Wait, V: Verifier>(
     list: &[u8],
 ) -> Result<Option<Text>, Memory>
     requires at { IsAt board.now pass.old }
-    ensures finds { FindsMicros board.now pass.old pass.new (digest_list list.now) result }
+    ensures finds { FindsMicros (rules V.may_accept V.may_refuse) board.now pass.old pass.new
+        (digest_list list.now) result }
     ensures at { IsAt board.now pass.new }
 {
     match read_digests(alloc, list)? {
@@ -71,7 +73,7 @@ fn find_asked<R: Wait, V: Verifier>(
     path: &[u8],
 ) -> Result<Option<Text>, Memory>
     requires at { IsAt board.now pass.old }
-    ensures finds { FindsAsked board.now pass.old pass.new asked path.now result }
+    ensures finds { FindsAsked (rules V.may_accept V.may_refuse) board.now pass.old pass.new asked path.now result }
     ensures at { IsAt board.now pass.new }
 {
     match asked {
@@ -135,7 +137,7 @@ pub fn find<R: Wait, V: Verifier>(
     path: &[u8],
 ) -> Result<Option<Text>, Memory>
     requires at { IsAt board.now pass.old }
-    ensures finds { FindsAsked board.now pass.old pass.new asked path.now result }
+    ensures finds { FindsAsked (rules V.may_accept V.may_refuse) board.now pass.old pass.new asked path.now result }
     ensures at { IsAt board.now pass.new }
     ensures goes { Goes pass.old pass.new }
 {

@@ -1,9 +1,10 @@
 // What comes of one request.
-ghost use Rattle.std.specs.Prelude.{◌≡◌, ◌≤◌, ◌<◌, ◌^◌, IfOk, length};
+ghost use Rattle.std.specs.Prelude.{◌≡◌, ◌≤◌, ◌<◌, ◌^◌, IfOk, OnErr, length};
 ghost use Rattle.key_port.specs.Answers.{rules};
 ghost use Rattle.flag_rules.specs.Rules.{KeepsTo};
 ghost use Rattle.board_terms.specs.Boards.{IsAt};
 ghost use Rattle.board_laws.specs.Going.{Goes};
+ghost use Rattle.serve_answers.specs.Finding.{AddsNothing};
 ghost use Rattle.serve_answers.specs.Handling.{Does, Finds, IsCausedOutcome};
 
 use crate::descriptors::take_descriptor;
@@ -34,7 +35,8 @@ fn find_document<R: Wait, V: Verifier>(
     path: &[u8],
 ) -> Result<Outcome, Memory>
     requires at { IsAt board.now pass.old }
-    ensures finds { IfOk result (Finds board.now pass.old pass.new asked path.now) }
+    ensures finds { IfOk result (Finds (rules V.may_accept V.may_refuse) board.now pass.old pass.new asked path.now) }
+    ensures err { OnErr result (AddsNothing pass.old pass.new) }
     ensures at { IsAt board.now pass.new }
     ensures goes { Goes pass.old pass.new }
 {
@@ -47,7 +49,7 @@ fn find_document<R: Wait, V: Verifier>(
 /// Does what a request asks for by a path, with a body.
 ///
 /// # Errors
-/// `Memory` is want of memory. As the code stands no event was made then.
+/// `Memory` is want of memory, and then nothing was added.
 pub fn handle<R: Wait, W: Rules, F: Fn(RelayFacts) -> Ruling, C: Clock, V: Verifier>(
     rt: &R,
     alloc: Global,
@@ -73,6 +75,7 @@ pub fn handle<R: Wait, W: Rules, F: Fn(RelayFacts) -> Ruling, C: Clock, V: Verif
           faults_then = V.faults verifier.new;
         })
         verifier.old verifier.new (W.allows hook.now.rules) asked path.now body.now) }
+    ensures err { OnErr result (AddsNothing pass.old pass.new) }
     ensures caused { IfOk result (IsCausedOutcome (V.faults verifier.old) (V.faults verifier.new)) }
     ensures at { IsAt board.now pass.new }
     ensures goes { Goes pass.old pass.new }

@@ -1,10 +1,11 @@
 // Signatures that are uploaded.
-ghost use Rattle.std.specs.Prelude.{◌≡◌, ◌≤◌, ◌<◌, ◌^◌, IfOk, length};
+ghost use Rattle.std.specs.Prelude.{◌≡◌, ◌≤◌, ◌<◌, ◌^◌, IfOk, OnErr, length};
 ghost use Rattle.key_port.specs.Answers.{rules};
 ghost use Rattle.checked_sigs.specs.Checks.{tally_of};
 ghost use Rattle.board_terms.specs.Boards.{IsAt};
 ghost use Rattle.board_laws.specs.Going.{Goes};
 ghost use Rattle.serve_answers.specs.Answers.{IsCaused};
+ghost use Rattle.serve_answers.specs.Finding.{AddsNothing};
 ghost use Rattle.serve_answers.specs.Handling as handling;
 ghost use Rattle.serve_answers.specs.Handling.{OffersAccepted, SignsHeld, TakesSignatures};
 
@@ -54,7 +55,7 @@ fn sign_each<R: Wait, V: Verifier>(
 ) -> u64
     requires at { IsAt board.now pass.old }
     requires few { length signatures.items < 2 ^ 32 }
-    ensures signs { SignsHeld board.now pass.old signatures.items pass.new result }
+    ensures signs { SignsHeld (rules V.may_accept V.may_refuse) board.now pass.old signatures.items pass.new result }
     ensures at { IsAt board.now pass.new }
     ensures goes { Goes pass.old pass.new }
 {
@@ -69,7 +70,7 @@ fn sign_each<R: Wait, V: Verifier>(
 /// 4,294,967,295 of them, which no document has, are told as want of memory.
 ///
 /// # Errors
-/// `Memory` is want of memory. As the code stands no event was made then.
+/// `Memory` is want of memory, and then nothing was done.
 fn offer_accepted<R: Wait, V: Verifier>(
     rt: &R,
     board: &Board<V>,
@@ -78,7 +79,9 @@ fn offer_accepted<R: Wait, V: Verifier>(
 ) -> Result<Reply, Memory>
     requires at { IsAt board.now pass.old }
     ensures offers { IfOk result
-        (OffersAccepted board.now pass.old (tally_of report.checked report.skipped report.bad) pass.new) }
+        (OffersAccepted (rules V.may_accept V.may_refuse) board.now pass.old
+        (tally_of report.checked report.skipped report.bad) pass.new) }
+    ensures err { OnErr result (pass.new ≡ pass.old) }
     ensures at { IsAt board.now pass.new }
     ensures goes { Goes pass.old pass.new }
 {
@@ -98,7 +101,7 @@ fn offer_accepted<R: Wait, V: Verifier>(
 /// Takes signatures that are uploaded: they are checked against what is seen once, and then offered one by one.
 ///
 /// # Errors
-/// `Memory` is want of memory. As the code stands no event was made then.
+/// `Memory` is want of memory, and then nothing was added.
 pub fn take_signatures<R: Wait, V: Verifier>(
     rt: &R,
     alloc: Global,
@@ -112,6 +115,7 @@ pub fn take_signatures<R: Wait, V: Verifier>(
     ensures takes { IfOk result
         (TakesSignatures (rules V.may_accept V.may_refuse) V.steps board.now pass.old pass.new (V.faults verifier.old)
         (V.faults verifier.new) verifier.old verifier.new body.now) }
+    ensures err { OnErr result (AddsNothing pass.old pass.new) }
     ensures at { IsAt board.now pass.new }
     ensures goes { Goes pass.old pass.new }
     ensures faults { V.faults verifier.old ≤ V.faults verifier.new }

@@ -1,4 +1,5 @@
 use Rattle.std.proofs.Common.{◌≤◌, length}
+use Rattle.key_port.specs.Answers.{rules}
 use Rattle.board_terms.specs.Boards.{IsAt}
 use Rattle.board_laws.specs.Going.{Goes}
 use Rattle.serve_answers.specs.Handling.{SignsHeld}
@@ -7,7 +8,7 @@ use Rattle.serve_answers.proofs.signatures.sign_each.Given as goal
 -- each so far was offered, and so many of them are held
 abbrev pub invariant-signatures : goal.invariant-signatures
 invariant-signatures g l = record {
-  signs : SignsHeld l.board l.fn.pass l.yielded l.pass l.held;
+  signs : SignsHeld (rules g.V.Verifier.may_accept g.V.Verifier.may_refuse) l.board l.fn.pass l.yielded l.pass l.held;
   at : IsAt l.board l.pass;
   goes : Goes l.fn.pass l.pass;
   few : l.held ≤ length l.yielded;

@@ -10,7 +10,7 @@ returns-in-Ok-clause-takes g c =
     let report = c.in-Ok.report in
     let tally : Tally = tally_of report.checked report.skipped report.bad in
     IfOk-weaker c.offer_accepted.result _ _
-    (λ answer offers. each_offered c.args.board.now c.args.pass.now rules g.V.Verifier.steps
+    (λ answer offers. each_offered rules c.args.board.now c.args.pass.now g.V.Verifier.steps
     (g.V.Verifier.faults c.args.verifier.now) (g.V.Verifier.faults c.check_signatures.new.verifier)
     c.args.verifier.now c.check_signatures.new.verifier c.args.body.now c.view.new.pass c.offer_accepted.new.pass
     c.in_ok-found.found c.in-Some.view tally answer c.in-Some.is c.in_ok-found.ensures.reading c.in-Ok.ensures.checked
