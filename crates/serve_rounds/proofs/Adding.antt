@@ -5,10 +5,10 @@ use Rattle.std.specs.Global.{Vec}
 use Rattle.std.specs.Prelude.{IfSome, All, if◌then◌else◌}
 use Rattle.std.proofs.lemmas.List.{map-append}
 use Rattle.std.proofs.lemmas.List.Elements.{All-append, All-cons, All-nil, All-weaker}
+use mathlib.Core.List.{IsPrefix}
 use Rattle.dir_bytes.specs.declared.fault.Memory.{Memory}
 use Rattle.key_port.specs.Answers.{Relation, Rules}
 use Rattle.key_port.specs.Signing.{SignerSteps}
-use Rattle.descriptor_doc.specs.declared.descriptor.Descriptor.{Descriptor}
 use Rattle.flag_rules.specs.declared.relay.RelayFacts.{RelayFacts}
 use Rattle.flag_rules.specs.declared.ruling.Ruling.{Ruling}
 use Rattle.station_input.specs.declared.facts.StationFacts.{StationFacts}
@@ -23,34 +23,35 @@ use Rattle.period_terms.specs.declared.event.Event.TheVariants.{Advanced}
 use Rattle.period_terms.specs.declared.event.Signing.{Signing}
 use Rattle.period_terms.specs.declared.state.State.{State}
 use Rattle.period_terms.specs.Advances.{MayGiveAt}
-use Rattle.period_terms.specs.Histories.{IsHistory, after, entry_if}
+use Rattle.period_terms.specs.Histories.{after, entry_if}
 use Rattle.period_terms.specs.Steps.{changes}
+use Rattle.period_laws.specs.Checked.{IsCheckedHistory}
 use Rattle.board_terms.specs.Boards.{Locks, Parts, Makes, Sees, Looks, Advances}
-use Rattle.board_terms.specs.Stocks.{stock_after, AreKept}
+use Rattle.board_terms.specs.Stocks.{stock_after}
 use Rattle.board_laws.specs.Going.{Goes}
-use Rattle.board_laws.proofs.Going.{goes_same, goes_on, goes_makes, goes_sees, goes_looks}
-use Rattle.serve_rounds.specs.Duties.{Adds, AddsNone, AdvancesAll, IsAdvance}
-use Rattle.serve_rounds.specs.OwnVotes.{IsPeriodOf, IsTextMade, IsTextOfBoard}
+use Rattle.board_laws.proofs.Going.{goes_same, goes_on, goes_makes, goes_sees, goes_looks, prefix_same}
+use Rattle.serve_rounds.specs.Duties.{AdvancesAll, IsAdvance}
+use Rattle.serve_rounds.specs.OwnVotes.{IsTextMade, IsTextOfBoard}
+use Rattle.serve_rounds.specs.Spans.{AddedKind, Adds, AddsNone, Since}
+use Rattle.serve_rounds.proofs.Lasting.{Lasts, advance_lasts, if_earlier}
 
--- a text that was made of the board's pool, where there is one
+-- a text that was made of the board's pool at a reading, where there is one
 pub text_there : {N : Type 0} (rules : Rules) (gives : Relation) (steps : SignerSteps N)
-    (allows : RelayFacts → Ruling → Bool) (station : StationFacts) (board : Locks) (valid_after now : ℕ)
-    (kept : List Descriptor) → AreKept board.pool.start kept → (reply : Option (Vec ℕ))
+    (allows : RelayFacts → Ruling → Bool) (station : StationFacts) (board : Locks) (a b : Parts) (valid_after now : ℕ)
+    {A : Type 0} (right : Pooled → A → Type 0) (answer : A) → Looks rules board a b right answer → (reply : Option (Vec ℕ))
     → IfSome reply (λ (text : Vec ℕ). IsTextMade rules gives steps allows station
-    (stock_after board.pool.start kept).descriptors valid_after now text.items)
-    → IfSome reply (λ (text : Vec ℕ). IsTextOfBoard rules gives steps allows station board valid_after now text.items)
-text_there rules gives steps allows station board valid_after now kept are_kept None made = tt
-text_there rules gives steps allows station board valid_after now kept are_kept (Some text) made =
-    record { kept = kept; are_kept = are_kept; made = made }
+    (stock_after board.pool.start (entries b.pool.seen)).descriptors valid_after now text.items)
+    → IfSome reply (λ (text : Vec ℕ). IsTextOfBoard rules gives steps allows station board a b valid_after now
+    text.items)
+text_there rules gives steps allows station board a b valid_after now right answer looks None made = tt
+text_there rules gives steps allows station board a b valid_after now right answer looks (Some text) made = record {
+  place = b.pool.seen;
+  seen = record { longer = looks.takes.longer; here = prefix_same b.pool.seen };
+  are_kept = looks.takes.is_story;
+  made = made;
+}
 
--- the entry of an event, if it has one, is all that it adds
-entry_by-map : {X : Type 0} (n : ℕ) (e : Option X) → entry_by n e ≡ map (λ x. (n, x)) (option_to_list e)
-entry_by-map n None = refl
-entry_by-map n (Some e) = refl
-
-all_one : {X : Type 0} (P : X → Type 0) (e : Option X) → IfSome e P → All P (option_to_list e)
-all_one P None is = All-nil P
-all_one P (Some e) is = All-cons P e [] is (All-nil P)
+-- ---- nothing
 
 -- a pass that is as it was
 pub none_same : (a : Parts) → AddsNone a a
@@ -64,151 +65,175 @@ none_more a b c g h = record {
   goes = goes_on a b c g.goes h.goes;
 }
 
-module _ (board : Locks) (b c : Parts) where
+module _ (rules : Rules) (board : Locks) (b c : Parts) where
   -- a reading of the station adds nothing
-  pub none_sees : {A : Type 0} (right : State → A → Type 0) (answer : A) → Sees board b c right answer → AddsNone b c
+  pub none_sees : {A : Type 0} (right : State → A → Type 0) (answer : A) → Sees rules board b c right answer
+      → AddsNone b c
   none_sees right answer sees = record {
     mine = sees.takes.mine;
     pool = ap (λ k. k.mine) sees.pool;
-    goes = goes_sees board b c right answer sees;
+    goes = goes_sees rules board b c right answer sees;
   }
 
   -- nor does one of the pool
-  pub none_looks : {A : Type 0} (right : Pooled → A → Type 0) (answer : A) → Looks board b c right answer → AddsNone b c
+  pub none_looks : {A : Type 0} (right : Pooled → A → Type 0) (answer : A) → Looks rules board b c right answer
+      → AddsNone b c
   none_looks right answer looks = record {
     mine = ap (λ k. k.mine) looks.station;
     pool = looks.takes.mine;
-    goes = goes_looks board b c right answer looks;
+    goes = goes_looks rules board b c right answer looks;
   }
 
-module _ (P : Entry → Type 0) where
+-- ---- entries of a kind
+
+-- the entry of an event, if it has one, is all that it adds
+pub entry_by-map : {X : Type 0} (n : ℕ) (e : Option X) → entry_by n e ≡ map (λ x. (n, x)) (option_to_list e)
+entry_by-map n None = refl
+entry_by-map n (Some e) = refl
+
+pub all_one : {X : Type 0} (P : X → Type 0) (e : Option X) → IfSome e P → All P (option_to_list e)
+all_one P None is = All-nil P
+all_one P (Some e) is = All-cons P e [] is (All-nil P)
+
+-- the own entries, where some were added and then more
+pub own_more : {X : Type 0} (n m : ℕ) (xs ys zs : List (ℕ × X)) (added more : List X) → m ≡ n
+    → ys ≡ xs ++ map (λ e. (n, e)) added → zs ≡ ys ++ map (λ e. (m, e)) more
+    → zs ≡ xs ++ map (λ e. (n, e)) (added ++ more)
+own_more n m xs ys zs added more same first second =
+    second ∙ ap (λ k. ys ++ map (λ e. (k, e)) more) same ∙ ap (λ l. l ++ map (λ e. (n, e)) more) first
+    ∙ append_assoc xs (map (λ e. (n, e)) added) (map (λ e. (n, e)) more)
+    ∙ ap (λ l. xs ++ l) (sym (map-append (λ e. (n, e)) added more))
+
+module _ (P : AddedKind) where
   -- a pass that is as it was
   pub adds_same : (a : Parts) → Adds P a a
   adds_same a = record {
     added = [];
-    each = All-nil P;
+    each = All-nil (P a a);
     mine = sym (append-nil a.station.mine);
     pool = refl;
     goes = goes_same a;
   }
 
-  -- a pass that added something, and adds more
-  pub adds_more : (a b c : Parts) → Adds P a b → Adds P b c → Adds P a c
-  adds_more a b c g h = record {
-    added = g.added ++ h.added;
-    each = All-append P g.added h.added g.each h.each;
-    mine = h.mine ∙ ap (λ n. b.station.mine ++ map (λ e. (n, e)) h.added) g.goes.station.number
-        ∙ ap (λ l. l ++ map (λ e. (a.station.number, e)) h.added) g.mine
-        ∙ append_assoc a.station.mine (map (λ e. (a.station.number, e)) g.added)
-        (map (λ e. (a.station.number, e)) h.added)
-        ∙ ap (λ l. a.station.mine ++ l) (sym (map-append (λ e. (a.station.number, e)) g.added h.added));
-    pool = h.pool ∙ g.pool;
-    goes = goes_on a b c g.goes h.goes;
-  }
-
   -- what is added is of a wider kind
-  pub adds_wider : (Q : Entry → Type 0) → ((e : Entry) → P e → Q e) → (a b : Parts) → Adds P a b → Adds Q a b
-  adds_wider Q wider a b g = record {
+  pub adds_wider : (Q : AddedKind) (a b : Parts) → ((e : Entry) → P a b e → Q a b e) → Adds P a b → Adds Q a b
+  adds_wider Q a b wider g = record {
     added = g.added;
-    each = All-weaker P Q wider g.added g.each;
+    each = All-weaker (P a b) (Q a b) wider g.added g.each;
     mine = g.mine;
     pool = g.pool;
     goes = g.goes;
   }
 
-  -- a pass that added something, and then nothing
-  pub adds_none : (a b c : Parts) → Adds P a b → AddsNone b c → Adds P a c
-  adds_none a b c before none = adds_more a b c before record {
-    added = [];
-    each = All-nil P;
-    mine = none.mine ∙ sym (append-nil b.station.mine);
-    pool = none.pool;
-    goes = none.goes;
-  }
-
-  -- the same, where what is added by none is known of each beginning
-  pub adds_still : (a b c : Parts) → Adds P a b → ((x : Parts) → AddsNone x b → AddsNone x c) → Adds P a c
-  adds_still a b c before none = adds_none a b c before (none b (none_same b))
-
-  module _ (board : Locks) (a b c : Parts) (before : Adds P a b) where
-    -- by a reading of the station
-    pub adds_sees : {A : Type 0} (right : State → A → Type 0) (answer : A) → Sees board b c right answer → Adds P a c
-    adds_sees right answer sees = adds_none a b c before (none_sees board b c right answer sees)
-
-    -- by an event whose entry, if it has one, is of the kind
-    pub adds_makes : (event : Event) (answer : Answer) → IfSome (entry_if event answer) P
-        → Makes board b c event answer → Adds P a c
-    adds_makes event answer is makes = adds_more a b c before record {
-      added = option_to_list (entry_if event answer);
-      each = all_one P (entry_if event answer) is;
-      mine = makes.takes.mine
-          ∙ ap (λ l. b.station.mine ++ l) (entry_by-map b.station.number (entry_if event answer));
-      pool = ap (λ k. k.mine) makes.pool;
-      goes = goes_makes board b c event answer makes;
+  module _ (lasts : Lasts P) where
+    -- a pass that added something, and adds more, of the kind over both
+    adds_on : (a b c : Parts) → Adds P a b → (more : List Entry) → All (P a c) more
+        → c.station.mine ≡ b.station.mine ++ map (λ e. (b.station.number, e)) more → c.pool.mine ≡ b.pool.mine
+        → Goes b c → Adds P a c
+    adds_on a b c g more each mine pool goes = record {
+      added = g.added ++ more;
+      each =
+          All-append (P a c) g.added more
+          (All-weaker (P a b) (P a c) (λ e p. lasts.later a b c e goes p) g.added g.each) each;
+      mine = own_more a.station.number b.station.number a.station.mine b.station.mine c.station.mine g.added more
+          g.goes.station.number g.mine mine;
+      pool = pool ∙ g.pool;
+      goes = goes_on a b c g.goes goes;
     }
 
-  -- the entry is of the kind, where there is one
-  if_kind : (changed : Bool) (entry : Entry) → P entry → IfSome (if changed then Some entry else None) P
-  if_kind true entry is = is
-  if_kind false entry is = tt
+    -- the same, of what another part of the call added
+    pub adds_more : (a b c : Parts) → Adds P a b → Adds P b c → Adds P a c
+    adds_more a b c g h =
+        adds_on a b c g h.added
+        (All-weaker (P b c) (P a c) (λ e p. lasts.earlier a b c e g.goes p) h.added h.each) h.mine h.pool h.goes
 
-  pub entry_kind : (event : Event) (answer : Answer) → P (record { event = event; answer = answer })
-      → IfSome (entry_if event answer) P
-  entry_kind event answer is = if_kind (changes answer) (record { event = event; answer = answer }) is
+    -- a pass that added something, and then nothing
+    pub adds_none : (a b c : Parts) → Adds P a b → AddsNone b c → Adds P a c
+    adds_none a b c before none =
+        adds_on a b c before [] (All-nil (P a c)) (none.mine ∙ sym (append-nil b.station.mine)) none.pool none.goes
+
+    -- the same, where what is added by none is known of each beginning
+    pub adds_still : (a b c : Parts) → Adds P a b → ((x : Parts) → AddsNone x b → AddsNone x c) → Adds P a c
+    adds_still a b c before none = adds_none a b c before (none b (none_same b))
+
+    module _ (rules : Rules) (board : Locks) (a b c : Parts) (before : Adds P a b) where
+      -- by a reading of the station
+      pub adds_sees : {A : Type 0} (right : State → A → Type 0) (answer : A) → Sees rules board b c right answer
+          → Adds P a c
+      adds_sees right answer sees = adds_none a b c before (none_sees rules board b c right answer sees)
+
+      -- by an event whose entry, if it has one, is of the kind
+      pub adds_makes : (event : Event) (answer : Answer) → IfSome (entry_if event answer) (P a c)
+          → Makes rules board b c event answer → Adds P a c
+      adds_makes event answer is makes =
+          adds_on a b c before (option_to_list (entry_if event answer))
+          (all_one (P a c) (entry_if event answer) is)
+          (makes.takes.mine ∙ ap (λ l. b.station.mine ++ l) (entry_by-map b.station.number (entry_if event answer)))
+          (ap (λ k. k.mine) makes.pool) (goes_makes rules board b c event answer makes)
+
+-- the entry is of a kind, where there is one
+if_kind : (P : Entry → Type 0) (changed : Bool) (entry : Entry) → P entry
+    → IfSome (if changed then Some entry else None) P
+if_kind P true entry is = is
+if_kind P false entry is = tt
+
+pub entry_kind : (P : Entry → Type 0) (event : Event) (answer : Answer)
+    → P (record { event = event; answer = answer }) → IfSome (entry_if event answer) P
+entry_kind P event answer is = if_kind P (changes answer) (record { event = event; answer = answer }) is
+
+-- what was added of one kind is added of a wider one
+pub adds_part : (P Q : AddedKind) → Lasts Q → (a b c : Parts) → ((e : Entry) → P b c e → Q b c e) → Adds Q a b
+    → ((x : Parts) → Adds P x b → Adds P x c) → Adds Q a c
+adds_part P Q lasts a b c wider before part =
+    adds_more Q lasts a b c before (adds_wider P Q b c wider (part b (adds_same P b)))
+
+-- a kind that is told from the same moment on
+pub since_here : (P : AddedKind) (a b : Parts) → Adds P a b → Adds (Since a P) a b
+since_here P a b g = record { added = g.added; each = g.each; mine = g.mine; pool = g.pool; goes = g.goes }
+
+pub here_since : (P : AddedKind) (a b : Parts) → Adds (Since a P) a b → Adds P a b
+here_since P a b g = record { added = g.added; each = g.each; mine = g.mine; pool = g.pool; goes = g.goes }
+
+-- ---- advances
 
 module _ (gives : Relation) (rules : Rules) (board : Locks) (now : ℕ) where
   -- the entry of an advance is one, where there is one
-  if_moved : (changed : Bool) (entry : Entry) (given : Signing) → entry.event ≡ Advanced now given
-      → (story : List (ℕ × Entry)) (number : ℕ)
-      → IsHistory board.station.start (entries (story ++ entry_by number (if changed then Some entry else None)))
-      → MayGiveAt gives rules (after board.station.start (entries story)) given
-      → IfSome (if changed then Some entry else None) (IsAdvance gives rules board now)
-  if_moved true entry given event story number is_story may = record {
+  if_moved : (changed : Bool) (b c : Parts) (entry : Entry) (given : Signing) → entry.event ≡ Advanced now given
+      → (place : List (ℕ × Entry)) → IsPrefix b.station.seen place
+      → c.station.seen ≡ place ++ entry_by b.station.number (if changed then Some entry else None)
+      → IsCheckedHistory rules board.station.start (entries c.station.seen)
+      → MayGiveAt gives rules (after board.station.start (entries place)) given
+      → IfSome (if changed then Some entry else None) (IsAdvance gives rules board now b c)
+  if_moved true b c entry given event place longer seen is_story may = record {
     given = given;
     event = event;
-    story = entries story;
+    place = place;
+    longer = longer;
+    here = subst (λ (l : List (ℕ × Entry)). IsPrefix l c.station.seen) seen (prefix_same c.station.seen);
     is_story =
-        subst (IsHistory board.station.start) (map-append (λ (e : ℕ × Entry). e.1) story ((number, entry) ∷ []))
-        is_story;
+        subst (λ (l : List (ℕ × Entry)). IsCheckedHistory rules board.station.start (entries l)) seen is_story;
     may = may;
   }
-  if_moved false entry given event story number is_story may = tt
+  if_moved false b c entry given event place longer seen is_story may = tt
 
   -- by an advance, or where there was no memory
   pub adds_advances : (a b c : Parts) → Adds (IsAdvance gives rules board now) a b
-      → (answer : Result Advance Memory) → Advances board b c gives rules now answer
+      → (answer : Result Advance Memory) → Advances rules board b c gives now answer
       → Adds (IsAdvance gives rules board now) a c
   adds_advances a b c before (Ok answer) moves =
-      adds_makes (IsAdvance gives rules board now) board a b c before (Advanced now moves.given) (Moment answer)
-      (if_moved (changes (Moment answer)) (record { event = Advanced now moves.given; answer = Moment answer })
-      moves.given refl moves.makes.takes.story b.station.number
-      (subst (λ (l : List (ℕ × Entry)). IsHistory board.station.start (entries l)) moves.makes.takes.seen
-      moves.makes.takes.is_story)
-      moves.may) moves.makes
+      let lasts = advance_lasts gives rules board now in
+      adds_makes (IsAdvance gives rules board now) lasts rules board a b c before (Advanced now moves.given)
+      (Moment answer)
+      (if_earlier (IsAdvance gives rules board now) lasts a b c before.goes
+      (entry_if (Advanced now moves.given) (Moment answer))
+      (if_moved (changes (Moment answer)) b c (record { event = Advanced now moves.given; answer = Moment answer })
+      moves.given refl moves.makes.takes.story moves.makes.takes.longer moves.makes.takes.seen
+      moves.makes.takes.is_story moves.may)) moves.makes
   adds_advances a b c before (Err fault) sees =
-      adds_sees (IsAdvance gives rules board now) board a b c before (λ state answer. Unit {0}) fault sees
-
-  -- a pass goes on by an advance
-  goes_advances : (a b : Parts) (answer : Result Advance Memory) → Advances board a b gives rules now answer → Goes a b
-  goes_advances a b (Ok answer) moves = goes_makes board a b (Advanced now moves.given) (Moment answer) moves.makes
-  goes_advances a b (Err fault) sees = goes_sees board a b (λ state answer. Unit {0}) fault sees
+      adds_sees (IsAdvance gives rules board now) (advance_lasts gives rules board now) rules board a b c before
+      (λ state answer. Unit {0}) fault sees
 
   -- and by as many as there are
-  pub goes_advanced : (a b : Parts) (answer : Result Advance Memory)
-      → AdvancesAll gives rules board a b now answer → Goes a b
-  goes_advanced a b answer all = goes_on a all.from b all.begun.goes (goes_advances all.from b answer all.last)
-
--- a moment that was asked of the board is that of a period that it was in
-pub period_seen : (board : Locks) (a b : Parts) (valid_after : ℕ)
-    → Sees board a b (λ state answer. answer ≡ state.valid_after) valid_after → IsPeriodOf board valid_after
-period_seen board a b valid_after sees = record {
-  story = entries b.station.seen;
-  is_story = sees.takes.is_story;
-  begins = sees.takes.right_there;
-}
-
--- what was added of one kind is added of a wider one
-pub adds_part : (P Q : Entry → Type 0) → ((e : Entry) → P e → Q e) → (a b c : Parts) → Adds Q a b
-    → ((x : Parts) → Adds P x b → Adds P x c) → Adds Q a c
-adds_part P Q wider a b c before part =
-    adds_more Q a b c before (adds_wider P Q wider b c (part b (adds_same P b)))
+  pub adds_advanced : (a b : Parts) (answer : Result Advance Memory)
+      → AdvancesAll gives rules board a b now answer → Adds (IsAdvance gives rules board now) a b
+  adds_advanced a b answer all = adds_advances a all.from b all.begun answer all.last

@@ -1,5 +1,6 @@
 -- The vote that an authority makes at a board (dir-spec, "Voting timeline").
-use Rattle.std.specs.Prelude.{◌≡◌, ℕ, Bool, List, Ok}
+use Rattle.std.specs.Prelude.{◌≡◌, ℕ, Bool, true, List, Ok}
+use Rattle.blank_lines.specs.Ends.{ends_at}
 use Rattle.key_port.specs.Answers.{Relation, Rules}
 use Rattle.key_port.specs.Signing.{SignerSteps}
 use Rattle.descriptor_doc.specs.declared.descriptor.Descriptor.{Descriptor}
@@ -12,19 +13,25 @@ use Rattle.vote_maker.specs.Making.{IsMade}
 use Rattle.vote_terms.specs.Acceptable.{IsVerified}
 use Rattle.vote_terms.specs.Votes.{ReadVote}
 use Rattle.period_terms.specs.declared.entry.Entry.{Entry}
-use Rattle.period_terms.specs.Histories.{IsHistory, after}
-use Rattle.board_terms.specs.Boards.{Locks}
+use Rattle.period_terms.specs.Histories.{after}
+use Rattle.period_laws.specs.Checked.{IsCheckedHistory}
+use Rattle.board_terms.specs.Boards.{Locks, Parts}
 use Rattle.board_terms.specs.Stocks.{stock_after, AreKept}
+use Rattle.period_lock.specs.Turns.{entries}
+use Rattle.serve_rounds.specs.Spans.{WasSeen}
 
--- The text begins with the vote.
-abbrev pub BeginsWith : List ℕ → ReadVote → Type 0
-BeginsWith text vote = (used : ℕ) × (vote_of text ≡ Ok (vote, used))
+-- The text is the vote, and then nothing but blank lines.
+pub record IsTextOfVote (text : List ℕ) (vote : ReadVote) : Type 0 where
+  pub used : ℕ
+  pub reads : vote_of text ≡ Ok (vote, used)
+  pub ends : ends_at used text ≡ true
 
--- The board was in the period that begins then, after some history.
-pub record IsPeriodOf (board : Locks) (valid_after : ℕ) : Type 0 where
-  pub story : List Entry
-  pub is_story : IsHistory board.station.start story
-  pub begins : valid_after ≡ (after board.station.start story).valid_after
+-- The board was in the period that begins then, at some time between.
+pub record IsPeriodOf (rules : Rules) (board : Locks) (from to : Parts) (valid_after : ℕ) : Type 0 where
+  pub place : List (ℕ × Entry)
+  pub seen : WasSeen from.station.seen to.station.seen place
+  pub is_story : IsCheckedHistory rules board.station.start (entries place)
+  pub begins : valid_after ≡ (after board.station.start (entries place)).valid_after
 
 module _ {N : Type 0} (rules : Rules) (gives : Relation) (steps : SignerSteps N)
     (allows : RelayFacts → Ruling → Bool) (station : StationFacts) where
@@ -35,15 +42,16 @@ module _ {N : Type 0} (rules : Rules) (gives : Relation) (steps : SignerSteps N)
       (old : N) × (new : N) × IsMade rules gives steps allows (basis station descriptors valid_after now) text old new
 
   -- The text is that of a vote that is made at a moment for a period, of what the authority is given and of the
-  -- descriptors of a pool that stood at the board.
-  pub record IsTextOfBoard (board : Locks) (valid_after now : ℕ) (text : List ℕ) : Type 0 where
-    pub kept : List Descriptor
-    pub are_kept : AreKept board.pool.start kept
-    pub made : IsTextMade (stock_after board.pool.start kept).descriptors valid_after now text
+  -- descriptors of the pool that stood at the board at some time between.
+  pub record IsTextOfBoard (board : Locks) (from to : Parts) (valid_after now : ℕ) (text : List ℕ) : Type 0 where
+    pub place : List (ℕ × Descriptor)
+    pub seen : WasSeen from.pool.seen to.pool.seen place
+    pub are_kept : AreKept rules board.pool.start (entries place)
+    pub made : IsTextMade (stock_after board.pool.start (entries place)).descriptors valid_after now text
 
-  -- The vote is the one that the authority made at that moment for that period, and it holds.
-  pub record IsOwnVote (board : Locks) (valid_after now : ℕ) (vote : ReadVote) : Type 0 where
+  -- The vote is the one that the authority made so at that moment for that period, and it holds.
+  pub record IsOwnVote (board : Locks) (from to : Parts) (valid_after now : ℕ) (vote : ReadVote) : Type 0 where
     pub text : List ℕ
-    pub text_is : IsTextOfBoard board valid_after now text
-    pub begins : BeginsWith text vote
+    pub text_is : IsTextOfBoard board from to valid_after now text
+    pub is : IsTextOfVote text vote
     pub verified : IsVerified rules vote

@@ -3,7 +3,8 @@ ghost use Rattle.std.specs.Prelude.{◌≡◌, ◌≤◌, Ok, IsTrue};
 ghost use Rattle.dir_bytes.specs.Causes.{Rose};
 ghost use Rattle.key_port.specs.Answers.{rules};
 ghost use Rattle.board_terms.specs.Boards.{IsAt, Advances, Parts};
-ghost use Rattle.serve_rounds.specs.Duties.{Adds, AdvancesAll, IsAdvance, Settles};
+ghost use Rattle.serve_rounds.specs.Duties.{AdvancesAll, IsAdvance, Settles};
+ghost use Rattle.serve_rounds.specs.Spans.{Adds};
 
 use dir_bytes::Memory;
 use key_port::{Signer, Verifier};
@@ -50,8 +51,10 @@ fn advance_once<H: Wait, V: Verifier, N: Signer>(
     signer: &mut N,
 ) -> Result<Advance, Memory>
     requires at { IsAt board.now pass.old }
-    ensures event { Advances board.now pass.old pass.new N.may_give (rules V.may_accept V.may_refuse) now result }
-    ensures adds { (a : Parts) → Adds (IsAdvance N.may_give (rules V.may_accept V.may_refuse) board.now now) a pass.old → Adds (IsAdvance N.may_give (rules V.may_accept V.may_refuse) board.now now) a pass.new }
+    ensures event { Advances (rules V.may_accept V.may_refuse) board.now pass.old pass.new N.may_give now result }
+    ensures adds { (a : Parts)
+        → Adds (IsAdvance N.may_give (rules V.may_accept V.may_refuse) board.now now) a pass.old
+        → Adds (IsAdvance N.may_give (rules V.may_accept V.may_refuse) board.now now) a pass.new }
     ensures at { IsAt board.now pass.new }
     ensures signer_fault { result ≡ Ok Advance.SignerFault → Rose (N.faults signer.old) (N.faults signer.new) }
     ensures signer_faults { N.faults signer.old ≤ N.faults signer.new }
@@ -73,11 +76,13 @@ pub(crate) fn advance_all<H: Wait, V: Verifier, N: Signer>(
     signer: &mut N,
 ) -> (Result<Advance, Memory>, bool)
     requires at { IsAt board.now pass.old }
-    ensures advanced { AdvancesAll N.may_give (rules V.may_accept V.may_refuse) board.now pass.old pass.new now result.0 }
+    ensures advanced { AdvancesAll N.may_give (rules V.may_accept V.may_refuse) board.now pass.old pass.new now
+        result.0 }
     ensures at { IsAt board.now pass.new }
     ensures signer_fault { result.0 ≡ Ok Advance.SignerFault → Rose (N.faults signer.old) (N.faults signer.new) }
     ensures signer_faults { N.faults signer.old ≤ N.faults signer.new }
-    ensures verifier_fault { result.0 ≡ Ok Advance.VerifierFault → Rose (V.faults verifier.old) (V.faults verifier.new) }
+    ensures verifier_fault { result.0 ≡ Ok Advance.VerifierFault → Rose (V.faults verifier.old) (V.faults
+        verifier.new) }
     ensures verifier_faults { V.faults verifier.old ≤ V.faults verifier.new }
 {
     let mut signed = false;

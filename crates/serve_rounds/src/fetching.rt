@@ -4,7 +4,8 @@ ghost use Rattle.key_port.specs.Answers.{rules};
 ghost use Rattle.dir_values.specs.Digests.{fingerprint_text};
 ghost use Rattle.vote_terms.specs.Acceptable.{IsVerified};
 ghost use Rattle.board_terms.specs.Boards.{IsAt, Parts};
-ghost use Rattle.serve_rounds.specs.Duties.{Adds, IsFetched};
+ghost use Rattle.serve_rounds.specs.Duties.{IsFetched};
+ghost use Rattle.serve_rounds.specs.Spans.{Adds, Anywhere};
 
 use crate::bodies::vote_in;
 use crate::peers::{address_of, body_of};
@@ -76,7 +77,9 @@ fn fetch_vote<H: Wait, V: Verifier, L: Link>(
     link: &mut L,
 )
     requires at { IsAt board.now pass.old }
-    ensures adds { (a : Parts) → Adds (IsFetched (rules V.may_accept V.may_refuse) now) a pass.old → Adds (IsFetched (rules V.may_accept V.may_refuse) now) a pass.new }
+    ensures adds { (a : Parts)
+        → Adds (Anywhere (IsFetched (rules V.may_accept V.may_refuse) now)) a pass.old
+        → Adds (Anywhere (IsFetched (rules V.may_accept V.may_refuse) now)) a pass.new }
     ensures at { IsAt board.now pass.new }
     ensures verifier { V.faults verifier.old ≤ V.faults verifier.new }
     ensures link { L.faults link.old ≤ L.faults link.new }
@@ -112,7 +115,9 @@ fn fetch_from<H: Wait, V: Verifier, L: Link>(
     link: &mut L,
 )
     requires at { IsAt board.now pass.old }
-    ensures adds { (a : Parts) → Adds (IsFetched (rules V.may_accept V.may_refuse) now) a pass.old → Adds (IsFetched (rules V.may_accept V.may_refuse) now) a pass.new }
+    ensures adds { (a : Parts)
+        → Adds (Anywhere (IsFetched (rules V.may_accept V.may_refuse) now)) a pass.old
+        → Adds (Anywhere (IsFetched (rules V.may_accept V.may_refuse) now)) a pass.new }
     ensures at { IsAt board.now pass.new }
     ensures verifier { V.faults verifier.old ≤ V.faults verifier.new }
     ensures link { L.faults link.old ≤ L.faults link.new }
@@ -147,7 +152,9 @@ fn fetch_all<H: Wait, V: Verifier, L: Link>(
     link: &mut L,
 )
     requires at { IsAt board.now pass.old }
-    ensures adds { (a : Parts) → Adds (IsFetched (rules V.may_accept V.may_refuse) now) a pass.old → Adds (IsFetched (rules V.may_accept V.may_refuse) now) a pass.new }
+    ensures adds { (a : Parts)
+        → Adds (Anywhere (IsFetched (rules V.may_accept V.may_refuse) now)) a pass.old
+        → Adds (Anywhere (IsFetched (rules V.may_accept V.may_refuse) now)) a pass.new }
     ensures at { IsAt board.now pass.new }
     ensures verifier { V.faults verifier.old ≤ V.faults verifier.new }
     ensures link { L.faults link.old ≤ L.faults link.new }
@@ -183,7 +190,9 @@ pub(crate) fn fetch_once<H: Wait, V: Verifier, L: Link>(
     link: &mut L,
 )
     requires at { IsAt board.now pass.old }
-    ensures adds { (a : Parts) → Adds (IsFetched (rules V.may_accept V.may_refuse) now) a pass.old → Adds (IsFetched (rules V.may_accept V.may_refuse) now) a pass.new }
+    ensures adds { (a : Parts)
+        → Adds (Anywhere (IsFetched (rules V.may_accept V.may_refuse) now)) a pass.old
+        → Adds (Anywhere (IsFetched (rules V.may_accept V.may_refuse) now)) a pass.new }
     ensures at { IsAt board.now pass.new }
     ensures verifier { V.faults verifier.old ≤ V.faults verifier.new }
     ensures link { L.faults link.old ≤ L.faults link.new }

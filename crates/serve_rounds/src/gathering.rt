@@ -2,7 +2,8 @@
 ghost use Rattle.std.specs.Prelude.{◌≡◌, ◌≤◌};
 ghost use Rattle.key_port.specs.Answers.{rules};
 ghost use Rattle.board_terms.specs.Boards.{IsAt, Parts};
-ghost use Rattle.serve_rounds.specs.Duties.{Adds, IsGathered};
+ghost use Rattle.serve_rounds.specs.Duties.{IsGathered};
+ghost use Rattle.serve_rounds.specs.Spans.{Adds, Anywhere};
 
 use crate::peers::{address_of, body_of};
 use crate::round::Round;
@@ -28,7 +29,9 @@ fn gather_from<H: Wait, V: Verifier, L: Link>(
     link: &mut L,
 )
     requires at { IsAt board.now pass.old }
-    ensures adds { (a : Parts) → Adds (IsGathered (rules V.may_accept V.may_refuse)) a pass.old → Adds (IsGathered (rules V.may_accept V.may_refuse)) a pass.new }
+    ensures adds { (a : Parts)
+        → Adds (Anywhere (IsGathered (rules V.may_accept V.may_refuse))) a pass.old
+        → Adds (Anywhere (IsGathered (rules V.may_accept V.may_refuse))) a pass.new }
     ensures at { IsAt board.now pass.new }
     ensures verifier { V.faults verifier.old ≤ V.faults verifier.new }
     ensures link { L.faults link.old ≤ L.faults link.new }
@@ -57,7 +60,9 @@ fn gather_all<H: Wait, V: Verifier, L: Link>(
     link: &mut L,
 )
     requires at { IsAt board.now pass.old }
-    ensures adds { (a : Parts) → Adds (IsGathered (rules V.may_accept V.may_refuse)) a pass.old → Adds (IsGathered (rules V.may_accept V.may_refuse)) a pass.new }
+    ensures adds { (a : Parts)
+        → Adds (Anywhere (IsGathered (rules V.may_accept V.may_refuse))) a pass.old
+        → Adds (Anywhere (IsGathered (rules V.may_accept V.may_refuse))) a pass.new }
     ensures at { IsAt board.now pass.new }
     ensures verifier { V.faults verifier.old ≤ V.faults verifier.new }
     ensures link { L.faults link.old ≤ L.faults link.new }
@@ -81,7 +86,9 @@ pub(crate) fn gather_once<H: Wait, V: Verifier, L: Link>(
     link: &mut L,
 )
     requires at { IsAt board.now pass.old }
-    ensures adds { (a : Parts) → Adds (IsGathered (rules V.may_accept V.may_refuse)) a pass.old → Adds (IsGathered (rules V.may_accept V.may_refuse)) a pass.new }
+    ensures adds { (a : Parts)
+        → Adds (Anywhere (IsGathered (rules V.may_accept V.may_refuse))) a pass.old
+        → Adds (Anywhere (IsGathered (rules V.may_accept V.may_refuse))) a pass.new }
     ensures at { IsAt board.now pass.new }
     ensures verifier { V.faults verifier.old ≤ V.faults verifier.new }
     ensures link { L.faults link.old ≤ L.faults link.new }

@@ -2,8 +2,8 @@
 ghost use Rattle.std.specs.Prelude.{◌≡◌, ◌≤◌, IfSome, IsTrue};
 ghost use Rattle.key_port.specs.Answers.{rules};
 ghost use Rattle.board_terms.specs.Boards.{IsAt, Parts};
-ghost use Rattle.serve_rounds.specs.Duties.{AddsNone};
 ghost use Rattle.serve_rounds.specs.OwnVotes.{IsTextMade, IsTextOfBoard};
+ghost use Rattle.serve_rounds.specs.Spans.{AddsNone};
 
 use crate::ruling::Rulers;
 use crate::schedule::schedule_of;
@@ -41,7 +41,8 @@ fn text_of<W: Rulers, N: Signer, V: Verifier>(
     verifier: &mut V,
     signer: &mut N,
 ) -> Option<Vec<u8>>
-    ensures made { IfSome result (λ text. IsTextMade (rules V.may_accept V.may_refuse) N.may_give N.steps (W.allows ruler.now) station.now pool.now.descriptors valid_after now text.items) }
+    ensures made { IfSome result (λ text. IsTextMade (rules V.may_accept V.may_refuse) N.may_give N.steps (W.allows
+        ruler.now) station.now pool.now.descriptors valid_after now text.items) }
     ensures verifier { V.faults verifier.old ≤ V.faults verifier.new }
     ensures signer { N.faults signer.old ≤ N.faults signer.new }
 {
@@ -76,7 +77,8 @@ impl<'a, 'b, 'c, W: Rulers, N: Signer, V: Verifier> Question<Pool<V>>
     type Reply = Option<Vec<u8>>;
 
     ghost finds = { λ before pool reply then.
-        IfSome reply (λ text. IsTextMade (rules V.may_accept V.may_refuse) N.may_give N.steps (W.allows before.ruler.now) before.station.now pool.descriptors before.valid_after before.moment text.items)
+        IfSome reply (λ text. IsTextMade (rules V.may_accept V.may_refuse) N.may_give N.steps (W.allows before.ruler.now)
+        before.station.now pool.descriptors before.valid_after before.moment text.items)
         × (V.faults before.verifier.now ≤ V.faults then.verifier.now)
         × (N.faults before.signer.now ≤ N.faults then.signer.now)
         × (then.signer.ghost_name ≡ before.signer.ghost_name) × (then.verifier.ghost_name ≡ before.verifier.ghost_name) };
@@ -118,7 +120,8 @@ fn made_in_turn<'b, 'c, H: Wait, W: Rulers, V: Verifier, N: Signer>(
     out: &mut Option<Vec<u8>>,
 ) -> Lent<'b, 'c, N, V>
     requires at { IsAt board.now pass.old }
-    ensures text { IfSome out.new (λ text. IsTextOfBoard (rules V.may_accept V.may_refuse) N.may_give N.steps (W.allows ruler.now) station.now board.now valid_after moment text.items) }
+    ensures text { IfSome out.new (λ text. IsTextOfBoard (rules V.may_accept V.may_refuse) N.may_give N.steps
+        (W.allows ruler.now) station.now board.now pass.old pass.new valid_after moment text.items) }
     ensures none { (a : Parts) → AddsNone a pass.old → AddsNone a pass.new }
     ensures at { IsAt board.now pass.new }
     ensures verifier { V.faults verifier.old ≤ V.faults result.verifier.now }
@@ -159,7 +162,8 @@ pub(crate) fn own_text<H: Wait, W: Rulers, V: Verifier, N: Signer>(
     signer: &mut N,
 ) -> Option<Vec<u8>>
     requires at { IsAt board.now pass.old }
-    ensures text { IfSome result (λ text. IsTextOfBoard (rules V.may_accept V.may_refuse) N.may_give N.steps (W.allows ruler.now) station.now board.now valid_after now text.items) }
+    ensures text { IfSome result (λ text. IsTextOfBoard (rules V.may_accept V.may_refuse) N.may_give N.steps
+        (W.allows ruler.now) station.now board.now pass.old pass.new valid_after now text.items) }
     ensures none { (a : Parts) → AddsNone a pass.old → AddsNone a pass.new }
     ensures at { IsAt board.now pass.new }
     ensures verifier { V.faults verifier.old ≤ V.faults verifier.new }

@@ -1,8 +1,9 @@
 // Detached signatures: those that are held brought to the peers, and those that a peer gave checked and offered.
-ghost use Rattle.std.specs.Prelude.{◌≡◌, ◌≤◌};
+ghost use Rattle.std.specs.Prelude.{◌≡◌, ◌≤◌, IfSome};
 ghost use Rattle.key_port.specs.Answers.{rules};
 ghost use Rattle.board_terms.specs.Boards.{IsAt, Parts};
-ghost use Rattle.serve_rounds.specs.Duties.{Adds, AddsNone, IsGathered};
+ghost use Rattle.serve_rounds.specs.Duties.{IsGathered, TellsAccepted};
+ghost use Rattle.serve_rounds.specs.Spans.{Adds, AddsNone, Anywhere};
 
 use crate::peers::post_to_peers;
 use crate::round::Round;
@@ -19,7 +20,7 @@ use std::sync::Wait;
 /// The most bytes of signatures that are read.
 const MOST_BYTES: usize = 1_064_960;
 
-/// The signatures of a body that the verifier accepts. None where the body is no document of them for the period, or they can't be
+/// The signatures of a body that the verifier accepted. None where the body is no document of them for the period, or they can't be
 /// checked.
 pub(crate) fn checked_of<V: Verifier>(
     alloc: Global,
@@ -27,6 +28,8 @@ pub(crate) fn checked_of<V: Verifier>(
     view: &PeriodView,
     verifier: &mut V,
 ) -> Option<Vec<CheckedSig<V>>>
+    ensures told { IfSome result (λ signatures. TellsAccepted (rules V.may_accept V.may_refuse) V.steps body.now
+        view.now signatures.items verifier.old verifier.new) }
     ensures verifier { V.faults verifier.old ≤ V.faults verifier.new }
 {
     if body.len() > MOST_BYTES {
@@ -46,10 +49,13 @@ fn sign_in_one<H: Wait, V: Verifier>(
     signature: CheckedSig<V>,
 )
     requires at { IsAt board.now pass.old }
-    ensures adds { (a : Parts) → Adds (IsGathered (rules V.may_accept V.may_refuse)) a pass.old → Adds (IsGathered (rules V.may_accept V.may_refuse)) a pass.new }
+    ensures adds { (a : Parts)
+        → Adds (Anywhere (IsGathered (rules V.may_accept V.may_refuse))) a pass.old
+        → Adds (Anywhere (IsGathered (rules V.may_accept V.may_refuse))) a pass.new }
     ensures at { IsAt board.now pass.new }
 {
     let _accepted = signature.signature();
+    let _named = signature.key_digest();
     let _ = board.sign_in(rt, pass, signature);
 }
 
@@ -61,7 +67,9 @@ pub(crate) fn sign_in_all<H: Wait, V: Verifier>(
     signatures: Vec<CheckedSig<V>>,
 )
     requires at { IsAt board.now pass.old }
-    ensures adds { (a : Parts) → Adds (IsGathered (rules V.may_accept V.may_refuse)) a pass.old → Adds (IsGathered (rules V.may_accept V.may_refuse)) a pass.new }
+    ensures adds { (a : Parts)
+        → Adds (Anywhere (IsGathered (rules V.may_accept V.may_refuse))) a pass.old
+        → Adds (Anywhere (IsGathered (rules V.may_accept V.may_refuse))) a pass.new }
     ensures at { IsAt board.now pass.new }
 {
     'signatures: for signature in signatures {

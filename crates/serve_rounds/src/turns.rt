@@ -3,8 +3,9 @@ ghost use Rattle.std.specs.Prelude.{◌≡◌, MatchResult, is_some};
 ghost use Rattle.period_terms.specs.Readings.{document_of};
 ghost use Rattle.period_terms.specs.declared.name.Name.TheVariants as names;
 ghost use Rattle.signature_document.specs.Next.{next_signatures_of};
+ghost use Rattle.key_port.specs.Answers.{rules};
 ghost use Rattle.board_terms.specs.Boards.{IsAt, Parts, Sees};
-ghost use Rattle.serve_rounds.specs.Duties.{AddsNone};
+ghost use Rattle.serve_rounds.specs.Spans.{AddsNone};
 
 use dir_bytes::{Memory, Text};
 use dir_values::Fingerprint;
@@ -57,7 +58,8 @@ pub(crate) fn is_held<H: Wait, V: Verifier>(
 ) -> bool
     requires at { IsAt board.now pass.old }
     ensures none { (a : Parts) → AddsNone a pass.old → AddsNone a pass.new }
-    ensures reading { Sees board.now pass.old pass.new (λ state answer. answer ≡ is_some (document_of state (names.Vote authority))) result }
+    ensures reading { Sees (rules V.may_accept V.may_refuse) board.now pass.old pass.new (λ state answer. answer ≡
+        is_some (document_of state (names.Vote authority))) result }
     ensures at { IsAt board.now pass.new }
 {
     let (reply, _) = board.ask(rt, pass, AskHeld { authority });
@@ -76,7 +78,8 @@ pub(crate) fn signatures_held<H: Wait, V: Verifier>(
 ) -> Result<Option<Text>, Memory>
     requires at { IsAt board.now pass.old }
     ensures none { (a : Parts) → AddsNone a pass.old → AddsNone a pass.new }
-    ensures reading { Sees board.now pass.old pass.new (λ state answer. MatchResult answer (λ text. text ≡ next_signatures_of state) (λ _. Unit {0})) result }
+    ensures reading { Sees (rules V.may_accept V.may_refuse) board.now pass.old pass.new (λ state answer. MatchResult
+        answer (λ text. text ≡ next_signatures_of state) (λ _. Unit {0})) result }
     ensures at { IsAt board.now pass.new }
 {
     let (reply, _) = board.ask(rt, pass, AskSignatures { alloc });

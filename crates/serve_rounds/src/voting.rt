@@ -2,8 +2,10 @@
 ghost use Rattle.std.specs.Prelude.{◌≡◌, ◌≤◌, IfSome};
 ghost use Rattle.key_port.specs.Answers.{rules};
 ghost use Rattle.board_terms.specs.Boards.{IsAt, Parts};
-ghost use Rattle.serve_rounds.specs.Duties.{Adds, AddsNone, IsOwn};
+ghost use Rattle.board_laws.specs.Going.{Goes};
+ghost use Rattle.serve_rounds.specs.Duties.{IsOwn};
 ghost use Rattle.serve_rounds.specs.OwnVotes.{IsOwnVote, IsPeriodOf};
+ghost use Rattle.serve_rounds.specs.Spans.{Adds, AddsNone, Since};
 
 use crate::bodies::vote_in;
 use crate::making::own_text;
@@ -34,7 +36,8 @@ fn own_vote<H: Wait, W: Rulers, V: Verifier, N: Signer>(
     signer: &mut N,
 ) -> Option<(CheckedVote<V>, Bytes)>
     requires at { IsAt board.now pass.old }
-    ensures own { IfSome result (λ found. IsOwnVote (rules V.may_accept V.may_refuse) N.may_give N.steps (W.allows ruler.now) station.now board.now valid_after now found.0) }
+    ensures own { IfSome result (λ found. IsOwnVote (rules V.may_accept V.may_refuse) N.may_give N.steps (W.allows
+        ruler.now) station.now board.now pass.old pass.new valid_after now found.0) }
     ensures none { (a : Parts) → AddsNone a pass.old → AddsNone a pass.new }
     ensures at { IsAt board.now pass.new }
     ensures verifier { V.faults verifier.old ≤ V.faults verifier.new }
@@ -85,8 +88,12 @@ fn offer_own<H: Wait, W: Rulers, V: Verifier, N: Signer>(
     signer: &mut N,
 ) -> Option<Bytes>
     requires at { IsAt board.now pass.old }
-    requires period { IsPeriodOf board.now valid_after }
-    ensures adds { (a : Parts) → Adds (IsOwn (rules V.may_accept V.may_refuse) N.may_give N.steps (W.allows ruler.now) station.now board.now now) a pass.old → Adds (IsOwn (rules V.may_accept V.may_refuse) N.may_give N.steps (W.allows ruler.now) station.now board.now now) a pass.new }
+    ensures adds { (from a : Parts) → Goes from pass.old
+        → IsPeriodOf (rules V.may_accept V.may_refuse) board.now from pass.old valid_after
+        → Adds (Since from (IsOwn (rules V.may_accept V.may_refuse) N.may_give N.steps (W.allows ruler.now)
+        station.now board.now now)) a pass.old
+        → Adds (Since from (IsOwn (rules V.may_accept V.may_refuse) N.may_give N.steps (W.allows ruler.now)
+        station.now board.now now)) a pass.new }
     ensures at { IsAt board.now pass.new }
     ensures verifier { V.faults verifier.old ≤ V.faults verifier.new }
     ensures signer { N.faults signer.old ≤ N.faults signer.new }
@@ -125,8 +132,12 @@ pub(crate) fn vote_once<H: Wait, W: Rulers, V: Verifier, N: Signer, L: Link>(
     link: &mut L,
 )
     requires at { IsAt board.now pass.old }
-    requires period { IsPeriodOf board.now round.old.valid_after }
-    ensures adds { (a : Parts) → Adds (IsOwn (rules V.may_accept V.may_refuse) N.may_give N.steps (W.allows ruler.now) station.now board.now now) a pass.old → Adds (IsOwn (rules V.may_accept V.may_refuse) N.may_give N.steps (W.allows ruler.now) station.now board.now now) a pass.new }
+    ensures adds { (from a : Parts) → Goes from pass.old
+        → IsPeriodOf (rules V.may_accept V.may_refuse) board.now from pass.old round.old.valid_after
+        → Adds (Since from (IsOwn (rules V.may_accept V.may_refuse) N.may_give N.steps (W.allows ruler.now)
+        station.now board.now now)) a pass.old
+        → Adds (Since from (IsOwn (rules V.may_accept V.may_refuse) N.may_give N.steps (W.allows ruler.now)
+        station.now board.now now)) a pass.new }
     ensures at { IsAt board.now pass.new }
     ensures verifier { V.faults verifier.old ≤ V.faults verifier.new }
     ensures signer { N.faults signer.old ≤ N.faults signer.new }

@@ -4,8 +4,9 @@ ghost use Rattle.dir_bytes.specs.Causes.{Counts, Rose};
 ghost use Rattle.key_port.specs.Answers.{rules};
 ghost use Rattle.board_terms.specs.Boards.{IsAt, Parts};
 ghost use Rattle.board_laws.specs.Going.{Goes};
-ghost use Rattle.serve_rounds.specs.Duties.{Adds, Duties, IsRound};
+ghost use Rattle.serve_rounds.specs.Duties.{Duties, IsRound};
 ghost use Rattle.serve_rounds.specs.OwnVotes.{IsPeriodOf};
+ghost use Rattle.serve_rounds.specs.Spans.{Adds, Since};
 
 use crate::advancing::advance_all;
 use crate::fetching::fetch_once;
@@ -49,8 +50,12 @@ fn work_in_phase<H: Wait, W: Rulers, V: Verifier, N: Signer, L: Link>(
     link: &mut L,
 )
     requires at { IsAt board.now pass.old }
-    requires period { IsPeriodOf board.now round.old.valid_after }
-    ensures adds { (a : Parts) → Adds (IsRound (rules V.may_accept V.may_refuse) N.may_give N.steps (W.allows ruler.now) station.now board.now now) a pass.old → Adds (IsRound (rules V.may_accept V.may_refuse) N.may_give N.steps (W.allows ruler.now) station.now board.now now) a pass.new }
+    ensures adds { (from a : Parts) → Goes from pass.old
+        → IsPeriodOf (rules V.may_accept V.may_refuse) board.now from pass.old round.old.valid_after
+        → Adds (Since from (IsRound (rules V.may_accept V.may_refuse) N.may_give N.steps (W.allows ruler.now)
+        station.now board.now now)) a pass.old
+        → Adds (Since from (IsRound (rules V.may_accept V.may_refuse) N.may_give N.steps (W.allows ruler.now)
+        station.now board.now now)) a pass.new }
     ensures at { IsAt board.now pass.new }
     ensures verifier { V.faults verifier.old ≤ V.faults verifier.new }
     ensures signer { N.faults signer.old ≤ N.faults signer.new }
@@ -85,7 +90,11 @@ fn work<H: Wait, W: Rulers, V: Verifier, N: Signer, L: Link>(
     link: &mut L,
 )
     requires at { IsAt board.now pass.old }
-    ensures adds { (a : Parts) → Adds (IsRound (rules V.may_accept V.may_refuse) N.may_give N.steps (W.allows ruler.now) station.now board.now now) a pass.old → Adds (IsRound (rules V.may_accept V.may_refuse) N.may_give N.steps (W.allows ruler.now) station.now board.now now) a pass.new }
+    ensures adds { (a : Parts)
+        → Adds (IsRound (rules V.may_accept V.may_refuse) N.may_give N.steps (W.allows ruler.now) station.now
+        board.now now) a pass.old
+        → Adds (IsRound (rules V.may_accept V.may_refuse) N.may_give N.steps (W.allows ruler.now) station.now
+        board.now now) a pass.new }
     ensures at { IsAt board.now pass.new }
     ensures verifier { V.faults verifier.old ≤ V.faults verifier.new }
     ensures signer { N.faults signer.old ≤ N.faults signer.new }
@@ -99,7 +108,7 @@ fn work<H: Wait, W: Rulers, V: Verifier, N: Signer, L: Link>(
     );
 }
 
-/// Does the duties of an authority once, at one moment of the clock, which is asked once. The station is advanced until nothing more
+/// Does the duties of an authority once, at one moment of the clock, which is asked first. The station is advanced until nothing more
 /// comes of the moment, or that can't be done; then comes what the phase of the period asks for, each duty once in a period. The peers
 /// are the authorities that have an address, without the own one, in the input's order; one that fails is passed over, and so is a
 /// response with another code than 200. The own vote is made of what the station is given, of the board's pool and of the rulings of
@@ -122,7 +131,8 @@ pub fn duties<H: Wait, R: Rulers, F, C: Clock, V: Verifier, N: Signer, L: Link>(
     link: &mut L,
 ) -> Result<Advance, Memory>
     requires at { IsAt board.now pass.old }
-    ensures duties { Duties (rules V.may_accept V.may_refuse) N.may_give N.steps (R.allows hook.now.rules) station.now board.now pass.old pass.new (C.last clock.new) result }
+    ensures duties { Duties (rules V.may_accept V.may_refuse) N.may_give N.steps (R.allows hook.now.rules)
+        station.now board.now pass.old pass.new (C.last clock.new) result }
     ensures goes { Goes pass.old pass.new }
     ensures at { IsAt board.now pass.new }
     ensures asks { Counts (C.asks clock.old) (C.asks clock.new) }

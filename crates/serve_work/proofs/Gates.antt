@@ -1,8 +1,9 @@
 -- What the gates of workers tell of all gates.
-use Rattle.std.proofs.Common.{◌≡◌, ℕ, ◌<◌, List, map, length, sym, ap, ◌∙◌, subst, arith, true}
+use Rattle.std.proofs.Common.{◌≡◌, ℕ, ◌<◌, List, map, length, sym, ap, ◌∙◌, subst, arith, true, inr}
 use Rattle.std.specs.Prelude.{All, Bool, Option, slice_index_or}
 use Rattle.std.proofs.lemmas.List.{get_or-map, length-map}
 use Rattle.std.proofs.lemmas.List.Elements.{All-map, All-same}
+use Rattle.key_port.specs.Answers.{Rules}
 use Rattle.vote_pool.specs.Pools.{Pooled}
 use Rattle.period_terms.specs.declared.state.State.{State}
 use Rattle.gate_workers.specs.declared.running.Ran.{Ran}
@@ -12,7 +13,8 @@ use Rattle.gate_workers.specs.Workers.{GateRose, RanTo}
 use Rattle.board_terms.specs.Boards.{Locks, Parts, IsAt, Leaves}
 use Rattle.serve_work.specs.declared.serving.Served.{Served}
 use Rattle.serve_work.specs.declared.serving.Served.TheVariants as served
-use Rattle.serve_work.specs.Serving.{EachClosed, GatesRan, HaveGone, LeavesBoard, Reports, Serves, SomeRose}
+use Rattle.serve_work.specs.Serving.{EachClosed, GatesRan, LeavesBoard, Reports, Serves, SomeRose}
+use Rattle.serve_work.specs.Workers.{HaveWorked}
 
 module _ {G K : Type 0} (faults : G → ℕ) (closed : G → Bool) (ws ws' : List (Worker G K)) (gates gates' : List G)
     (was : map (λ w. w.gate) ws ≡ gates) (is : gates' ≡ map (λ w. w.gate) ws') (long : length ws' ≡ length ws) where
@@ -43,26 +45,31 @@ module _ {G K : Type 0} (faults : G → ℕ) (closed : G → Bool) (ws ws' : Lis
   gates_ran ran.Failed rose = some_rose rose
   gates_ran ran.Closed all = each_closed all
 
-module _ {G : Type 0} (faults : G → ℕ) (closed : G → Bool) (gates gates' : List G) (board : Locks)
-    (began ended : List Parts) (left : State) (kept : Pooled) (all : EachClosed closed gates')
-    (at : All (IsAt board) ended) (count : length ended ≡ length began) (gone : HaveGone began ended)
-    (leaves : Leaves board ended left kept) (old new : Option (List ℕ)) (before now : ℕ) where
-  left_such : (IsSuch : State → Type 0) → IsSuch left → LeavesBoard board began IsSuch
+module _ {G : Type 0} (faults : G → ℕ) (closed : G → Bool) (gates gates' : List G) (rules : Rules) (board : Locks)
+    (HasDone : Parts → Parts → Type 0) (began ended : List Parts) (left : State) (kept : Pooled)
+    (at : All (IsAt board) ended) (count : length ended ≡ length began) (worked : HaveWorked HasDone began ended)
+    (leaves : Leaves rules board ended left kept) (old new : Option (List ℕ)) (before now : ℕ) where
+  left_such : (IsSuch : State → Type 0) → IsSuch left → LeavesBoard rules board HasDone began IsSuch
   left_such IsSuch such = record {
     ended = ended;
     left = left;
     kept = kept;
     at = at;
     count = count;
-    gone = gone;
+    worked = worked;
     leaves = leaves;
     such = such;
   }
 
-  -- how serving ends where all gates are closed
-  pub serves_closed : (result : Served) → Reports old new before now left result
-      → Serves faults closed gates gates' board began old new before now result
-  serves_closed served.Whole told = (all, left_such (λ s. Reports old new before now s served.Whole) told)
-  serves_closed served.WriteFault told = (all, left_such (λ s. Reports old new before now s served.WriteFault) told)
-  serves_closed served.NoMemory told = told
-  serves_closed served.GateFault told = absurd told
+  -- how serving ends where a gate failed behind all that was served
+  pub serves_failed : (told : Served) → Reports old new before now left told → SomeRose faults gates gates'
+      → Serves faults closed gates gates' rules board HasDone began old new before now served.GateFault
+  serves_failed told reports rose = (rose, inr (told, left_such (λ s. Reports old new before now s told) reports))
+
+  -- how it ends where all gates are closed
+  pub serves_closed : EachClosed closed gates' → (result : Served) → Reports old new before now left result
+      → Serves faults closed gates gates' rules board HasDone began old new before now result
+  serves_closed all served.Whole told = (all, left_such (λ s. Reports old new before now s served.Whole) told)
+  serves_closed all served.WriteFault told = (all, left_such (λ s. Reports old new before now s served.WriteFault) told)
+  serves_closed all served.NoMemory told = told
+  serves_closed all served.GateFault told = absurd told

@@ -1,15 +1,15 @@
 -- What holds of workers by their places, and of what they had.
-use Rattle.std.proofs.Common.{◌≡◌, ℕ, ◌<◌, List, [], ◌∷◌, map, length, refl, sym, ap, ◌∙◌, subst, arith}
+use Rattle.std.proofs.Common.{◌≡◌, ℕ, ◌<◌, ◌≤◌, List, [], ◌∷◌, map, length, refl, sym, ap, ◌∙◌, subst, arith}
 use Rattle.std.specs.Prelude.{All, Bool, slice_index_or}
 use Rattle.std.proofs.lemmas.List.{get_or-map, length-map}
 use Rattle.std.proofs.lemmas.List.Elements.{All-map, All-same}
 use Rattle.board_terms.specs.Boards.{Locks, Parts, IsAt}
-use Rattle.board_laws.proofs.Going.{goes_same}
 use Rattle.flag_rules.specs.Rules.{KeepsTo}
 use Rattle.flag_rules.specs.declared.hook.Hook.{Hook}
 use Rattle.flag_rules.specs.declared.relay.RelayFacts.{RelayFacts}
 use Rattle.flag_rules.specs.declared.ruling.Ruling.{Ruling}
-use Rattle.serve_work.specs.Attendants.{ComesTo, MayAttend}
+use Rattle.station_input.specs.declared.facts.StationFacts.{StationFacts}
+use Rattle.serve_work.specs.Attendants.{ComesTo, MayAttend, Orders}
 
 -- some element of a list that has one
 some_of : {X : Type 0} (xs : List X) (i : ℕ) → i < length xs → X
@@ -17,10 +17,25 @@ some_of [] i below = absurd (omega (arith, below))
 some_of (x ∷ xs) i below = x
 
 -- a worker that has done nothing comes to what it is
-pub comes_same : {V : Type 0} (faults : V → ℕ) (board : Locks) (pass : Parts) (verifier : V)
-    → ComesTo faults board pass verifier board pass verifier
-comes_same faults board pass verifier =
-    record { board_is = refl; goes = goes_same pass; verifier_faults = omega arith }
+pub comes_same : {V W : Type 0} (faults : V → ℕ) (HasDone : Orders W → Parts → Parts → Type 0) (by : Orders W)
+    (pass : Parts) (verifier : V) → HasDone by pass pass
+    → ComesTo faults HasDone by pass verifier by pass verifier
+comes_same faults HasDone by pass verifier done =
+    record { same = refl; worked = done; verifier_faults = omega arith }
+
+-- and one that works on comes to more
+pub comes_more : {V W : Type 0} (faults : V → ℕ) (HasDone : Orders W → Parts → Parts → Type 0)
+    (by by' by'' : Orders W) (pass pass' pass'' : Parts) (verifier verifier' verifier'' : V)
+    → ((by : Orders W) → HasDone by pass pass' → HasDone by pass' pass'' → HasDone by pass pass'')
+    → ComesTo faults HasDone by pass verifier by' pass' verifier' → by'' ≡ by' → HasDone by' pass' pass''
+    → faults verifier' ≤ faults verifier''
+    → ComesTo faults HasDone by pass verifier by'' pass'' verifier''
+comes_more faults HasDone by by' by'' pass pass' pass'' verifier verifier' verifier'' more before same done failed =
+    record {
+      same = same ∙ before.same;
+      worked = more by before.worked (subst (λ o. HasDone o pass' pass'') before.same done);
+      verifier_faults = omega (arith, before.verifier_faults, failed);
+    }
 
 module _ {X Y : Type 0} (part : X → Y) (R : Y → Y → Type 0) (ws ws' : List X) (ys ys' : List Y)
     (was : map part ws ≡ ys) (is : ys' ≡ map part ws') (long : length ws' ≡ length ws) where
@@ -74,3 +89,17 @@ may_attend allows pre post board board' pass hook hook' same_board same_hook at 
   at = subst (λ b. IsAt b pass) (sym same_board) at;
   hook = subst (λ h. KeepsTo allows pre post h.rules h.ask) (sym same_hook) keeps;
 }
+
+-- orders
+abbrev orders_of : {W : Type 0} → Locks → W → StationFacts → Orders W
+orders_of board rules station = record { board = board; rules = rules; station = station }
+
+-- what a worker did by its orders is done by those that it was given
+pub done_by : {W F : Type 0} (HasDone : Orders W → Parts → Parts → Type 0) (board board' : Locks) (hook hook' : Hook W F)
+    (station station' : StationFacts) (pass pass' : Parts) → board ≡ board' → hook ≡ hook' → station ≡ station'
+    → HasDone (record { board = board; rules = hook.rules; station = station }) pass pass'
+    → HasDone (record { board = board'; rules = hook'.rules; station = station' }) pass pass'
+done_by HasDone board board' hook hook' station station' pass pass' same_board same_hook same_station done =
+    subst (λ b. HasDone (orders_of b hook'.rules station') pass pass') same_board
+    (subst (λ h. HasDone (orders_of board h.rules station') pass pass') same_hook
+    (subst (λ s. HasDone (orders_of board hook.rules s) pass pass') same_station done))

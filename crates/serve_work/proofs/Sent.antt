@@ -125,10 +125,9 @@ given_sync =
     recorded_sync (Struct (shape given.the_type)) _ _ (given.the_type).to_one
     (struct_sync (shape given.the_type) (search (sendable, crosses) depth 120 fits 100000))
 
-keeper_send : (a b c : NamedLft) (N L : RattleType) → IsSend N → IsSend L
-    → IsSend (Struct (shape (keeper.the_type a b c N L)))
-keeper_send a b c N L n l =
-    struct_send (shape (keeper.the_type a b c N L)) (search (given_sync, sendable, crosses) depth 20)
+keeper_send : (b c : NamedLft) (N L : RattleType) → IsSend N → IsSend L
+    → IsSend (Struct (shape (keeper.the_type b c N L)))
+keeper_send b c N L n l = struct_send (shape (keeper.the_type b c N L)) (search (sendable, crosses) depth 20)
 
 pub attendant_send : (a b c : NamedLft) (H W F C V N L : RattleType) (g : Ghosts V.Denot) → IsSync H → IsSync W → IsSync F
     → IsSend C → IsSend V → IsSend N → IsSend L → IsSend (attendant.the_row a b c H W F C V N L g)
@@ -143,7 +142,10 @@ attendant_send a b c H W F C V N L g h w f k v n l =
           search (board_sync, sendable),
           (
             search (sendable, crosses) depth 20,
-            (pass_send V g, (k, (v, (search (keeper_send, sendable, crosses) depth 20, tt)))),
+            (
+              search (given_sync, sendable, crosses) depth 20,
+              (pass_send V g, (k, (v, (search (keeper_send, sendable, crosses) depth 20, tt)))),
+            ),
           ),
         ),
       ),

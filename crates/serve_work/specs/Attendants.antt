@@ -3,8 +3,8 @@ use Rattle.std.specs.Prelude.{◌≡◌, ◌≤◌, ℕ, Bool}
 use Rattle.flag_rules.specs.Rules.{KeepsTo}
 use Rattle.flag_rules.specs.declared.relay.RelayFacts.{RelayFacts}
 use Rattle.flag_rules.specs.declared.ruling.Ruling.{Ruling}
+use Rattle.station_input.specs.declared.facts.StationFacts.{StationFacts}
 use Rattle.board_terms.specs.Boards.{Locks, Parts, IsAt}
-use Rattle.board_laws.specs.Going.{Goes}
 
 -- A worker may work: its pass is of the board, and its hook keeps to its rules.
 pub record MayAttend {W F : Type 0} (allows : W → RelayFacts → Ruling → Bool) (pre : F → RelayFacts → Type 0)
@@ -12,9 +12,16 @@ pub record MayAttend {W F : Type 0} (allows : W → RelayFacts → Ruling → Bo
   pub at : IsAt board pass
   pub hook : KeepsTo allows pre post rules ask
 
--- What a worker comes to: it is at the same board, its pass has gone on, and its verifier has failed no less often.
-pub record ComesTo {V : Type 0} (faults : V → ℕ) (board : Locks) (pass : Parts) (verifier : V) (board' : Locks)
-    (pass' : Parts) (verifier' : V) : Type 0 where
-  pub board_is : board' ≡ board
-  pub goes : Goes pass pass'
+-- what a worker works by: its board, its operator's rules, and what its station is given
+pub record Orders (W : Type 0) : Type 0 where
+  pub board : Locks
+  pub rules : W
+  pub station : StationFacts
+
+-- What a worker comes to: it works by the same orders, its pass has come to this by them, and its verifier has failed no
+-- less often.
+pub record ComesTo {V W : Type 0} (faults : V → ℕ) (HasDone : Orders W → Parts → Parts → Type 0) (by : Orders W)
+    (pass : Parts) (verifier : V) (by' : Orders W) (pass' : Parts) (verifier' : V) : Type 0 where
+  pub same : by' ≡ by
+  pub worked : HasDone by pass pass'
   pub verifier_faults : faults verifier ≤ faults verifier'

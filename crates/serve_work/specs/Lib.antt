@@ -1,2 +1,3 @@
 pub mod Attendants
 pub mod Serving
+pub mod Workers

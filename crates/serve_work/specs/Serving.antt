@@ -1,16 +1,17 @@
 -- How serving ends.
-use Rattle.std.specs.Prelude.{◌≡◌, ◌<◌, ◌≤◌, ℕ, Bool, true, List, All, length, take, slice_index_or, Option}
+use Rattle.std.specs.Prelude.{◌≡◌, ◌⊎◌, ◌<◌, ◌≤◌, ℕ, Bool, true, List, All, length, take, slice_index_or, Option}
 use Rattle.std.specs.Io.KnownBytes.{Appends}
 use Rattle.dir_bytes.specs.Causes.{Rose}
+use Rattle.key_port.specs.Answers.{Rules}
 use Rattle.vote_pool.specs.Pools.{Pooled}
 use Rattle.period_terms.specs.declared.state.State.{State}
 use Rattle.period_report.specs.Reports.{report_text}
 use Rattle.gate_workers.specs.declared.running.Ran.{Ran}
 use Rattle.gate_workers.specs.declared.running.Ran.TheVariants as ran
 use Rattle.board_terms.specs.Boards.{Locks, Parts, IsAt, Leaves}
-use Rattle.board_laws.specs.Going.{Goes}
 use Rattle.serve_work.specs.declared.serving.Served.{Served}
 use Rattle.serve_work.specs.declared.serving.Served.TheVariants as served
+use Rattle.serve_work.specs.Workers.{HaveWorked}
 
 -- The report on a station was written whole; or there was no memory, and nothing was written; or a front of it was
 -- written, and the sink's count of faults rose.
@@ -20,11 +21,6 @@ Reports old new before now state served.NoMemory = (new ≡ old) × (now ≡ bef
 Reports old new before now state served.WriteFault =
     (sent : ℕ) × Appends old new (take sent (report_text state)) × Rose before now
 Reports old new before now state served.GateFault = ⊥
-
--- Each pass that ended has gone on from that which began in its place.
-abbrev pub HaveGone : List Parts → List Parts → Type 0
-HaveGone began ended =
-    (i : ℕ) (d : Parts) → i < length began → Goes (slice_index_or began i d) (slice_index_or ended i d)
 
 -- as many clocks, verifiers and passes as gates
 abbrev pub AreAsMany : {G C V P : Type 0} → List G → List C → List V → List P → Type 0
@@ -36,16 +32,17 @@ abbrev pub HaveFailedOn : {V : Type 0} → (V → ℕ) → List V → List V →
 HaveFailedOn {V} faults before now =
     (i : ℕ) (d : V) → i < length before → faults (slice_index_or before i d) ≤ faults (slice_index_or now i d)
 
--- The passes of the board have ended, as many as began and each gone on from the one in its place; the station and the
--- pool are what they left, and the station is such.
-pub record LeavesBoard (board : Locks) (began : List Parts) (IsSuch : State → Type 0) : Type 0 where
+-- The passes of the board have ended, as many as began and each come to this from the one in its place; the station and
+-- the pool are what they left, and the station is such.
+pub record LeavesBoard (rules : Rules) (board : Locks) (HasDone : Parts → Parts → Type 0) (began : List Parts)
+    (IsSuch : State → Type 0) : Type 0 where
   pub ended : List Parts
   pub left : State
   pub kept : Pooled
   pub at : All (IsAt board) ended
   pub count : length ended ≡ length began
-  pub gone : HaveGone began ended
-  pub leaves : Leaves board ended left kept
+  pub worked : HaveWorked HasDone began ended
+  pub leaves : Leaves rules board ended left kept
   pub such : IsSuch left
 
 module _ {G : Type 0} (faults : G → ℕ) (gates gates' : List G) where
@@ -70,16 +67,26 @@ module _ {G : Type 0} (faults : G → ℕ) (closed : G → Bool) (gates gates' :
   GatesRan ran.Failed = SomeRose faults gates gates'
   GatesRan ran.Closed = EachClosed closed gates'
 
-  module _ (board : Locks) (began : List Parts) (old new : Option (List ℕ)) (before now : ℕ) where
+  module _ (rules : Rules) (board : Locks) (HasDone : Parts → Parts → Type 0) (began : List Parts)
+      (old new : Option (List ℕ)) (before now : ℕ) where
     -- All gates were closed, and the station that the board left is reported so.
     abbrev pub ReportsLeft : Served → Type 0
     ReportsLeft result =
-        EachClosed closed gates' × LeavesBoard board began (λ left. Reports old new before now left result)
+        EachClosed closed gates'
+        × LeavesBoard rules board HasDone began (λ left. Reports old new before now left result)
 
-    -- How serving ends: where all gates were closed, with the report, whole or not; where a gate failed; or for want of
-    -- memory.
+    -- nothing was written
+    abbrev pub WritesNone : Type 0
+    WritesNone = (new ≡ old) × (now ≡ before)
+
+    -- The station that the board left is reported all the same, whole or not.
+    abbrev pub ReportsSo : Type 0
+    ReportsSo = (told : Served) × LeavesBoard rules board HasDone began (λ left. Reports old new before now left told)
+
+    -- How serving ends: where all gates were closed, with the report, whole or not; where a gate failed, with that report or
+    -- none; or for want of memory.
     abbrev pub Serves : Served → Type 0
     Serves served.Whole = ReportsLeft served.Whole
     Serves served.WriteFault = ReportsLeft served.WriteFault
-    Serves served.NoMemory = (new ≡ old) × (now ≡ before)
-    Serves served.GateFault = SomeRose faults gates gates'
+    Serves served.NoMemory = WritesNone
+    Serves served.GateFault = SomeRose faults gates gates' × (WritesNone ⊎ ReportsSo)

@@ -14,25 +14,25 @@ use std::sync::Wait;
 
 /// What the duties of an authority are done with.
 #[derive(Drop)]
-pub(crate) struct Keeper<'a, 'b, 'c, N, L> {
-    pub(crate) station: &'a StationFacts,
+pub(crate) struct Keeper<'b, 'c, N, L> {
     pub(crate) round: Round,
     pub(crate) signer: &'b mut N,
     pub(crate) link: &'c mut L,
 }
 
-/// What a worker serves connections with: a pass of the board, a clock, a verifier; and what one of them does the
-/// duties of an authority with.
+/// What a worker serves connections with: what its station is given, a pass of the board, a clock, a verifier; and what one of
+/// them does the duties of an authority with.
 #[derive(Drop)]
 pub(crate) struct Attendant<'a, 'b, 'c, H, W, F, C, V: Verifier, N, L> {
     pub(crate) rt: &'a H,
     pub(crate) alloc: Global,
     pub(crate) board: &'a Board<V>,
     pub(crate) hook: &'a Hook<W, F>,
+    pub(crate) station: &'a StationFacts,
     pub(crate) pass: Pass<V>,
     pub(crate) clock: C,
     pub(crate) verifier: V,
-    pub(crate) keeper: Option<Keeper<'a, 'b, 'c, N, L>>,
+    pub(crate) keeper: Option<Keeper<'b, 'c, N, L>>,
 }
 
 impl<
@@ -49,13 +49,20 @@ impl<
     I: Source,
     O: Sink,
 > Clerk<I, O> for Attendant<'a, 'b, 'c, H, W, F, C, V, N, L> {
+    ghost use Rattle.key_port.specs.Answers as keys;
     ghost use Rattle.serve_work.specs.Attendants.{ComesTo, MayAttend};
+    ghost use Rattle.serve_work.specs.Workers.{HasWorked};
 
     ghost may_work = { λ a.
         MayAttend W.allows F.pre F.post a.board.now a.pass a.hook.now.rules a.hook.now.ask };
 
     ghost comes_to = { λ before now.
-        ComesTo V.faults before.board.now before.pass before.verifier now.board.now now.pass now.verifier };
+        ComesTo V.faults (λ by. HasWorked (keys.rules V.may_accept V.may_refuse) N.may_give N.steps (W.allows by.rules)
+        by.station C.last by.board)
+        (record { board = before.board.now; rules = before.hook.now.rules; station = before.station.now }) before.pass
+        before.verifier
+        (record { board = now.board.now; rules = now.hook.now.rules; station = now.station.now }) now.pass
+        now.verifier };
 
     fn serve(&mut self, input: &mut I, output: &mut O) {
         let _ = serve_connection(
@@ -77,7 +84,7 @@ impl<
                 self.rt,
                 self.alloc,
                 self.board,
-                keeper.station,
+                self.station,
                 self.hook,
                 &mut self.pass,
                 &mut keeper.round,

@@ -1,8 +1,10 @@
 // Serving, from the opening of all gates to the report of what was left.
 ghost use Rattle.std.specs.Prelude.{◌≡◌, ◌<◌, ◌≤◌, ℕ, All, length, slice_index_or};
+ghost use Rattle.key_port.specs.Answers.{rules};
 ghost use Rattle.flag_rules.specs.Rules.{KeepsTo};
 ghost use Rattle.board_terms.specs.Boards.{IsAt};
 ghost use Rattle.serve_work.specs.Serving.{AreAsMany, HaveFailedOn, Serves};
+ghost use Rattle.serve_work.specs.Workers.{HasWorked};
 
 use crate::outside::Outside;
 use crate::reporting::report;
@@ -63,7 +65,9 @@ pub fn serve<
     requires count { AreAsMany outside.old.gates.items outside.old.clocks.items outside.old.verifiers.items
         passes.items }
     requires hook { KeepsTo W.allows F.pre F.post hook.now.rules hook.now.ask }
-    ensures serves { Serves G.faults G.closed outside.old.gates.items outside.new.gates.items board passes.items
+    ensures serves { Serves G.faults G.closed outside.old.gates.items outside.new.gates.items
+        (rules V.may_accept V.may_refuse) board (HasWorked (rules V.may_accept V.may_refuse) N.may_give N.steps
+        (W.allows hook.now.rules) station.now C.last board) passes.items
         (K.written outside.old.sink) (K.written outside.new.sink) (K.faults outside.old.sink)
         (K.faults outside.new.sink) result }
     ensures count { (length outside.new.gates.items ≡ length outside.old.gates.items)

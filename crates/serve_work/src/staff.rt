@@ -6,6 +6,7 @@ use flag_rules::Hook;
 use gate_workers::{End, Worker};
 use key_port::Verifier;
 use serve_board::{Board, Pass};
+use station_input::StationFacts;
 use std::alloc::Global;
 
 /// The first element leaves.
@@ -23,7 +24,8 @@ pub(crate) fn hire<'a, 'b, 'c, H, W, F, C, V: Verifier, N, L, G>(
     alloc: Global,
     board: &'a Board<V>,
     hook: &'a Hook<W, F>,
-    keeper: Keeper<'a, 'b, 'c, N, L>,
+    station: &'a StationFacts,
+    keeper: Keeper<'b, 'c, N, L>,
     gates: &mut Vec<G>,
     clocks: &mut Vec<C>,
     verifiers: &mut Vec<V>,
@@ -38,8 +40,8 @@ pub(crate) fn hire<'a, 'b, 'c, H, W, F, C, V: Verifier, N, L, G>(
     ensures gates { map (λ w. w.gate) result.items ≡ gates.old.items }
     ensures passes { map (λ w. w.clerk.pass) result.items ≡ passes.old.items }
     ensures verifiers { map (λ w. w.clerk.verifier) result.items ≡ verifiers.old.items }
-    ensures hired { All (λ w. (w.end ≡ End.Working) × (w.clerk.board.now ≡ board.now) × (w.clerk.hook.now ≡ hook.now))
-        result.items }
+    ensures hired { All (λ w. (w.end ≡ End.Working) × (w.clerk.board.now ≡ board.now) × (w.clerk.hook.now ≡ hook.now)
+        × (w.clerk.station.now ≡ station.now)) result.items }
     ensures empty { (gates.new.items ≡ []) × (clocks.new.items ≡ []) × (verifiers.new.items ≡ [])
         × (passes.new.items ≡ []) }
     ensures kept { (vec_capacity gates.new ≡ vec_capacity gates.old)
@@ -59,6 +61,7 @@ pub(crate) fn hire<'a, 'b, 'c, H, W, F, C, V: Verifier, N, L, G>(
             alloc,
             board,
             hook,
+            station,
             pass,
             clock,
             verifier,
@@ -97,6 +100,7 @@ pub(crate) fn dismiss<'a, 'b, 'c, H, W, F, C: Drop, V: Verifier + Drop, N, L, G:
             alloc: _,
             board: _,
             hook: _,
+            station: _,
             pass,
             clock,
             verifier,

@@ -1,8 +1,10 @@
 // All workers work until their gates are closed.
 ghost use Rattle.std.specs.Prelude.{◌≡◌, ◌<◌, ◌≤◌, ℕ, All, IfOk, OnErr, length, slice_index_or};
+ghost use Rattle.key_port.specs.Answers.{rules};
 ghost use Rattle.flag_rules.specs.Rules.{KeepsTo};
 ghost use Rattle.board_terms.specs.Boards.{IsAt};
-ghost use Rattle.serve_work.specs.Serving.{AreAsMany, GatesRan, HaveFailedOn, HaveGone};
+ghost use Rattle.serve_work.specs.Serving.{AreAsMany, GatesRan, HaveFailedOn};
+ghost use Rattle.serve_work.specs.Workers.{HasWorked, HaveWorked};
 
 use crate::attendant::Keeper;
 use crate::staff::{dismiss, hire};
@@ -57,20 +59,20 @@ pub(crate) fn work_gates<
         × (length clocks.new.items ≡ length clocks.old.items)
         × (length verifiers.new.items ≡ length verifiers.old.items)
         × (length passes.new.items ≡ length passes.old.items)) }
-    ensures gone { IfOk result (λ ran. HaveGone passes.old.items passes.new.items) }
+    ensures worked { IfOk result (λ ran. HaveWorked (HasWorked (rules V.may_accept V.may_refuse) N.may_give N.steps
+        (W.allows hook.now.rules) station.now C.last board.now) passes.old.items passes.new.items) }
     ensures err { OnErr result ((gates.new.items ≡ gates.old.items) × (clocks.new.items ≡ clocks.old.items)
         × (verifiers.new.items ≡ verifiers.old.items)) }
     ensures verifiers { IfOk result (λ ran. HaveFailedOn V.faults verifiers.old.items verifiers.new.items) }
 {
     let room = Vec::with_capacity(alloc, gates.len())?;
     let keeper = Keeper {
-        station,
         round: Round::new(),
         signer,
         link,
     };
     let mut workers = hire(
-        rt, alloc, board, hook, keeper, gates, clocks, verifiers, passes, room,
+        rt, alloc, board, hook, station, keeper, gates, clocks, verifiers, passes, room,
     );
     let ran = run(rt, address, &mut workers);
     dismiss(workers, gates, clocks, verifiers, passes);

@@ -1,7 +1,8 @@
 use Rattle.std.proofs.Common.{◌≤◌}
 use Rattle.key_port.specs.Answers.{rules}
 use Rattle.board_terms.specs.Boards.{IsAt}
-use Rattle.serve_rounds.specs.Duties.{Adds, IsAdvance}
+use Rattle.serve_rounds.specs.Duties.{IsAdvance}
+use Rattle.serve_rounds.specs.Spans.{Adds}
 use Rattle.serve_rounds.proofs.advancing.advance_all.Given as goal
 
 abbrev pub invariant-steps : goal.invariant-steps

@@ -1,15 +1,16 @@
 use Rattle.std.proofs.Common.{◌≤◌}
 use Rattle.key_port.specs.Answers.{rules}
 use Rattle.board_terms.specs.Boards.{IsAt, Parts}
-use Rattle.serve_rounds.specs.Duties.{Adds, IsFetched}
+use Rattle.serve_rounds.specs.Duties.{IsFetched}
+use Rattle.serve_rounds.specs.Spans.{Adds, Anywhere}
 use Rattle.serve_rounds.proofs.fetching.fetch_all.Given as goal
 
 abbrev pub invariant-peers : goal.invariant-peers
 invariant-peers g l = record {
   at : IsAt l.board l.pass;
   adds : (a : Parts)
-      → Adds (IsFetched (rules g.V.Verifier.may_accept g.V.Verifier.may_refuse) l.now) a l.fn.pass
-      → Adds (IsFetched (rules g.V.Verifier.may_accept g.V.Verifier.may_refuse) l.now) a l.pass;
+      → Adds (Anywhere (IsFetched (rules g.V.Verifier.may_accept g.V.Verifier.may_refuse) l.now)) a l.fn.pass
+      → Adds (Anywhere (IsFetched (rules g.V.Verifier.may_accept g.V.Verifier.may_refuse) l.now)) a l.pass;
   verifier : g.V.Verifier.faults l.fn.verifier ≤ g.V.Verifier.faults l.verifier;
   link : g.L.Link.faults l.fn.link ≤ g.L.Link.faults l.link;
 }

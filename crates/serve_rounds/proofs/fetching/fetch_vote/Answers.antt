@@ -1,28 +1,31 @@
 use Rattle.std.proofs.Common.{refl}
-use Rattle.key_port.specs.Answers.{rules}
+use Rattle.key_port.specs.Answers as keys
 use Rattle.period_terms.specs.declared.answer.Answer.TheVariants.{Vote}
 use Rattle.period_terms.specs.declared.event.Event.TheVariants.{Offered}
 use Rattle.period_terms.specs.declared.event.Via.TheVariants.{Fetched}
 use Rattle.serve_rounds.specs.Duties.{IsFetched}
+use Rattle.serve_rounds.specs.Spans.{Anywhere}
 use Rattle.serve_rounds.proofs.Adding.{adds_makes, adds_still, entry_kind}
+use Rattle.serve_rounds.proofs.Lasting.{anywhere_lasts}
 use Rattle.serve_rounds.proofs.fetching.fetch_vote.Goals as goal
 
 pub returns-then-is_held-clause-adds : goal.returns-then-is_held-clause-adds
 returns-then-is_held-clause-adds g c = λ a adds.
-    adds_still (IsFetched (rules g.V.Verifier.may_accept g.V.Verifier.may_refuse) c.args.now) a c.args.pass.now
-    c.is_held.new.pass adds c.is_held.ensures.none
+    let P = IsFetched (keys.rules g.V.Verifier.may_accept g.V.Verifier.may_refuse) c.args.now in
+    adds_still (Anywhere P) (anywhere_lasts P) a c.args.pass.now c.is_held.new.pass adds c.is_held.ensures.none
 
 pub returns-in_default-clause-adds : goal.returns-in_default-clause-adds
 returns-in_default-clause-adds g c = λ a adds.
-    adds_still (IsFetched (rules g.V.Verifier.may_accept g.V.Verifier.may_refuse) c.args.now) a c.args.pass.now
-    c.is_held.new.pass adds c.is_held.ensures.none
+    let P = IsFetched (keys.rules g.V.Verifier.may_accept g.V.Verifier.may_refuse) c.args.now in
+    adds_still (Anywhere P) (anywhere_lasts P) a c.args.pass.now c.is_held.new.pass adds c.is_held.ensures.none
 
 pub returns-clause-adds : goal.returns-clause-adds
 returns-clause-adds g c = λ a adds.
-    let P = IsFetched (rules g.V.Verifier.may_accept g.V.Verifier.may_refuse) c.args.now in
+    let its = keys.rules g.V.Verifier.may_accept g.V.Verifier.may_refuse in
+    let P = IsFetched its c.args.now in
     let vote = c.in-Some.vote in
-    adds_makes P c.args.board.now a c.is_held.new.pass c.offer.new.pass
-    (adds_still P a c.args.pass.now c.is_held.new.pass adds c.is_held.ensures.none)
+    adds_makes (Anywhere P) (anywhere_lasts P) its c.args.board.now a c.is_held.new.pass c.offer.new.pass
+    (adds_still (Anywhere P) (anywhere_lasts P) a c.args.pass.now c.is_held.new.pass adds c.is_held.ensures.none)
     (Offered vote Fetched c.args.now) (Vote c.offer.result)
     (entry_kind P (Offered vote Fetched c.args.now) (Vote c.offer.result)
     (record { vote = vote; event = refl; verified = c.in-Some.ensures.verified }))

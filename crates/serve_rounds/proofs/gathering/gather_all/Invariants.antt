@@ -1,15 +1,16 @@
 use Rattle.std.proofs.Common.{◌≤◌}
 use Rattle.key_port.specs.Answers.{rules}
 use Rattle.board_terms.specs.Boards.{IsAt, Parts}
-use Rattle.serve_rounds.specs.Duties.{Adds, IsGathered}
+use Rattle.serve_rounds.specs.Duties.{IsGathered}
+use Rattle.serve_rounds.specs.Spans.{Adds, Anywhere}
 use Rattle.serve_rounds.proofs.gathering.gather_all.Given as goal
 
 abbrev pub invariant-peers : goal.invariant-peers
 invariant-peers g l = record {
   at : IsAt l.board l.pass;
   adds : (a : Parts)
-      → Adds (IsGathered (rules g.V.Verifier.may_accept g.V.Verifier.may_refuse)) a l.fn.pass
-      → Adds (IsGathered (rules g.V.Verifier.may_accept g.V.Verifier.may_refuse)) a l.pass;
+      → Adds (Anywhere (IsGathered (rules g.V.Verifier.may_accept g.V.Verifier.may_refuse))) a l.fn.pass
+      → Adds (Anywhere (IsGathered (rules g.V.Verifier.may_accept g.V.Verifier.may_refuse))) a l.pass;
   verifier : g.V.Verifier.faults l.fn.verifier ≤ g.V.Verifier.faults l.verifier;
   link : g.L.Link.faults l.fn.link ≤ g.L.Link.faults l.link;
 }

@@ -1,10 +1,13 @@
-use Rattle.key_port.specs.Answers.{rules}
+use Rattle.key_port.specs.Answers as keys
 use Rattle.serve_rounds.specs.Duties.{IsGathered}
+use Rattle.serve_rounds.specs.Spans.{Anywhere}
 use Rattle.serve_rounds.proofs.Adding.{adds_sees}
+use Rattle.serve_rounds.proofs.Lasting.{anywhere_lasts}
 use Rattle.serve_rounds.proofs.gathering.gather_from.Goals as goal
 
 pub returns-clause-adds : goal.returns-clause-adds
 returns-clause-adds g c = λ a adds.
-    let P = IsGathered (rules g.V.Verifier.may_accept g.V.Verifier.may_refuse) in
+    let its = keys.rules g.V.Verifier.may_accept g.V.Verifier.may_refuse in
     c.sign_in_all.ensures.adds a
-    (adds_sees P c.args.board.now a c.args.pass.now c.view.new.pass adds _ _ c.view.ensures.reading)
+    (adds_sees (Anywhere (IsGathered its)) (anywhere_lasts (IsGathered its)) its c.args.board.now a c.args.pass.now
+    c.view.new.pass adds _ _ c.view.ensures.reading)

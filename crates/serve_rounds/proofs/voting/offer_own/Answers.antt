@@ -1,50 +1,84 @@
 use Rattle.std.proofs.Common.{refl}
-use Rattle.key_port.specs.Answers.{rules}
+use Rattle.key_port.specs.Answers as keys
 use Rattle.period_terms.specs.declared.answer.Answer.TheVariants.{Vote}
 use Rattle.period_terms.specs.declared.event.Event.TheVariants.{Offered}
 use Rattle.period_terms.specs.declared.event.Via.TheVariants.{Own}
+use Rattle.board_laws.proofs.Going.{goes_makes, goes_on}
 use Rattle.serve_rounds.specs.Duties.{IsOwn}
-use Rattle.serve_rounds.proofs.Adding.{adds_makes, adds_still, entry_kind}
+use Rattle.serve_rounds.specs.Spans.{Since}
+use Rattle.serve_rounds.proofs.Adding.{adds_makes, adds_still, entry_kind, none_same}
+use Rattle.serve_rounds.proofs.Lasting.{own_lasts, period_later, since_lasts, vote_earlier, vote_later}
 use Rattle.serve_rounds.proofs.voting.offer_own.Goals as goal
 
 pub returns-in_default-clause-adds : goal.returns-in_default-clause-adds
-returns-in_default-clause-adds g c = λ a adds.
-    adds_still (IsOwn (rules g.V.Verifier.may_accept g.V.Verifier.may_refuse) g.N.Signer.may_give g.N.Signer.steps
-    (g.W.Rules.allows c.args.ruler.now) c.args.station.now c.args.board.now c.args.now) a c.args.pass.now
-    c.own_vote.new.pass adds c.own_vote.ensures.none
+returns-in_default-clause-adds g c = λ from a goes period adds.
+    let its = keys.rules g.V.Verifier.may_accept g.V.Verifier.may_refuse in
+    let allows = g.W.Rules.allows c.args.ruler.now in
+    adds_still
+    (Since from (IsOwn its g.N.Signer.may_give g.N.Signer.steps allows c.args.station.now c.args.board.now c.args.now))
+    (since_lasts from _ (own_lasts its g.N.Signer.may_give g.N.Signer.steps allows c.args.station.now c.args.board.now
+    c.args.now)) a c.args.pass.now c.own_vote.new.pass adds c.own_vote.ensures.none
 
 pub returns-then-is_taken-clause-adds : goal.returns-then-is_taken-clause-adds
-returns-then-is_taken-clause-adds g c = λ a adds.
-    let P = IsOwn (rules g.V.Verifier.may_accept g.V.Verifier.may_refuse) g.N.Signer.may_give g.N.Signer.steps
-    (g.W.Rules.allows c.args.ruler.now) c.args.station.now c.args.board.now c.args.now in
+returns-then-is_taken-clause-adds g c = λ from a goes period adds.
+    let its = keys.rules g.V.Verifier.may_accept g.V.Verifier.may_refuse in
+    let allows = g.W.Rules.allows c.args.ruler.now in
+    let station = c.args.station.now in
+    let board = c.args.board.now in
+    let P = IsOwn its g.N.Signer.may_give g.N.Signer.steps allows station board c.args.now in
+    let lasts = since_lasts from P (own_lasts its g.N.Signer.may_give g.N.Signer.steps allows station board c.args.now) in
     let vote = c.in-Some.vote in
-    adds_makes P c.args.board.now a c.own_vote.new.pass c.offer-answer.new.pass
-    (adds_still P a c.args.pass.now c.own_vote.new.pass adds c.own_vote.ensures.none)
-    (Offered vote Own c.args.now) (Vote c.offer-answer.result)
-    (entry_kind P (Offered vote Own c.args.now) (Vote c.offer-answer.result)
+    let event = Offered vote Own c.args.now in
+    let on = goes_makes its board c.own_vote.new.pass c.offer-answer.new.pass event (Vote c.offer-answer.result)
+    c.offer-answer.ensures.event in
+    let still = c.own_vote.ensures.none c.args.pass.now (none_same c.args.pass.now) in
+    adds_makes (Since from P) lasts its board a c.own_vote.new.pass c.offer-answer.new.pass
+    (adds_still (Since from P) lasts a c.args.pass.now c.own_vote.new.pass adds c.own_vote.ensures.none)
+    event (Vote c.offer-answer.result)
+    (entry_kind (P from c.offer-answer.new.pass) event (Vote c.offer-answer.result)
     (record {
       vote = vote;
       event = refl;
       valid_after = c.args.valid_after;
-      period = c.requires.period;
-      own = c.in-Some.ensures.own;
+      period =
+          period_later its board from c.args.pass.now c.offer-answer.new.pass c.args.valid_after
+          (goes_on c.args.pass.now c.own_vote.new.pass c.offer-answer.new.pass still.goes on) period;
+      own =
+          vote_earlier its g.N.Signer.may_give g.N.Signer.steps allows station board from c.args.pass.now
+          c.offer-answer.new.pass c.args.valid_after c.args.now vote goes
+          (vote_later its g.N.Signer.may_give g.N.Signer.steps allows station board c.args.pass.now
+          c.own_vote.new.pass c.offer-answer.new.pass c.args.valid_after c.args.now vote on c.in-Some.ensures.own);
     }))
     c.offer-answer.ensures.event
 
 pub returns-else-is_taken-clause-adds : goal.returns-else-is_taken-clause-adds
-returns-else-is_taken-clause-adds g c = λ a adds.
-    let P = IsOwn (rules g.V.Verifier.may_accept g.V.Verifier.may_refuse) g.N.Signer.may_give g.N.Signer.steps
-    (g.W.Rules.allows c.args.ruler.now) c.args.station.now c.args.board.now c.args.now in
+returns-else-is_taken-clause-adds g c = λ from a goes period adds.
+    let its = keys.rules g.V.Verifier.may_accept g.V.Verifier.may_refuse in
+    let allows = g.W.Rules.allows c.args.ruler.now in
+    let station = c.args.station.now in
+    let board = c.args.board.now in
+    let P = IsOwn its g.N.Signer.may_give g.N.Signer.steps allows station board c.args.now in
+    let lasts = since_lasts from P (own_lasts its g.N.Signer.may_give g.N.Signer.steps allows station board c.args.now) in
     let vote = c.in-Some.vote in
-    adds_makes P c.args.board.now a c.own_vote.new.pass c.offer-answer.new.pass
-    (adds_still P a c.args.pass.now c.own_vote.new.pass adds c.own_vote.ensures.none)
-    (Offered vote Own c.args.now) (Vote c.offer-answer.result)
-    (entry_kind P (Offered vote Own c.args.now) (Vote c.offer-answer.result)
+    let event = Offered vote Own c.args.now in
+    let on = goes_makes its board c.own_vote.new.pass c.offer-answer.new.pass event (Vote c.offer-answer.result)
+    c.offer-answer.ensures.event in
+    let still = c.own_vote.ensures.none c.args.pass.now (none_same c.args.pass.now) in
+    adds_makes (Since from P) lasts its board a c.own_vote.new.pass c.offer-answer.new.pass
+    (adds_still (Since from P) lasts a c.args.pass.now c.own_vote.new.pass adds c.own_vote.ensures.none)
+    event (Vote c.offer-answer.result)
+    (entry_kind (P from c.offer-answer.new.pass) event (Vote c.offer-answer.result)
     (record {
       vote = vote;
       event = refl;
       valid_after = c.args.valid_after;
-      period = c.requires.period;
-      own = c.in-Some.ensures.own;
+      period =
+          period_later its board from c.args.pass.now c.offer-answer.new.pass c.args.valid_after
+          (goes_on c.args.pass.now c.own_vote.new.pass c.offer-answer.new.pass still.goes on) period;
+      own =
+          vote_earlier its g.N.Signer.may_give g.N.Signer.steps allows station board from c.args.pass.now
+          c.offer-answer.new.pass c.args.valid_after c.args.now vote goes
+          (vote_later its g.N.Signer.may_give g.N.Signer.steps allows station board c.args.pass.now
+          c.own_vote.new.pass c.offer-answer.new.pass c.args.valid_after c.args.now vote on c.in-Some.ensures.own);
     }))
     c.offer-answer.ensures.event

@@ -6,10 +6,11 @@ use Rattle.serve_rounds.proofs.voting.own_vote.Goals as goal
 pub returns-in-Ok-clause-own : goal.returns-in-Ok-clause-own
 returns-in-Ok-clause-own g c =
     subst (IsOwnVote (rules g.V.Verifier.may_accept g.V.Verifier.may_refuse) g.N.Signer.may_give g.N.Signer.steps
-    (g.W.Rules.allows c.args.ruler.now) c.args.station.now c.args.board.now c.args.valid_after c.args.now)
+    (g.W.Rules.allows c.args.ruler.now) c.args.station.now c.args.board.now c.args.pass.now c.own_text.new.pass
+    c.args.valid_after c.args.now)
     (sym c.in-Ok.ensures.accepted.0) record {
       text = c.in-Some.text.items;
       text_is = c.in-Some.ensures.text;
-      begins = c.in-Some-vote_in.ensures.begins;
+      is = c.in-Some-vote_in.ensures.vote;
       verified = c.in-Ok.ensures.accepted.1.verified;
     }

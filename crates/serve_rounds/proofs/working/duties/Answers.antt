@@ -1,13 +1,13 @@
 use Rattle.std.proofs.Common.{subst, sym}
-use Rattle.key_port.specs.Answers.{rules}
+use Rattle.key_port.specs.Answers as keys
 use Rattle.board_laws.proofs.Going.{goes_on}
 use Rattle.serve_rounds.specs.Duties.{IsRound, Duties}
-use Rattle.serve_rounds.proofs.Adding.{adds_same, goes_advanced}
+use Rattle.serve_rounds.proofs.Adding.{adds_advanced, adds_same}
 use Rattle.serve_rounds.proofs.working.duties.Goals as goal
 
 pub returns-clause-duties : goal.returns-clause-duties
 returns-clause-duties g c =
-    let its = rules g.V.Verifier.may_accept g.V.Verifier.may_refuse in
+    let its = keys.rules g.V.Verifier.may_accept g.V.Verifier.may_refuse in
     let told = c.advance_all-answer.ensures.advanced in
     subst (λ n. Duties its g.N.Signer.may_give g.N.Signer.steps (g.R.Rules.allows c.args.hook.now.rules)
     c.args.station.now c.args.board.now c.args.pass.now c.work.new.pass n c.advance_all-answer.result.0)
@@ -23,5 +23,5 @@ pub returns-clause-goes : goal.returns-clause-goes
 returns-clause-goes g c =
     let told = returns-clause-duties g c in
     goes_on c.args.pass.now told.to c.work.new.pass
-    (goes_advanced g.N.Signer.may_give (rules g.V.Verifier.may_accept g.V.Verifier.may_refuse) c.args.board.now _
-    c.args.pass.now told.to c.advance_all-answer.result.0 told.advanced) told.ended.goes
+    (adds_advanced g.N.Signer.may_give (keys.rules g.V.Verifier.may_accept g.V.Verifier.may_refuse) c.args.board.now _
+    c.args.pass.now told.to c.advance_all-answer.result.0 told.advanced).goes told.ended.goes

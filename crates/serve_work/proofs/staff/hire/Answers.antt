@@ -26,14 +26,17 @@ gates-preserved g c =
       passes_left = omega (arith, gate, pass, inv.passes_left);
       hired =
           All-same
-          (λ w. (w.end ≡ Working) × (w.clerk.board.now ≡ c.args.board.now) × (w.clerk.hook.now ≡ c.args.hook.now)) _ _
+          (λ w. (w.end ≡ Working) × (w.clerk.board.now ≡ c.args.board.now) × (w.clerk.hook.now ≡ c.args.hook.now)
+          × (w.clerk.station.now ≡ c.args.station.now)) _ _
           c.push_reserved.ensures.items
           (All-push
-          (λ w. (w.end ≡ Working) × (w.clerk.board.now ≡ c.args.board.now) × (w.clerk.hook.now ≡ c.args.hook.now))
+          (λ w. (w.end ≡ Working) × (w.clerk.board.now ≡ c.args.board.now) × (w.clerk.hook.now ≡ c.args.hook.now)
+          × (w.clerk.station.now ≡ c.args.station.now))
           c.gates.workers.items _ inv.hired (
             c.new.ensures.end,
             ap (λ k. k.board.now) c.new.ensures.clerk,
             ap (λ k. k.hook.now) c.new.ensures.clerk,
+            ap (λ k. k.station.now) c.new.ensures.clerk,
           ));
       count = omega (
         arith,

@@ -10,8 +10,9 @@ invariant-gates g l = record {
   clocks_left : length l.clocks.items ≡ length l.gates.items;
   verifiers_left : length l.verifiers.items ≡ length l.gates.items;
   passes_left : length l.passes.items ≡ length l.gates.items;
-  hired : All (λ w. (w.end ≡ Working) × (w.clerk.board.now ≡ l.board) × (w.clerk.hook.now ≡ l.hook))
-      l.workers.items;
+  hired : All
+      (λ w. (w.end ≡ Working) × (w.clerk.board.now ≡ l.board) × (w.clerk.hook.now ≡ l.hook)
+      × (w.clerk.station.now ≡ l.station)) l.workers.items;
   count : length l.workers.items + length l.gates.items ≡ length l.fn.gates.items;
   room : length l.fn.gates.items ≤ vec_capacity l.workers;
   gate_room : vec_capacity l.gates ≡ vec_capacity l.fn.gates;

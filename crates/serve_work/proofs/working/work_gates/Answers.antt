@@ -1,13 +1,15 @@
 use denote.Param.Send.{sendable}
+use Rattle.key_port.specs.Answers as keys
 use Rattle.std.proofs.Common.{rules, arith, ◌≡◌, ◌≤◌, length, map, sym, ap, ◌∙◌}
 use Rattle.std.proofs.Crossing.{crosses}
 use Rattle.std.specs.Prelude.{slice_index_or}
 use Rattle.std.proofs.lemmas.List.{length-map}
 use Rattle.std.proofs.lemmas.List.Elements.{All-same}
 use Rattle.gate_workers.specs.declared.worker.End.TheVariants.{Working}
-use Rattle.board_laws.specs.Going.{Goes}
 use Rattle.serve_work.proofs.Gates.{gates_ran}
-use Rattle.serve_work.proofs.Places.{as_many, by_place, comes_same, may_attend, passes_at, workers_at}
+use Rattle.serve_work.specs.Workers.{HasWorked}
+use Rattle.serve_work.proofs.Additions.{works_same}
+use Rattle.serve_work.proofs.Places.{as_many, by_place, comes_same, done_by, may_attend, passes_at, workers_at}
 use Rattle.serve_work.proofs.Sent.{attendant_send}
 use Rattle.serve_work.proofs.Written.{take_whole}
 use Rattle.serve_work.proofs.working.work_gates.Goals as goal
@@ -20,7 +22,8 @@ run-ran-requires-clause-may_work g c = λ lifetimes within i d below.
     let ws = c.deref_mut.result.now in
     let hired =
     All-same
-    (λ w. (w.end ≡ Working) × (w.clerk.board.now ≡ c.args.board.now) × (w.clerk.hook.now ≡ c.args.hook.now)) _ _
+    (λ w. (w.end ≡ Working) × (w.clerk.board.now ≡ c.args.board.now) × (w.clerk.hook.now ≡ c.args.hook.now)
+    × (w.clerk.station.now ≡ c.args.station.now)) _ _
     c.deref_mut.ensures.value c.hire-workers.ensures.hired i d below in
     may_attend _ _ _ c.args.board.now _ _ c.args.hook.now _ hired.1 hired.2
     (workers_at (λ w. w.clerk.pass) c.args.board.now ws c.args.passes.now.items
@@ -31,7 +34,8 @@ run-ran-requires-clause-may_work g c = λ lifetimes within i d below.
 pub run-ran-requires-clause-new : goal.run-ran-requires-clause-new
 run-ran-requires-clause-new g c = λ lifetimes within i d below.
     (All-same
-    (λ w. (w.end ≡ Working) × (w.clerk.board.now ≡ c.args.board.now) × (w.clerk.hook.now ≡ c.args.hook.now)) _ _
+    (λ w. (w.end ≡ Working) × (w.clerk.board.now ≡ c.args.board.now) × (w.clerk.hook.now ≡ c.args.hook.now)
+    × (w.clerk.station.now ≡ c.args.station.now)) _ _
     c.deref_mut.ensures.value c.hire-workers.ensures.hired i d below).0
 
 pub returns-clause-ran : goal.returns-clause-ran
@@ -78,23 +82,40 @@ returns-clause-at g c =
     passes_at (λ w. w.clerk.pass) c.args.board.now ws (λ w. w.clerk.board.now) ws' long c.dismiss.new.passes.items
     (c.dismiss.ensures.passes ∙ ap (λ l. map (λ w. w.clerk.pass) l) whole)
     (λ i d below. (All-same
-    (λ w. (w.end ≡ Working) × (w.clerk.board.now ≡ c.args.board.now) × (w.clerk.hook.now ≡ c.args.hook.now)) _ _
+    (λ w. (w.end ≡ Working) × (w.clerk.board.now ≡ c.args.board.now) × (w.clerk.hook.now ≡ c.args.hook.now)
+    × (w.clerk.station.now ≡ c.args.station.now)) _ _
     c.deref_mut.ensures.value c.hire-workers.ensures.hired i d below).1)
-    (λ i d below. (c.run-ran.ensures.comes i d below (slice_index_or ws i d).clerk (comes_same _ _ _ _)).board_is)
+    (λ i d below.
+    ap (λ o. o.board)
+    (c.run-ran.ensures.comes i d below (slice_index_or ws i d).clerk
+    (comes_same _ _ _ _ _ (works_same _ _ _))).same)
     (λ i d below. (c.run-ran.ensures.may_work i d below).at)
 
-pub returns-clause-gone : goal.returns-clause-gone
-returns-clause-gone g c =
+pub returns-clause-worked : goal.returns-clause-worked
+returns-clause-worked g c =
     let ws = c.deref_mut.result.now in
     let ws' = c.run-ran.new.workers in
     let long : length ws' ≡ length ws = search rules in
     let whole =
     take_whole c.hire-workers.result.len ws' _
     (omega (arith, long, ap length c.deref_mut.ensures.value, c.hire-workers.result.ok.0)) in
-    by_place (λ w. w.clerk.pass) Goes ws ws' c.args.passes.now.items c.dismiss.new.passes.items
+    let its = keys.rules g.V.Verifier.may_accept g.V.Verifier.may_refuse in
+    by_place (λ w. w.clerk.pass)
+    (HasWorked its g.N.Signer.may_give g.N.Signer.steps (g.W.Rules.allows c.args.hook.now.rules) c.args.station.now
+    g.C.Clock.last c.args.board.now) ws ws' c.args.passes.now.items c.dismiss.new.passes.items
     (ap (λ l. map (λ w. w.clerk.pass) l) c.deref_mut.ensures.value ∙ c.hire-workers.ensures.passes)
     (c.dismiss.ensures.passes ∙ ap (λ l. map (λ w. w.clerk.pass) l) whole) long
-    (λ i d below. (c.run-ran.ensures.comes i d below (slice_index_or ws i d).clerk (comes_same _ _ _ _)).goes)
+    (λ i d below.
+    let hired =
+    All-same
+    (λ w. (w.end ≡ Working) × (w.clerk.board.now ≡ c.args.board.now) × (w.clerk.hook.now ≡ c.args.hook.now)
+    × (w.clerk.station.now ≡ c.args.station.now)) _ _
+    c.deref_mut.ensures.value c.hire-workers.ensures.hired i d below in
+    done_by
+    (λ by. HasWorked its g.N.Signer.may_give g.N.Signer.steps (g.W.Rules.allows by.rules) by.station g.C.Clock.last
+    by.board) _ c.args.board.now _ c.args.hook.now _ c.args.station.now _ _ hired.1 hired.2 hired.3
+    (c.run-ran.ensures.comes i d below (slice_index_or ws i d).clerk
+    (comes_same _ _ _ _ _ (works_same _ _ _))).worked)
 
 pub returns-clause-verifiers : goal.returns-clause-verifiers
 returns-clause-verifiers g c =
@@ -109,4 +130,5 @@ returns-clause-verifiers g c =
     (ap (λ l. map (λ w. w.clerk.verifier) l) c.deref_mut.ensures.value ∙ c.hire-workers.ensures.verifiers)
     (c.dismiss.ensures.verifiers ∙ ap (λ l. map (λ w. w.clerk.verifier) l) whole) long
     (λ i d below.
-    (c.run-ran.ensures.comes i d below (slice_index_or ws i d).clerk (comes_same _ _ _ _)).verifier_faults)
+    (c.run-ran.ensures.comes i d below (slice_index_or ws i d).clerk
+    (comes_same _ _ _ _ _ (works_same _ _ _))).verifier_faults)
