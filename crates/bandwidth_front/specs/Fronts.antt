@@ -1,10 +1,11 @@
 -- A bandwidth file in front of other input: the lines up to the first one that ends it.
-use Rattle.std.specs.Prelude.{◌≡◌, ℕ, ◌+◌, ◌&&◌, not, Bool, List, length, take, codes, Option, Some, None, if◌then◌else◌}
+use Rattle.std.specs.Prelude.{◌≡◌, ℕ, ◌+◌, ◌&&◌, not, Bool, List, length, take, codes, slice_get, Option, Some, None}
+use Rattle.std.specs.Prelude.{if◌then◌else◌}
 use Rattle.std.specs.List.{list_any, take_while}
 use Rattle.std.specs.Option.{option_or}
 use Rattle.std.specs.Str.{bytes_eq}
 use Rattle.item_terms.specs.Lines.{Line, lines}
-use Rattle.bandwidth_file.specs.Files.{IsBandFile, first_fault}
+use Rattle.bandwidth_file.specs.Files.{IsBandFile, faults_of, first_fault}
 use Rattle.bandwidth_file.specs.Lines.{at, place_of}
 use Rattle.bandwidth_file.specs.declared.file.BandFile.{BandFile}
 use Rattle.bandwidth_file.specs.declared.refusal.BandFault.{BandFault}
@@ -41,9 +42,10 @@ pub record IsFront (bytes : List ℕ) (file : BandFile) (used : ℕ) : Type 0 wh
   pub file_is : IsBandFile (take place bytes) file
   pub behind : used ≡ place + end_size
 
--- the first fault of an input in which no line ends the bandwidth file: one of its lines, or else that it goes on
+-- the first fault of an input in which no line ends the bandwidth file: one of its lines, or else that it goes on; not that there
+-- is no line
 abbrev pub open_fault : List ℕ → Option BandFault
-open_fault bytes = option_or (first_fault (lines bytes)) (Some (at (length bytes) Unterminated))
+open_fault bytes = option_or (slice_get (faults_of (lines bytes)) 0) (Some (at (length bytes) Unterminated))
 
 -- the first fault of a bandwidth file that ends at a place, if it ends
 abbrev pub fault_before : List ℕ → Option ℕ → Option BandFault

@@ -1,5 +1,8 @@
 // Reading the bandwidth file in front of other input.
 ghost use Rattle.std.specs.Prelude.{◌≡◌, ◌+◌, ◌≤◌, length, IfErr, IfOk, Some};
+ghost use Rattle.item_terms.specs.Lines.{lines};
+ghost use Rattle.bandwidth_file.specs.Files.{first_fault};
+ghost use Rattle.bandwidth_file.specs.Lines.{at};
 ghost use Rattle.bandwidth_file.specs.Refusals.{RefusedAs};
 ghost use Rattle.bandwidth_front.specs.Fronts.{IsFront, end_place, end_size, front_fault, open_fault};
 
@@ -57,10 +60,37 @@ fn not_ended(alloc: Global, bytes: &[u8]) -> BandRefusal
     ensures { RefusedAs (open_fault bytes.now) result }
 {
     match read(alloc, bytes) {
-        Ok(_file) => BandRefusal::Fault {
-            place: bytes.len() as u64,
-            reason: BandReason::Unterminated,
+        Ok(_file) => unterminated(bytes),
+        Err(BandRefusal::Memory) => BandRefusal::Memory,
+        Err(BandRefusal::Fault { place, reason }) => match reason {
+            BandReason::Timestamp => without_time(bytes, place),
+            _ => BandRefusal::Fault { place, reason },
         },
-        Err(refusal) => refusal,
+    }
+}
+
+/// Why it is refused where it lacks its time, as is found at this place: at the place of its first line, or, where there is no
+/// line, at its end, which is no more than that it goes on.
+fn without_time(bytes: &[u8], place: u64) -> BandRefusal
+    requires { first_fault (lines bytes.now) ≡ Some (at place BandReason.Timestamp) }
+    ensures { RefusedAs (open_fault bytes.now) result }
+{
+    if place == bytes.len() as u64 {
+        unterminated(bytes)
+    } else {
+        BandRefusal::Fault {
+            place,
+            reason: BandReason::Timestamp,
+        }
+    }
+}
+
+/// An input is at fault where it ends.
+fn unterminated(bytes: &[u8]) -> BandRefusal
+    ensures { result ≡ BandRefusal.Fault (length bytes.now) BandReason.Unterminated }
+{
+    BandRefusal::Fault {
+        place: bytes.len() as u64,
+        reason: BandReason::Unterminated,
     }
 }

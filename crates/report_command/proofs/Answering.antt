@@ -5,7 +5,6 @@ use Rattle.std.specs.Global.{Vec}
 use Rattle.frame_terms.specs.declared.fault.FrameFault.{FrameFault}
 use Rattle.frame_terms.specs.declared.fault.ReadRefusal.{ReadRefusal}
 use Rattle.frame_terms.specs.declared.fault.ReadRefusal.TheVariants as read
-use Rattle.frame_terms.specs.Refusals.{Fails}
 use Rattle.key_port.specs.Answers.{Rules}
 use Rattle.vote_terms.specs.Held.{held}
 use Rattle.vote_terms.specs.Votes.{ReadVote}
@@ -15,29 +14,25 @@ use Rattle.consensus_terms.specs.declared.consensus.SignedConsensus.{SignedConse
 use Rattle.consensus_terms.specs.declared.flavour.Flavour.{Flavour}
 use Rattle.consensus_terms.specs.declared.flavour.Flavour.TheVariants.{Microdesc, Ns}
 use Rattle.daemon_words.specs.declared.command.Compute.{Compute}
-use Rattle.daemon_words.specs.declared.command.Kind.TheVariants as kind
 use Rattle.daemon_words.specs.declared.report.Report.{Report}
-use Rattle.exit_status.specs.Stops.{Answered, of_kind}
-use Rattle.exit_status.specs.declared.report_refusal.ReportRefusal.TheVariants as report
-use Rattle.exit_status.specs.declared.status.Refusal.TheVariants as refusal
-use Rattle.exit_status.specs.declared.stop.Stop.{Stop}
-use Rattle.exit_status.specs.declared.stop.Stop.TheVariants as stop
-use Rattle.exit_status.specs.declared.vote_refusal.VoteListRefusal.TheVariants as list
+use Rattle.daemon_words.specs.Stops.{Answered}
+use Rattle.daemon_words.specs.declared.stop.Stop.{Stop}
+use Rattle.daemon_words.specs.declared.stop.Stop.TheVariants as stop
+use Rattle.compute_command.specs.declared.refusal.AcceptRefusal.{AcceptRefusal}
+use Rattle.compute_command.specs.declared.refusal.AcceptRefusal.TheVariants as accept
 use Rattle.health_report.specs.Reports.{IsReport}
+use Rattle.report_command.specs.declared.refusal.InputRefusal.{InputRefusal}
+use Rattle.report_command.specs.declared.refusal.InputRefusal.TheVariants as input
+use Rattle.report_command.specs.declared.refusal.NoReport.TheVariants as report
+use Rattle.report_command.specs.declared.refusal.ReportRefusal.{ReportRefusal}
+use Rattle.report_command.specs.declared.refusal.ReportRefusal.TheVariants as refusal
 use Rattle.report_command.specs.Answers.{AreAcceptable, IsOfDocuments, Reads, ReportAnswers}
-use Rattle.report_command.specs.Inputs.{moved, rest_from, votes_of}
+use Rattle.report_command.specs.Inputs.{rest_from, votes_of}
+use Rattle.report_command.specs.Told.{of_accept, of_fault, of_input}
 use Rattle.report_command.specs.Private.{AnswersOf, AnswersWith, ReadsConsensusAt, ReadsVotes}
 
 abbrev failed : FrameFault → Result (SignedConsensus × ℕ) ReadRefusal
 failed fault = Err (read.Frame fault)
-
--- a consensus that is not read, with its place in the input
-pub moved_stop : (at : ℕ) (bytes : List ℕ) (why : ReadRefusal) (result : Result SignedConsensus Stop)
-    → Fails why (consensus_of bytes) → result ≡ of_kind kind.Consensus (Err (moved at why))
-    → ReadsConsensusAt at bytes result
-moved_stop at bytes (read.Frame fault) result fails is =
-    rw is (refl, record { own = fault; fails = fails; fault_is = refl })
-moved_stop at bytes read.Memory result fails is = rw is tt
 
 -- a flavour that is not the microdesc flavour is the ns flavour
 pub is_ns : (flavour : Flavour) → flavour ≢ Microdesc → flavour ≡ Ns
@@ -48,7 +43,7 @@ is_ns Microdesc other = absurd (other refl)
 
 module _ (rules : Rules) (wanted : Report) (votes : List ReadVote) (consensus : SignedConsensus) (rest : List ℕ) where
   -- the votes are acceptable, and those that are held are answered to
-  pub of_held : (now : List ReadVote) (result : Result (Vec ℕ) Stop) → AreAcceptable rules wanted votes
+  pub of_held : (now : List ReadVote) (result : Result (Vec ℕ) (Stop ReportRefusal)) → AreAcceptable rules wanted votes
       → now ≡ held votes → AnswersOf rules wanted now consensus rest result
       → AnswersWith rules wanted votes consensus rest result
   of_held now (Ok text) acceptable is a = record {
@@ -58,111 +53,94 @@ module _ (rules : Rules) (wanted : Report) (votes : List ReadVote) (consensus : 
     report = subst (λ (h : List ReadVote). IsReport rules wanted.roster h consensus rest text.items) is a.2;
   }
   of_held now (Err stop.Memory) acceptable is a = tt
-  of_held now (Err (stop.Refused (refusal.Document why))) acceptable is a = absurd a
-  of_held now (Err (stop.Refused (refusal.Votes why))) acceptable is a = absurd a
-  of_held now (Err (stop.Refused (refusal.Station why))) acceptable is a = absurd a
-  of_held now (Err (stop.Refused (refusal.Report (report.Missing place)))) acceptable is a = absurd a
   of_held now (Err (stop.Refused (refusal.Report (report.Period begin)))) acceptable is a =
       record { acceptable = acceptable; other = a.0; begins = a.1 }
   of_held now (Err (stop.Refused (refusal.Report report.Flavour))) acceptable is a =
       record { acceptable = acceptable; period = a.0; flavour = a.1 }
   of_held now (Err (stop.Refused refusal.Verifier)) acceptable is a =
       inr (record { acceptable = acceptable; period = a.0; flavour = a.1 })
-  of_held now (Err (stop.Refused (refusal.Bandwidth why))) acceptable is a = absurd a
-  of_held now (Err (stop.Refused refusal.Signer)) acceptable is a = absurd a
-  of_held now (Err (stop.Refused refusal.Gate)) acceptable is a = absurd a
+  of_held now (Err (stop.Refused (refusal.Votes fault))) acceptable is a = absurd a
+  of_held now (Err (stop.Refused (refusal.Consensus fault))) acceptable is a = absurd a
+  of_held now (Err (stop.Refused (refusal.Vote number word))) acceptable is a = absurd a
+  of_held now (Err (stop.Refused (refusal.Report (report.Missing place)))) acceptable is a = absurd a
 
   -- a vote is refused, or the verifier failed at one
-  pub of_stop : (asked : Compute) (why : Stop) → asked.roster ≡ wanted.roster → asked.valid_after ≡ wanted.valid_after
-      → StopsAt rules asked votes why → AnswersWith rules wanted votes consensus rest (Err why)
+  pub of_stop : (asked : Compute) (why : Stop AcceptRefusal) → asked.roster ≡ wanted.roster
+      → asked.valid_after ≡ wanted.valid_after → StopsAt rules asked votes why
+      → AnswersWith rules wanted votes consensus rest (Err (of_accept why))
   of_stop asked stop.Memory roster period s = tt
-  of_stop asked (stop.Refused (refusal.Document why)) roster period s = absurd s
-  of_stop asked (stop.Refused (refusal.Votes (list.Vote number word))) roster period s = rw (sym roster, sym period) s
-  of_stop asked (stop.Refused (refusal.Votes (list.TooFew count members))) roster period s = absurd s
-  of_stop asked (stop.Refused (refusal.Station why)) roster period s = absurd s
-  of_stop asked (stop.Refused (refusal.Report why)) roster period s = absurd s
-  of_stop asked (stop.Refused refusal.Verifier) roster period s = inl (rw (sym roster, sym period) s)
-  of_stop asked (stop.Refused (refusal.Bandwidth why)) roster period s = absurd s
-  of_stop asked (stop.Refused refusal.Signer) roster period s = absurd s
-  of_stop asked (stop.Refused refusal.Gate) roster period s = absurd s
+  of_stop asked (stop.Refused (accept.Vote number word)) roster period s = rw (sym roster, sym period) s
+  of_stop asked (stop.Refused accept.Verifier) roster period s = inl (rw (sym roster, sym period) s)
 
   -- ---- an input
 
   -- the input says this
-  pub of_input : (bytes : List ℕ) (result : Result (Vec ℕ) Stop) → Reads bytes votes rest consensus
+  pub of_reading : (bytes : List ℕ) (result : Result (Vec ℕ) (Stop ReportRefusal)) → Reads bytes votes rest consensus
       → AnswersWith rules wanted votes consensus rest result → Answered (ReportAnswers rules wanted bytes) result
-  of_input bytes (Ok text) reads a =
+  of_reading bytes (Ok text) reads a =
       record { votes = votes; rest = rest; consensus = consensus; reads = reads; says = a }
-  of_input bytes (Err stop.Memory) reads a = tt
-  of_input bytes (Err (stop.Refused (refusal.Document why))) reads a = absurd a
-  of_input bytes (Err (stop.Refused (refusal.Votes (list.Vote number word)))) reads a =
+  of_reading bytes (Err stop.Memory) reads a = tt
+  of_reading bytes (Err (stop.Refused (refusal.Vote number word))) reads a =
       record { votes = votes; rest = rest; consensus = consensus; reads = reads; says = a }
-  of_input bytes (Err (stop.Refused (refusal.Votes (list.TooFew count members)))) reads a = absurd a
-  of_input bytes (Err (stop.Refused (refusal.Station why))) reads a = absurd a
-  of_input bytes (Err (stop.Refused (refusal.Report (report.Missing place)))) reads a = absurd a
-  of_input bytes (Err (stop.Refused (refusal.Report (report.Period begin)))) reads a =
+  of_reading bytes (Err (stop.Refused (refusal.Report (report.Period begin)))) reads a =
       record { votes = votes; rest = rest; consensus = consensus; reads = reads; says = a }
-  of_input bytes (Err (stop.Refused (refusal.Report report.Flavour))) reads a =
+  of_reading bytes (Err (stop.Refused (refusal.Report report.Flavour))) reads a =
       record { votes = votes; rest = rest; consensus = consensus; reads = reads; says = a }
-  of_input bytes (Err (stop.Refused refusal.Verifier)) reads a =
+  of_reading bytes (Err (stop.Refused refusal.Verifier)) reads a =
       record { votes = votes; rest = rest; consensus = consensus; reads = reads; says = a }
-  of_input bytes (Err (stop.Refused (refusal.Bandwidth why))) reads a = absurd a
-  of_input bytes (Err (stop.Refused refusal.Signer)) reads a = absurd a
-  of_input bytes (Err (stop.Refused refusal.Gate)) reads a = absurd a
+  of_reading bytes (Err (stop.Refused (refusal.Votes fault))) reads a = absurd a
+  of_reading bytes (Err (stop.Refused (refusal.Consensus fault))) reads a = absurd a
+  of_reading bytes (Err (stop.Refused (refusal.Report (report.Missing place)))) reads a = absurd a
 
   -- no answer to what an input says is one to what its documents are
-  pub not_of_documents : (result : Result (Vec ℕ) Stop) → AnswersWith rules wanted votes consensus rest result
-      → IfErr result (λ why. IsOfDocuments why → ⊥)
+  pub not_of_documents : (result : Result (Vec ℕ) (Stop ReportRefusal))
+      → AnswersWith rules wanted votes consensus rest result → IfErr result (λ why. IsOfDocuments why → ⊥)
   not_of_documents (Ok text) a = tt
-  not_of_documents (Err stop.Memory) a = λ of. absurd of
-  not_of_documents (Err (stop.Refused (refusal.Document why))) a = absurd a
-  not_of_documents (Err (stop.Refused (refusal.Votes why))) a = λ of. absurd of
-  not_of_documents (Err (stop.Refused (refusal.Station why))) a = λ of. absurd of
-  not_of_documents (Err (stop.Refused (refusal.Report (report.Missing place)))) a = absurd a
-  not_of_documents (Err (stop.Refused (refusal.Report (report.Period begin)))) a = λ of. absurd of
-  not_of_documents (Err (stop.Refused (refusal.Report report.Flavour))) a = λ of. absurd of
-  not_of_documents (Err (stop.Refused refusal.Verifier)) a = λ of. absurd of
-  not_of_documents (Err (stop.Refused (refusal.Bandwidth why))) a = λ of. absurd of
-  not_of_documents (Err (stop.Refused refusal.Signer)) a = λ of. absurd of
-  not_of_documents (Err (stop.Refused refusal.Gate)) a = λ of. absurd of
+  not_of_documents (Err stop.Memory) a = λ of. of
+  not_of_documents (Err (stop.Refused (refusal.Vote number word))) a = λ of. of
+  not_of_documents (Err (stop.Refused (refusal.Report (report.Period begin)))) a = λ of. of
+  not_of_documents (Err (stop.Refused (refusal.Report report.Flavour))) a = λ of. of
+  not_of_documents (Err (stop.Refused refusal.Verifier)) a = λ of. of
+  not_of_documents (Err (stop.Refused (refusal.Votes fault))) a = λ of. a
+  not_of_documents (Err (stop.Refused (refusal.Consensus fault))) a = λ of. a
+  not_of_documents (Err (stop.Refused (refusal.Report (report.Missing place)))) a = λ of. a
 
 -- the votes are not read
-pub of_votes : (rules : Rules) (wanted : Report) (bytes : List ℕ) (why : Stop) → ReadsVotes (votes_of bytes) (Err why)
-    → Answered (ReportAnswers rules wanted bytes) (Err why)
+pub of_votes : (rules : Rules) (wanted : Report) (bytes : List ℕ) (why : Stop InputRefusal)
+    → ReadsVotes (votes_of bytes) (Err why) → Answered (ReportAnswers rules wanted bytes) (Err (of_input why))
 of_votes rules wanted bytes stop.Memory a = tt
-of_votes rules wanted bytes (stop.Refused (refusal.Document why)) a = inl a
-of_votes rules wanted bytes (stop.Refused (refusal.Votes why)) a = absurd a
-of_votes rules wanted bytes (stop.Refused (refusal.Station why)) a = absurd a
-of_votes rules wanted bytes (stop.Refused (refusal.Report (report.Missing place))) a = a
-of_votes rules wanted bytes (stop.Refused (refusal.Report (report.Period begin))) a = absurd a
-of_votes rules wanted bytes (stop.Refused (refusal.Report report.Flavour)) a = absurd a
-of_votes rules wanted bytes (stop.Refused refusal.Verifier) a = absurd a
-of_votes rules wanted bytes (stop.Refused (refusal.Bandwidth why)) a = absurd a
-of_votes rules wanted bytes (stop.Refused refusal.Signer) a = absurd a
-of_votes rules wanted bytes (stop.Refused refusal.Gate) a = absurd a
+of_votes rules wanted bytes (stop.Refused (input.Fault fault)) a = a
+of_votes rules wanted bytes (stop.Refused (input.Missing place)) a = a
 
 -- the consensus is not read
-pub of_consensus : (rules : Rules) (wanted : Report) (bytes rest : List ℕ) (votes : List ReadVote) (at : ℕ) (why : Stop)
-    → votes_of bytes ≡ Ok (votes, at) → rest ≡ rest_from at bytes → ReadsConsensusAt at rest (Err why)
-    → Answered (ReportAnswers rules wanted bytes) (Err why)
+pub of_consensus : (rules : Rules) (wanted : Report) (bytes rest : List ℕ) (votes : List ReadVote) (at : ℕ)
+    (why : Stop FrameFault) → votes_of bytes ≡ Ok (votes, at) → rest ≡ rest_from at bytes
+    → ReadsConsensusAt at rest (Err why) → Answered (ReportAnswers rules wanted bytes) (Err (of_fault why))
 of_consensus rules wanted bytes rest votes at stop.Memory read is a = tt
-of_consensus rules wanted bytes rest votes at (stop.Refused (refusal.Document why)) read is a =
-    inr (
-      a.0,
-      record {
-        votes = votes;
-        at = at;
-        own = a.1.own;
-        votes_are = read;
-        fails =
-            subst (λ (r : List ℕ). consensus_of r ≡ failed a.1.own) is a.1.fails;
-        fault_is = a.1.fault_is;
-      },
-    )
-of_consensus rules wanted bytes rest votes at (stop.Refused (refusal.Votes why)) read is a = absurd a
-of_consensus rules wanted bytes rest votes at (stop.Refused (refusal.Station why)) read is a = absurd a
-of_consensus rules wanted bytes rest votes at (stop.Refused (refusal.Report why)) read is a = absurd a
-of_consensus rules wanted bytes rest votes at (stop.Refused refusal.Verifier) read is a = absurd a
-of_consensus rules wanted bytes rest votes at (stop.Refused (refusal.Bandwidth why)) read is a = absurd a
-of_consensus rules wanted bytes rest votes at (stop.Refused refusal.Signer) read is a = absurd a
-of_consensus rules wanted bytes rest votes at (stop.Refused refusal.Gate) read is a = absurd a
+of_consensus rules wanted bytes rest votes at (stop.Refused fault) read is a = record {
+  votes = votes;
+  at = at;
+  own = a.own;
+  votes_are = read;
+  fails = subst (λ (r : List ℕ). consensus_of r ≡ failed a.own) is a.fails;
+  fault_is = a.fault_is;
+}
+
+-- ---- what is asked
+
+-- the verifier failed at a vote where that is told
+pub at_vote : (why : Stop AcceptRefusal) → of_accept why ≡ stop.Refused refusal.Verifier
+    → why ≡ stop.Refused accept.Verifier
+at_vote stop.Memory told = absurd (cc told)
+at_vote (stop.Refused (accept.Vote number word)) told = absurd (cc told)
+at_vote (stop.Refused accept.Verifier) told = refl
+
+-- it is not asked while the input is read
+pub not_at_votes : (why : Stop InputRefusal) → of_input why ≡ stop.Refused refusal.Verifier → ⊥
+not_at_votes stop.Memory told = cc told
+not_at_votes (stop.Refused (input.Fault fault)) told = cc told
+not_at_votes (stop.Refused (input.Missing place)) told = cc told
+
+pub not_at_consensus : (why : Stop FrameFault) → of_fault why ≡ stop.Refused refusal.Verifier → ⊥
+not_at_consensus stop.Memory told = cc told
+not_at_consensus (stop.Refused fault) told = cc told

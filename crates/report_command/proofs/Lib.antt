@@ -1,3 +1,4 @@
+pub mod FrontLine
 pub mod Chains
 pub mod Answering
 pub mod OneReading

@@ -1,5 +1,5 @@
 -- Acceptable votes with their consensus are not refused.
-use Rattle.std.proofs.Common.{◌≡◌, ◌∙◌, ℕ, List, Some, Ok, Err, ap, sym, subst, refl, inl, inr}
+use Rattle.std.proofs.Common.{◌≡◌, ◌∙◌, ℕ, List, Some, Ok, Err, ap, sym, subst, refl}
 use Rattle.std.specs.Prelude.{slice_get}
 use Rattle.frame_terms.specs.declared.fault.FrameFault.{FrameFault}
 use Rattle.key_port.specs.Answers.{Rules}
@@ -9,10 +9,9 @@ use Rattle.compute_command.proofs.NotRefused.{at, not_refused_by}
 use Rattle.consensus_doc.specs.Reading.{consensus_of}
 use Rattle.consensus_terms.specs.declared.consensus.SignedConsensus.{SignedConsensus}
 use Rattle.daemon_words.specs.declared.report.Report.{Report}
-use Rattle.exit_status.specs.declared.report_refusal.ReportRefusal.TheVariants as report
-use Rattle.exit_status.specs.declared.status.Refusal.{Refusal}
-use Rattle.exit_status.specs.declared.status.Refusal.TheVariants as refusal
-use Rattle.exit_status.specs.declared.vote_refusal.VoteListRefusal.TheVariants as list
+use Rattle.report_command.specs.declared.refusal.NoReport.TheVariants as report
+use Rattle.report_command.specs.declared.refusal.ReportRefusal.{ReportRefusal}
+use Rattle.report_command.specs.declared.refusal.ReportRefusal.TheVariants as refusal
 use Rattle.report_command.specs.Answers.{CanReport, ConsensusFails, Reads, ReportAnswers}
 use Rattle.report_command.specs.Inputs.{rest_from, votes_of}
 use Rattle.report_command.proofs.OneReading.{not_both, one_value}
@@ -49,13 +48,12 @@ reads_on rules wanted bytes fault can fails =
     not_both (consensus_of can.rest) (can.consensus, can.reads.used) _ can.reads.consensus_is (same ∙ fails.fails)
 
 -- such an input is refused only where the verifier failed
-pub not_refused : (rules : Rules) (wanted : Report) (bytes : List ℕ) (why : Refusal) → CanReport rules wanted bytes
+pub not_refused : (rules : Rules) (wanted : Report) (bytes : List ℕ) (why : ReportRefusal) → CanReport rules wanted bytes
     → ReportAnswers rules wanted bytes (Err why) → why ≡ refusal.Verifier
-not_refused rules wanted bytes (refusal.Document why) can (inl a) =
+not_refused rules wanted bytes (refusal.Votes fault) can a =
     absurd (not_both (votes_of bytes) (can.votes, can.reads.at) _ can.reads.votes_are a)
-not_refused rules wanted bytes (refusal.Document why) can (inr a) =
-    absurd (reads_on rules wanted bytes why.fault can a.1)
-not_refused rules wanted bytes (refusal.Votes (list.Vote number w)) can a =
+not_refused rules wanted bytes (refusal.Consensus fault) can a = absurd (reads_on rules wanted bytes fault can a)
+not_refused rules wanted bytes (refusal.Vote number w) can a =
     let same = same_votes bytes a.votes can.votes a.rest can.rest a.consensus can.consensus a.reads can.reads in
     let first = a.says in
     let stands = subst (λ votes. slice_get votes first.before ≡ Some first.vote) same first.reached.stands in
@@ -63,8 +61,6 @@ not_refused rules wanted bytes (refusal.Votes (list.Vote number w)) can a =
     (at (λ v. IsAcceptable rules wanted.roster wanted.valid_after v) can.votes first.before first.vote can.acceptable stands)
     (at (λ v. RefusesNone rules v) can.votes first.before first.vote can.none_refused stands)
     first.fails)
-not_refused rules wanted bytes (refusal.Votes (list.TooFew count roster)) can a = absurd a
-not_refused rules wanted bytes (refusal.Station why) can a = absurd a
 not_refused rules wanted bytes (refusal.Report (report.Missing place)) can a =
     absurd (not_both (votes_of bytes) (can.votes, can.reads.at) _ can.reads.votes_are a)
 not_refused rules wanted bytes (refusal.Report (report.Period begin)) can a =
@@ -74,6 +70,3 @@ not_refused rules wanted bytes (refusal.Report report.Flavour) can a =
     let same = same_consensus bytes a.votes can.votes a.rest can.rest a.consensus can.consensus a.reads can.reads in
     absurd (cc (sym a.says.flavour ∙ ap (λ (c : SignedConsensus). c.flavour) same ∙ can.flavour))
 not_refused rules wanted bytes refusal.Verifier can a = refl
-not_refused rules wanted bytes (refusal.Bandwidth why) can a = absurd a
-not_refused rules wanted bytes refusal.Signer can a = absurd a
-not_refused rules wanted bytes refusal.Gate can a = absurd a

@@ -11,16 +11,14 @@ use Rattle.vote_terms.specs.declared.word.VoteWord.{VoteWord}
 use Rattle.consensus_doc.specs.Reading.{consensus_of}
 use Rattle.consensus_terms.specs.declared.consensus.SignedConsensus.{SignedConsensus}
 use Rattle.consensus_terms.specs.declared.flavour.Flavour.TheVariants.{Microdesc, Ns}
-use Rattle.daemon_words.specs.declared.command.Kind.TheVariants as kind
+use Rattle.daemon_words.specs.declared.stop.Stop.{Stop}
+use Rattle.daemon_words.specs.declared.stop.Stop.TheVariants as stop
+use Rattle.report_command.specs.declared.refusal.InputRefusal.TheVariants as input
+use Rattle.report_command.specs.declared.refusal.MomentText.{MomentText}
+use Rattle.report_command.specs.declared.refusal.NoReport.TheVariants as report
+use Rattle.report_command.specs.declared.refusal.ReportRefusal.{ReportRefusal}
+use Rattle.report_command.specs.declared.refusal.ReportRefusal.TheVariants as refusal
 use Rattle.daemon_words.specs.declared.report.Report.{Report}
-use Rattle.exit_status.specs.declared.document_refusal.DocumentRefusal.{DocumentRefusal}
-use Rattle.exit_status.specs.declared.report_refusal.MomentText.{MomentText}
-use Rattle.exit_status.specs.declared.report_refusal.ReportRefusal.TheVariants as report
-use Rattle.exit_status.specs.declared.status.Refusal.{Refusal}
-use Rattle.exit_status.specs.declared.status.Refusal.TheVariants as refusal
-use Rattle.exit_status.specs.declared.stop.Stop.{Stop}
-use Rattle.exit_status.specs.declared.stop.Stop.TheVariants as stop
-use Rattle.exit_status.specs.declared.vote_refusal.VoteListRefusal.TheVariants as list
 use Rattle.health_report.specs.Reports.{IsReport}
 use Rattle.report_command.specs.Inputs.{votes_of, rest_from, moved_fault}
 
@@ -97,20 +95,17 @@ pub record ConsensusFails (bytes : List ℕ) (fault : FrameFault) : Type 0 where
   pub fault_is : fault ≡ moved_fault at own
 
 -- what the command answers to an input: a report, or a refusal. Where the verifier failed it was asked.
-abbrev pub ReportAnswers : Rules → Report → List ℕ → Result (List ℕ) Refusal → Type 0
+abbrev pub ReportAnswers : Rules → Report → List ℕ → Result (List ℕ) ReportRefusal → Type 0
 ReportAnswers rules wanted bytes (Ok text) = ReadsWith (Reports rules wanted text) bytes
-ReportAnswers rules wanted bytes (Err (refusal.Document why)) =
-    (votes_of bytes ≡ Err (stop.Refused (refusal.Document why)))
-    ⊎ ((why.kind ≡ kind.Consensus) × ConsensusFails bytes why.fault)
+ReportAnswers rules wanted bytes (Err (refusal.Votes fault)) = votes_of bytes ≡ Err (stop.Refused (input.Fault fault))
 ReportAnswers rules wanted bytes (Err (refusal.Report (report.Missing place))) =
-    votes_of bytes ≡ Err (stop.Refused (refusal.Report (report.Missing place)))
-ReportAnswers rules wanted bytes (Err (refusal.Votes (list.Vote number word))) =
-    ReadsWith (RefusesVote rules wanted number word) bytes
+    votes_of bytes ≡ Err (stop.Refused (input.Missing place))
+ReportAnswers rules wanted bytes (Err (refusal.Consensus fault)) = ConsensusFails bytes fault
+ReportAnswers rules wanted bytes (Err (refusal.Vote number word)) = ReadsWith (RefusesVote rules wanted number word) bytes
 ReportAnswers rules wanted bytes (Err refusal.Verifier) = ReadsWith (AsksVerifier rules wanted) bytes
 ReportAnswers rules wanted bytes (Err (refusal.Report (report.Period begin))) =
     ReadsWith (IsOfAnother rules wanted begin) bytes
 ReportAnswers rules wanted bytes (Err (refusal.Report report.Flavour)) = ReadsWith (IsMicrodesc rules wanted) bytes
-ReportAnswers rules wanted bytes (Err _) = ⊥
 
 -- ---- an input that must be answered
 
@@ -127,7 +122,8 @@ pub record CanReport (rules : Rules) (wanted : Report) (bytes : List ℕ) : Type
   pub flavour : consensus.flavour ≡ Ns
 
 -- the input is refused for what its documents are
-abbrev pub IsOfDocuments : Stop → Type 0
-IsOfDocuments (stop.Refused (refusal.Document why)) = Unit {0}
+abbrev pub IsOfDocuments : Stop ReportRefusal → Type 0
+IsOfDocuments (stop.Refused (refusal.Votes fault)) = Unit {0}
+IsOfDocuments (stop.Refused (refusal.Consensus fault)) = Unit {0}
 IsOfDocuments (stop.Refused (refusal.Report (report.Missing place))) = Unit {0}
 IsOfDocuments _ = ⊥

@@ -1,3 +1,4 @@
+pub mod Told
 pub mod Inputs
 pub mod Answers
 pub mod Private

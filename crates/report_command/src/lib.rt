@@ -2,6 +2,10 @@
 #![tactic(auto)]
 
 mod command;
+mod line;
 mod reading;
+mod refusal;
+mod told;
 
 pub use command::report;
+pub use refusal::{MomentText, NoReport, ReportRefusal};

@@ -3,13 +3,14 @@ ghost use Rattle.std.specs.Prelude.{◌≡◌, ◌≤◌, ◌<◌, ◌^◌, IfOk
 ghost use Rattle.consensus_terms.specs.Moments.{HasMoments};
 ghost use Rattle.dirdoc_grammar.specs.Seen.{seen};
 ghost use Rattle.report_command.specs.Inputs as inputs;
-ghost use Rattle.report_command.specs.Private.{ReadsConsensusAt, ReadsVotes};
+ghost use Rattle.report_command.specs.Private.{ReadsConsensusAt, ReadsVoteAt, ReadsVotes};
 
+use crate::line::{LINE_SIZE, line_place};
+use crate::refusal::InputRefusal;
 use bytes::Bytes;
 use consensus_terms::SignedConsensus;
-use daemon_words::Kind;
+use daemon_words::Stop;
 use dirdoc_grammar::{Item, Items};
-use exit_status::{DocumentRefusal, Refusal, ReportRefusal, Stop, of_kind};
 use frame_reader::first_fault;
 use frame_terms::{FrameFault, FrameReason, Limit, ReadRefusal};
 use std::alloc::Global;
@@ -29,47 +30,69 @@ pub(crate) enum Ahead {
     Vote(FrameFault),
 }
 
-/// Whether an item is the line in front of the consensus.
-fn is_line(item: &Item<'_>) -> bool
-    ensures { result ≡ inputs.is_line (seen item.now) }
+/// Why an item is refused as the first of one vote too many.
+fn one_too_many(item: &Item<'_>) -> FrameFault
+    ensures { result ≡ inputs.one_too_many (seen item.now) }
 {
-    item.keyword == b"report-consensus".as_slice() && item.arguments.is_empty()
-}
-
-/// What an item is.
-fn ahead_of(item: &Item<'_>) -> Ahead
-    ensures { result ≡ inputs.ahead_of (seen item.now) }
-{
-    if is_line(item) {
-        return Ahead::Consensus(item.line_end);
-    }
     match first_fault(VoteFrame, item) {
-        Some(fault) => Ahead::Vote(fault),
-        None => Ahead::Vote(FrameFault {
+        Some(fault) => fault,
+        None => FrameFault {
             place: item.place,
             reason: FrameReason::TooMany(Limit::Votes),
-        }),
+        },
     }
 }
 
-/// What stands at a place, behind votes.
-fn ahead_at(bytes: &[u8], place: usize) -> Result<Ahead, Refusal>
+/// What stands at a place, behind votes: the line in front of the consensus, whatever follows it, or else what items say.
+fn ahead_at(bytes: &[u8], place: usize) -> Result<Ahead, InputRefusal>
     requires within { place ≤ length bytes.now }
     requires short { length bytes.now < 2 ^ 61 }
     ensures { result ≡ inputs.ahead_at place bytes.now }
 {
+    match line_place(bytes, place) {
+        Some(at) => Ok(Ahead::Consensus((at + LINE_SIZE) as u64)),
+        None => first_at(bytes, place),
+    }
+}
+
+/// What is to begin a vote at a place, behind votes.
+fn first_at(bytes: &[u8], place: usize) -> Result<Ahead, InputRefusal>
+    requires within { place ≤ length bytes.now }
+    requires short { length bytes.now < 2 ^ 61 }
+    ensures { result ≡ inputs.first_at place bytes.now }
+{
     match Items::starting_at(bytes, place as u64, NO_LIMIT).next() {
-        Ok(Some(item)) => Ok(ahead_of(&item)),
-        Ok(None) => Err(Refusal::Report(ReportRefusal::Missing {
+        Ok(Some(item)) => Ok(Ahead::Vote(one_too_many(&item))),
+        Ok(None) => Err(InputRefusal::Missing {
             place: bytes.len() as u64,
+        }),
+        Err(fault) => Err(InputRefusal::Fault(FrameFault {
+            place: fault.place,
+            reason: FrameReason::Doc(fault.reason),
         })),
-        Err(fault) => Err(Refusal::Document(DocumentRefusal {
-            kind: Kind::Vote,
-            fault: FrameFault {
-                place: fault.place,
-                reason: FrameReason::Doc(fault.reason),
-            },
-        })),
+    }
+}
+
+/// The vote that stands in the input from a place on, and the place behind it. It shares the input's bytes.
+///
+/// # Errors
+/// `Frame` is its first fault, with its place in the input. `Memory` is want of memory.
+fn vote_at(alloc: Global, bytes: &Bytes, place: usize) -> Result<(Vote, usize), ReadRefusal>
+    requires within { place ≤ length bytes.now }
+    requires short { length bytes.now < 2 ^ 61 }
+    ensures { ReadsVoteAt place bytes.now result }
+{
+    let rest = bytes.slice(place..)?;
+    match read(alloc, &rest) {
+        Ok((vote, used)) => Ok((vote, place + used)),
+        Err(ReadRefusal::Frame(fault)) => {
+            let there = place as u64 + fault.place;
+            Err(ReadRefusal::Frame(FrameFault {
+                place: there,
+                reason: fault.reason,
+            }))
+        }
+        Err(ReadRefusal::Memory) => Err(ReadRefusal::Memory),
     }
 }
 
@@ -79,7 +102,7 @@ fn ahead_at(bytes: &[u8], place: usize) -> Result<Ahead, Refusal>
 /// # Errors
 /// `Refused` is the input's first fault, with its place in the input; a 65th vote is refused at its first item, and where the line
 /// does not come that is told at the input's end. `Memory` is want of memory.
-pub(crate) fn votes_of(alloc: Global, bytes: &Bytes) -> Result<(Vec<Vote>, u64), Stop>
+pub(crate) fn votes_of(alloc: Global, bytes: &Bytes) -> Result<(Vec<Vote>, u64), Stop<InputRefusal>>
     requires { length bytes.now < 2 ^ 61 }
     ensures votes { ReadsVotes (inputs.votes_of bytes.now) result }
     ensures few { IfOk result (λ found. vec_len found.0 ≤ 64) }
@@ -93,14 +116,14 @@ pub(crate) fn votes_of(alloc: Global, bytes: &Bytes) -> Result<(Vec<Vote>, u64),
             Ok(Ahead::Consensus(at)) => return Ok((found, at)),
             Ok(Ahead::Vote(fault)) => {
                 if room == 0 {
-                    let kind = Kind::Vote;
-                    return Err(Stop::Refused(Refusal::Document(DocumentRefusal { kind, fault })));
+                    return Err(Stop::Refused(InputRefusal::Fault(fault)));
                 }
             }
         }
-        let (vote, after) = match of_kind(Kind::Vote, read(alloc, bytes, place)) {
-            Ok(read) => read,
-            Err(stop) => return Err(stop),
+        let (vote, after) = match vote_at(alloc, bytes, place) {
+            Ok((vote, after)) => (vote, after),
+            Err(ReadRefusal::Frame(fault)) => return Err(Stop::Refused(InputRefusal::Fault(fault))),
+            Err(ReadRefusal::Memory) => return Err(Stop::Memory),
         };
         found.push(vote)?;
         place = after;
@@ -108,16 +131,13 @@ pub(crate) fn votes_of(alloc: Global, bytes: &Bytes) -> Result<(Vec<Vote>, u64),
     }
 }
 
-/// A refusal of a document that begins at a place of the input, with its place in the input.
-fn moved(at: u64, refusal: ReadRefusal) -> ReadRefusal
-    ensures { result ≡ inputs.moved at refusal }
+/// A fault of a document that begins at a place of the input, with its place in the input.
+fn moved(at: u64, fault: FrameFault) -> FrameFault
+    ensures { result ≡ inputs.moved_fault at fault }
 {
-    match refusal {
-        ReadRefusal::Frame(fault) => ReadRefusal::Frame(FrameFault {
-            place: at.saturating_add(fault.place),
-            reason: fault.reason,
-        }),
-        ReadRefusal::Memory => ReadRefusal::Memory,
+    FrameFault {
+        place: at.saturating_add(fault.place),
+        reason: fault.reason,
     }
 }
 
@@ -125,13 +145,18 @@ fn moved(at: u64, refusal: ReadRefusal) -> ReadRefusal
 ///
 /// # Errors
 /// `Refused` is its first fault, with its place in the input. `Memory` is want of memory.
-pub(crate) fn consensus_at(alloc: Global, at: u64, bytes: &[u8]) -> Result<SignedConsensus, Stop>
+pub(crate) fn consensus_at(
+    alloc: Global,
+    at: u64,
+    bytes: &[u8],
+) -> Result<SignedConsensus, Stop<FrameFault>>
     requires { length bytes.now < 2 ^ 61 }
     ensures consensus { ReadsConsensusAt at bytes.now result }
     ensures moments { IfOk result (λ consensus. HasMoments consensus.facts) }
 {
     match consensus_doc::read(alloc, bytes) {
         Ok((consensus, _)) => Ok(consensus),
-        Err(refusal) => of_kind(Kind::Consensus, Err(moved(at, refusal))),
+        Err(ReadRefusal::Frame(fault)) => Err(Stop::Refused(moved(at, fault))),
+        Err(ReadRefusal::Memory) => Err(Stop::Memory),
     }
 }

@@ -1,8 +1,11 @@
-use Rattle.bandwidth_front.proofs.OpenInputs.{goes_on, lines_first}
+use Rattle.std.proofs.Common.{inr, subst}
+use Rattle.item_terms.specs.Lines.{lines}
+use Rattle.bandwidth_file.specs.Files.{first_fault}
+use Rattle.bandwidth_file.specs.Refusals.{RefusedAs}
+use Rattle.bandwidth_front.proofs.OpenInputs.{lines_first}
 use Rattle.bandwidth_front.proofs.front.not_ended.Goals as goal
 
-pub returns-in-Ok : goal.returns-in-Ok
-returns-in-Ok c = goes_on c.args.bytes.now c.in-Ok.ensures.file.sound
-
-pub returns-in-Err : goal.returns-in-Err
-returns-in-Err c = lines_first c.args.bytes.now c.in-Err.refusal c.in-Err.ensures.fault
+pub returns-in_default : goal.returns-in_default
+returns-in_default c =
+    lines_first c.args.bytes.now c.in-Err-Fault.place c.in-Err-Fault.reason (inr c.in_default.not-Timestamp)
+    (subst (RefusedAs (first_fault (lines c.args.bytes.now))) c.in-Err-Fault.field-0-is c.in-Err-Fault.ensures.fault)
