@@ -6,11 +6,12 @@ use Rattle.dir_bytes.specs.Causes.{Counts, Rose}
 use Rattle.daemon_words.specs.declared.command.Command.{Command}
 use Rattle.daemon_words.specs.declared.command.Command.TheVariants as command
 use Rattle.daemon_words.specs.declared.command.Measures.{Measures}
-use Rattle.exit_status.specs.declared.stop.Stop.{Stop}
-use Rattle.exit_status.specs.declared.stop.Stop.TheVariants as stop
-use Rattle.exit_status.specs.Stops.{Answered}
-use Rattle.station_commands.specs.Voting.{IsOfStation}
+use Rattle.daemon_words.specs.Stops.{Answered}
+use Rattle.daemon_words.specs.declared.stop.Stop.{Stop}
+use Rattle.daemon_words.specs.declared.stop.Stop.TheVariants as stop
+use Rattle.exit_status.specs.declared.status.Refusal.{Refusal}
 use Rattle.authority_daemon.specs.Commands.{Answers, IsEarly, May, MakeVoteBy}
+use Rattle.authority_daemon.specs.Inside.{OfRefusal}
 use Rattle.authority_daemon.specs.Runs.{first_count}
 use Rattle.authority_daemon.specs.Moments.{TellsFaults}
 
@@ -48,19 +49,20 @@ module _ {X : Type 0} where
   counted count [] x later some is told = absurd (omega (arith, some))
   counted count (y ∷ items) x later some is told = subst (λ (z : X). Counts (count z) (count later)) is told
 
-  -- what `make-vote` asks none of, where it refuses what the station is given
-  pub none_asked : (bandwidths : Measures) (c : Command) (items : List X) (x later : X) (result : Result (Vec ℕ) Stop)
-      → c ≡ command.MakeVote bandwidths → 0 < length items → x ≡ slice_index_or items 0 x → IfErr result (λ why. IsOfStation why → later ≡ x)
-      → IfErr result (λ why. IsEarly c why → slice_set items 0 later ≡ items)
-  none_asked bandwidths c items x later (Ok text) is some first asks = tt
-  none_asked bandwidths c items x later (Err why) is some first asks =
+  -- what a command asks none of, where it refuses something before
+  pub none_asked : (given c : Command) (items : List X) (x later : X) (result : Result (Vec ℕ) (Stop Refusal))
+      → c ≡ given → 0 < length items → x ≡ slice_index_or items 0 x
+      → IfErr result (λ why. OfRefusal (IsEarly given) why → later ≡ x)
+      → IfErr result (λ why. OfRefusal (IsEarly c) why → slice_set items 0 later ≡ items)
+  none_asked given c items x later (Ok text) is some first asks = tt
+  none_asked given c items x later (Err why) is some first asks =
       λ unchecked. all_stay items x later some first
-      (asks (subst (λ (k : Command). IsEarly k why) is unchecked))
+      (asks (subst (λ (k : Command). OfRefusal (IsEarly k) why) is unchecked))
 
 module _ {N : Type 0} (its : May N) where
   -- what `make-vote` answers at the moment that the clock gave
   pub vote_answered : (bandwidths : Measures) (c : Command) (given now : ℕ) (bytes : List ℕ) (old new : N)
-      (result : Result (Vec ℕ) Stop) → c ≡ command.MakeVote bandwidths → now ≡ given
+      (result : Result (Vec ℕ) (Stop Refusal)) → c ≡ command.MakeVote bandwidths → now ≡ given
       → Answered (MakeVoteBy its bandwidths given bytes old new) result
       → Answered (Answers its c now bytes old new) result
   vote_answered bandwidths c given now bytes old new (Ok text) is same told =

@@ -1,5 +1,5 @@
 -- An input that has to be answered is not refused.
-use Rattle.std.proofs.Common.{◌≡◌, ◌⊎◌, ℕ, List, Option, ap, subst, refl, arith, Err, inl, inr}
+use Rattle.std.proofs.Common.{◌≡◌, ◌∙◌, ◌⊎◌, ℕ, List, Option, ap, subst, refl, arith, Err, inl, inr}
 use Rattle.dir_bytes.specs.Causes.{Rose}
 use Rattle.daemon_words.specs.declared.command.Command.{Command}
 use Rattle.daemon_words.specs.declared.command.Command.TheVariants as command
@@ -10,7 +10,10 @@ use Rattle.exit_status.specs.declared.status.Status.{Status}
 use Rattle.exit_status.specs.declared.status.Status.TheVariants as status
 use Rattle.document_commands.proofs.NotRefused as document
 use Rattle.compute_command.proofs.NotRefused as votes
-use Rattle.station_command_laws.proofs.NotRefused as station
+use Rattle.station_command_laws.proofs.NotRefused as stations
+use Rattle.station_command_laws.specs.Answerable as station
+use Rattle.station_commands.specs.declared.refusal.MakeVoteRefusal.{MakeVoteRefusal}
+use Rattle.exit_status.specs.Told.{by_compute, by_file_vote, by_make_vote, by_report}
 use Rattle.station_command_laws.proofs.FilesNotRefused as file
 use Rattle.report_command.proofs.NotRefused as report
 use Rattle.authority_daemon.specs.Commands.{Answers, Answerable, May}
@@ -22,22 +25,28 @@ use Rattle.authority_daemon.specs.World.{AnswersWhatItMust, IsRun}
 abbrev IsOfKeys : Refusal → Type 0
 IsOfKeys why = (why ≡ refusal.Verifier) ⊎ (why ≡ refusal.Signer)
 
+-- of a vote
+of_vote : (own : MakeVoteRefusal) (why : Refusal) → why ≡ by_make_vote own → station.IsOfKeys own → IsOfKeys why
+of_vote own why told (inl same) = inl (told ∙ ap by_make_vote same)
+of_vote own why told (inr same) = inr (told ∙ ap by_make_vote same)
+
 -- a line for each command
 pub not_refused : {N : Type 0} (its : May N) (c : Command) (now : ℕ) (bytes : List ℕ) (old new : N) (why : Refusal)
     → Answerable its.rules c now bytes → Answers its c now bytes old new (Err why) → IsOfKeys why
-not_refused its (command.Compute wanted) now bytes old new why can answer =
-    inl (votes.not_refused its.rules wanted bytes why can answer)
-not_refused its (command.Check named) now bytes old new why can answer =
-    absurd (document.check_not_refused named bytes why can answer)
-not_refused its (command.Show named) now bytes old new why can answer =
-    absurd (document.show_not_refused named bytes why can answer)
-not_refused its (command.MakeVote measures.Station) now bytes old new why can answer =
-    station.not_refused its.gives its.steps its.rules now bytes old new why can answer
-not_refused its (command.MakeVote measures.File) now bytes old new why can answer =
-    file.files_not_refused its.gives its.steps its.rules now bytes old new why can answer
+not_refused its (command.Compute wanted) now bytes old new why can (own, told, answer) =
+    inl (told ∙ ap by_compute (votes.not_refused its.rules wanted bytes own can answer))
+not_refused its (command.Check named) now bytes old new why can (own, told, answer) =
+    absurd (document.check_not_refused named bytes own can answer)
+not_refused its (command.Show named) now bytes old new why can (own, told, answer) =
+    absurd (document.show_not_refused named bytes own can answer)
+not_refused its (command.MakeVote measures.Station) now bytes old new why can (own, told, answer) =
+    of_vote own why told (stations.not_refused its.gives its.steps its.rules now bytes old new own can answer)
+not_refused its (command.MakeVote measures.File) now bytes old new why can (own, told, answer) =
+    let keys = file.files_not_refused its.gives its.steps its.rules now bytes old new own can answer in
+    of_vote keys.0 why (told ∙ ap by_file_vote keys.1) keys.2
 not_refused its (command.Rehearse wanted) now bytes old new why can answer = absurd answer
-not_refused its (command.Report wanted) now bytes old new why can answer =
-    inl (report.not_refused its.rules wanted bytes why can answer)
+not_refused its (command.Report wanted) now bytes old new why can (own, told, answer) =
+    inl (told ∙ ap by_report (report.not_refused its.rules wanted bytes own can answer))
 not_refused its (command.Serve wanted) now bytes old new why can answer = absurd can
 
 module _ {S C V N G L : Type 0} (its : May N) (given : Option Command) (old new : Moment S C V N G L) where

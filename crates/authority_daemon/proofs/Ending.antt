@@ -9,8 +9,8 @@ use Rattle.daemon_words.specs.declared.command.Command.{Command}
 use Rattle.daemon_words.specs.declared.command.Command.TheVariants as command
 use Rattle.exit_status.specs.declared.status.Refusal.{Refusal}
 use Rattle.exit_status.specs.declared.status.Status.TheVariants as status
-use Rattle.exit_status.specs.declared.stop.Stop.{Stop}
-use Rattle.exit_status.specs.declared.stop.Stop.TheVariants as stop
+use Rattle.daemon_words.specs.declared.stop.Stop.{Stop}
+use Rattle.daemon_words.specs.declared.stop.Stop.TheVariants as stop
 use Rattle.std.specs.Bool.{OnTrue}
 use Rattle.authority_daemon.specs.Runs.{Ends, HasEnded, Told, input_limit, input_of, is_gathered, reads_input}
 use Rattle.authority_daemon.specs.Commands.{May}
@@ -18,7 +18,7 @@ use Rattle.authority_daemon.specs.Inside.{IsAnswer}
 use Rattle.authority_daemon.specs.Moments.{Moment, TellsFaults, TellsFaultsOr}
 
 -- a refusal, as what a command returns
-abbrev as_stop : Refusal → Result (Vec ℕ) Stop
+abbrev as_stop : Refusal → Result (Vec ℕ) (Stop Refusal)
 as_stop why = Err (stop.Refused why)
 
 -- the command answered this to the input
@@ -87,9 +87,9 @@ tells_refusal before now why other tells = record {
 
 -- what a call says that stopped so
 pub as_refused : {S C V N G L : Type 0} (its : May N) (c : Command) (bytes : List ℕ) (old new : Moment S C V N G L)
-    (given : Stop) (why : Refusal)
+    (given : Stop Refusal) (why : Refusal)
     → given ≡ stop.Refused why → IsAnswer its c bytes old new (Err given) → IsAnswer its c bytes old new (as_stop why)
-as_refused its c bytes old new given why is told = subst (λ (s : Stop). IsAnswer its c bytes old new (Err s)) is told
+as_refused its c bytes old new given why is told = subst (λ (s : Stop Refusal). IsAnswer its c bytes old new (Err s)) is told
 
 -- its text was written whole
 pub done : (answers : Command → List ℕ → Result (List ℕ) Refusal → Type 0) (given : Option Command)

@@ -1,3 +1,4 @@
+pub mod Refusals
 pub mod Completeness
 pub mod Ending
 pub mod Asking

@@ -6,15 +6,17 @@ use Rattle.daemon_words.specs.declared.command.Command.{Command}
 use Rattle.daemon_words.specs.declared.command.Command.TheVariants as command
 use Rattle.daemon_words.specs.declared.command.Measures.{Measures}
 use Rattle.daemon_words.specs.declared.command.Measures.TheVariants as measures
+use Rattle.daemon_words.specs.Stops.{AnsweredAs}
+use Rattle.exit_status.specs.Told.{by_compute, by_file_vote, by_make_vote, by_report, by_subject}
 use Rattle.exit_status.specs.declared.status.Refusal.{Refusal}
-use Rattle.exit_status.specs.declared.stop.Stop.{Stop}
+use Rattle.exit_status.specs.declared.status.Refusal.TheVariants as refusal
 use Rattle.document_commands.specs.Answers.{CheckAnswers, IsSubject, ShowAnswers}
 use Rattle.compute_command.specs.Answers.{CanCompute, ComputeAnswers}
-use Rattle.station_commands.specs.Voting.{IsOfStation, MakeVoteAnswers}
+use Rattle.station_commands.specs.Voting.{IsBeforeDescriptors, MakeVoteAnswers}
 use Rattle.bandwidth_commands.specs.WithFile.{FileVoteAnswers}
 use Rattle.station_command_laws.specs.Answerable.{CanMakeVote, CanMakeVoteWithFile}
-use Rattle.report_command.specs.Answers as report
 use Rattle.report_command.specs.Answers.{CanReport, ReportAnswers}
+use Rattle.report_command.specs.declared.refusal.NoReport.TheVariants as report
 use Rattle.vote_rehearsal.specs.Summaries.{summary_of}
 use Rattle.daemon_words.specs.declared.rehearsal.Rehearse.{Rehearse}
 
@@ -36,19 +38,21 @@ RehearseAnswers wanted (Err why) = ⊥
 -- what `make-vote` answers, by where measured bandwidths come from
 abbrev pub MakeVoteBy : {N : Type 0} → May N → Measures → ℕ → List ℕ → N → N → Result (List ℕ) Refusal → Type 0
 MakeVoteBy its measures.Station now bytes old new answer =
-    MakeVoteAnswers its.rules its.gives its.steps now bytes answer old new
+    AnsweredAs by_make_vote (λ own. MakeVoteAnswers its.rules its.gives its.steps now bytes own old new) answer
 MakeVoteBy its measures.File now bytes old new answer =
-    FileVoteAnswers its.rules its.gives its.steps now bytes answer old new
+    AnsweredAs by_file_vote (λ own. FileVoteAnswers its.rules its.gives its.steps now bytes own old new) answer
 
 -- what a command answers to an input, at the moment that the clock gave, and what became of the signer: a line for each
 -- command
 abbrev pub Answers : {N : Type 0} → May N → Command → ℕ → List ℕ → N → N → Result (List ℕ) Refusal → Type 0
-Answers its (command.Compute wanted) now bytes old new answer = ComputeAnswers its.rules wanted bytes answer
-Answers its (command.Check named) now bytes old new answer = CheckAnswers named bytes answer
-Answers its (command.Show named) now bytes old new answer = ShowAnswers named bytes answer
+Answers its (command.Compute wanted) now bytes old new answer =
+    AnsweredAs by_compute (ComputeAnswers its.rules wanted bytes) answer
+Answers its (command.Check named) now bytes old new answer = AnsweredAs by_subject (CheckAnswers named bytes) answer
+Answers its (command.Show named) now bytes old new answer = AnsweredAs by_subject (ShowAnswers named bytes) answer
 Answers its (command.MakeVote bandwidths) now bytes old new answer = MakeVoteBy its bandwidths now bytes old new answer
 Answers its (command.Rehearse wanted) now bytes old new answer = RehearseAnswers wanted answer
-Answers its (command.Report wanted) now bytes old new answer = ReportAnswers its.rules wanted bytes answer
+Answers its (command.Report wanted) now bytes old new answer =
+    AnsweredAs by_report (ReportAnswers its.rules wanted bytes) answer
 Answers its (command.Serve wanted) now bytes old new answer = ⊥
 
 -- whether a command writes a text that it makes of its input: each but `serve`, of which `IsServed` says what it does
@@ -101,16 +105,35 @@ abbrev pub asks_clock_if : Option Command → Bool
 asks_clock_if None = false
 asks_clock_if (Some given) = asks_clock given
 
+-- what `make-vote` refuses before it has a signature verified: what its station is given, and the file in front of it
+abbrev pub IsOfStation : Refusal → Type 0
+IsOfStation (refusal.Station why) = IsBeforeDescriptors why
+IsOfStation (refusal.Bandwidth why) = Unit {0}
+IsOfStation _ = ⊥
+
+-- what `report` refuses before it has one verified: what the documents of its input are
+abbrev pub IsOfDocuments : Refusal → Type 0
+IsOfDocuments (refusal.Document why) = Unit {0}
+IsOfDocuments (refusal.Report (report.Missing place)) = Unit {0}
+IsOfDocuments _ = ⊥
+
 -- What a command refuses before it has a signature verified: a line for each command. With `compute` a vote may be checked
 -- before the fault behind it has come.
-abbrev pub IsEarly : Command → Stop → Type 0
+abbrev pub IsEarly : Command → Refusal → Type 0
 IsEarly (command.Compute wanted) why = ⊥
 IsEarly (command.Check named) why = Unit {0}
 IsEarly (command.Show named) why = Unit {0}
 IsEarly (command.MakeVote bandwidths) why = IsOfStation why
 IsEarly (command.Rehearse wanted) why = Unit {0}
-IsEarly (command.Report wanted) why = report.IsOfDocuments why
+IsEarly (command.Report wanted) why = IsOfDocuments why
 IsEarly (command.Serve wanted) why = ⊥
+
+-- what is refused before the signer is asked
+abbrev pub IsBeforeSigner : Refusal → Type 0
+IsBeforeSigner refusal.Signer = ⊥
+IsBeforeSigner refusal.Gate = ⊥
+IsBeforeSigner refusal.MadeVote = ⊥
+IsBeforeSigner _ = Unit {0}
 
 -- the inputs that a command has to answer with a text at a moment: a line for each command
 abbrev pub Answerable : Rules → Command → ℕ → List ℕ → Type 0

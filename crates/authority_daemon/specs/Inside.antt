@@ -6,18 +6,20 @@ use Rattle.dir_bytes.specs.Causes.{Counts, Rose}
 use Rattle.key_port.specs.Answers.{Rules}
 use Rattle.compute_command.specs.declared.halt.Halt.{Halt}
 use Rattle.compute_command.specs.declared.halt.Halt.TheVariants as halt
-use Rattle.compute_command.specs.Arriving.{ComputesFrom, RefusesForVotes, StopsReading, TellsVerifier}
+use Rattle.compute_command.specs.Arriving.{ComputesFrom, StopsReading, TellsVerifier}
+use Rattle.compute_command.specs.declared.refusal.ComputeRefusal.TheVariants as compute
 use Rattle.daemon_words.specs.declared.command.Command.{Command}
 use Rattle.daemon_words.specs.declared.command.Compute.{Compute}
 use Rattle.exit_status.specs.declared.status.Status.{Status}
 use Rattle.exit_status.specs.declared.status.Status.TheVariants as status
 use Rattle.exit_status.specs.declared.status.Refusal.TheVariants as refusal
-use Rattle.exit_status.specs.declared.stop.Stop.{Stop}
-use Rattle.exit_status.specs.declared.stop.Stop.TheVariants as stop
-use Rattle.exit_status.specs.Stops.{Answered}
-use Rattle.station_commands.specs.Voting.{IsBeforeSigner}
+use Rattle.exit_status.specs.declared.status.Refusal.{Refusal}
+use Rattle.exit_status.specs.Told.{by_compute}
+use Rattle.daemon_words.specs.Stops.{Answered}
+use Rattle.daemon_words.specs.declared.stop.Stop.{Stop}
+use Rattle.daemon_words.specs.declared.stop.Stop.TheVariants as stop
 use Rattle.serve_command.specs.Passed.{Outside}
-use Rattle.authority_daemon.specs.Commands.{Answers, IsEarly, May, asks_clock, signs, verifies}
+use Rattle.authority_daemon.specs.Commands.{Answers, IsBeforeSigner, IsEarly, May, asks_clock, signs, verifies}
 use Rattle.authority_daemon.specs.Moments.{Moment, TellsFaults}
 use Rattle.authority_daemon.specs.Runs.{input_limit}
 
@@ -34,7 +36,7 @@ abbrev pub status_of : Halt → Status
 status_of halt.ReadFault = status.ReadFault
 status_of halt.TooLong = status.TooLong
 status_of (halt.Stops stop.Memory) = status.Memory
-status_of (halt.Stops (stop.Refused why)) = status.Refused why
+status_of (halt.Stops (stop.Refused why)) = status.Refused (by_compute why)
 
 -- What `compute` gives over a source that had these bytes left and then those, and over verifiers of which the first is
 -- asked: by how often the source and that one have failed, before and then.
@@ -42,10 +44,9 @@ pub record IsComputed {V : Type 0} (rules : Rules) (wanted : Compute) (left afte
     (reads reads_then : ℕ) (verifiers verifiers_then : List V) (faults faults_then : ℕ)
     (result : Result (Vec ℕ) Halt) : Type 0 where
   pub answer : ComputesFrom rules wanted left after input_limit result
-  pub kinds : RefusesForVotes result
   pub stops : StopsReading left after (input_limit + 65536) result
   pub source : TellsFaults reads reads_then (result ≡ Err halt.ReadFault)
-  pub cause : result ≡ Err (halt.Stops (stop.Refused refusal.Verifier)) → Rose faults faults_then
+  pub cause : result ≡ Err (halt.Stops (stop.Refused compute.Verifier)) → Rose faults faults_then
   pub told : faults < faults_then → TellsVerifier result
   pub others : drop 1 verifiers_then ≡ drop 1 verifiers
 
@@ -58,23 +59,33 @@ pub record LeavesOthers {S K E C V N G L : Type 0} (old new : Outside S K E C V 
   pub gates : new.gates ≡ old.gates
   pub link : new.link ≡ old.link
 
+-- a call stopped for a refusal of this kind
+abbrev pub OfRefusal : (Refusal → Type 0) → Stop Refusal → Type 0
+OfRefusal Is stop.Memory = ⊥
+OfRefusal Is (stop.Refused why) = Is why
+
+-- A call did not stop because the verifier or the signer failed, which it does not ask.
+pub record AsksNoKeys (result : Result (Vec ℕ) (Stop Refusal)) : Type 0 where
+  pub verifier : result ≡ Err (stop.Refused refusal.Verifier) → ⊥
+  pub signer : result ≡ Err (stop.Refused refusal.Signer) → ⊥
+
 -- there was memory for an answer
-abbrev pub IsAnswered : Result (Vec ℕ) Stop → Type 0
+abbrev pub IsAnswered : Result (Vec ℕ) (Stop Refusal) → Type 0
 IsAnswered (Ok text) = Unit {0}
 IsAnswered (Err (stop.Refused why)) = Unit {0}
 IsAnswered (Err stop.Memory) = ⊥
 
 -- What a command answers to an input, and what it asks of what stands outside.
 pub record IsAnswer {S C V N G L : Type 0} (its : May N) (c : Command) (bytes : List ℕ) (old new : Moment S C V N G L)
-    (result : Result (Vec ℕ) Stop) : Type 0 where
+    (result : Result (Vec ℕ) (Stop Refusal)) : Type 0 where
   pub answer : Answered (Answers its c new.last bytes old.signer new.signer) result
   pub verifier : TellsFaults old.verifier_faults new.verifier_faults (result ≡ Err (stop.Refused refusal.Verifier))
   pub signer : TellsFaults old.signer_faults new.signer_faults (result ≡ Err (stop.Refused refusal.Signer))
   pub others : drop 1 new.verifiers ≡ drop 1 old.verifiers
   pub unasked : verifies c ≡ false → new.verifiers ≡ old.verifiers
-  pub unchecked : IfErr result (λ why. IsEarly c why → new.verifiers ≡ old.verifiers)
+  pub unchecked : IfErr result (λ why. OfRefusal (IsEarly c) why → new.verifiers ≡ old.verifiers)
   pub timed : IsAnswered result → OnTrue (asks_clock c) (Counts old.asks new.asks)
   pub other_clocks : drop 1 new.clocks ≡ drop 1 old.clocks
   pub untimed : asks_clock c ≡ false → new.clocks ≡ old.clocks
   pub unsigned : signs c ≡ false → new.signer ≡ old.signer
-  pub unasked_signer : IfErr result (λ why. IsBeforeSigner why → new.signer ≡ old.signer)
+  pub unasked_signer : IfErr result (λ why. OfRefusal IsBeforeSigner why → new.signer ≡ old.signer)

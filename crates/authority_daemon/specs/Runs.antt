@@ -6,15 +6,13 @@ use Rattle.std.specs.Io.KnownBytes.{Appends, Keeps}
 use Rattle.dir_bytes.specs.Causes.{Counts}
 use Rattle.dir_bytes.specs.Streams.{TakesAtMost}
 use Rattle.key_port.specs.Answers.{Rules}
-use Rattle.station_commands.specs.Voting.{IsBeforeSigner}
-use Rattle.authority_daemon.specs.Commands.{Answerable, IsEarly, asks_clock_if}
+use Rattle.authority_daemon.specs.Commands.{Answerable, IsBeforeSigner, IsEarly, asks_clock_if}
 use Rattle.daemon_words.specs.declared.command.Command.{Command}
 use Rattle.daemon_words.specs.declared.command.Command.TheVariants as command
 use Rattle.exit_status.specs.declared.status.Status.{Status}
 use Rattle.exit_status.specs.declared.status.Status.TheVariants as status
 use Rattle.exit_status.specs.declared.status.Refusal.{Refusal}
 use Rattle.exit_status.specs.declared.status.Refusal.TheVariants as refusal
-use Rattle.exit_status.specs.declared.stop.Stop.TheVariants as stop
 
 -- how many bytes an input may have
 abbrev pub input_limit : ℕ
@@ -116,7 +114,7 @@ abbrev pub IsBeforeChecks : Option Command → Status → Type 0
 IsBeforeChecks given status.BadWords = Unit {0}
 IsBeforeChecks given status.ReadFault = is_gathered_if given ≡ true
 IsBeforeChecks given status.TooLong = is_gathered_if given ≡ true
-IsBeforeChecks (Some given) (status.Refused why) = IsEarly given (stop.Refused why)
+IsBeforeChecks (Some given) (status.Refused why) = IsEarly given why
 IsBeforeChecks given _ = ⊥
 
 -- the words are refused, the input could not be read, or something is refused before the signer is asked
@@ -124,7 +122,7 @@ abbrev pub IsBeforeSigning : Status → Type 0
 IsBeforeSigning status.BadWords = Unit {0}
 IsBeforeSigning status.ReadFault = Unit {0}
 IsBeforeSigning status.TooLong = Unit {0}
-IsBeforeSigning (status.Refused why) = IsBeforeSigner (stop.Refused why)
+IsBeforeSigning (status.Refused why) = IsBeforeSigner why
 IsBeforeSigning _ = ⊥
 
 -- a status that stands before a vote's refusal in the order, or is want of memory, where the votes of the input are checked

@@ -10,13 +10,12 @@ ghost use Rattle.authority_daemon.specs.World.{IsRun};
 use crate::outside::Stands;
 use crate::texts::INPUT_LIMIT;
 use compute_command::{Halt, compute_from};
-use daemon_words::{Command, Compute};
+use daemon_words::{Command, Compute, Stop};
 use dir_bytes::{Clock, Sink, Source, WriteAll, write_all};
-use exit_status::{Status, Stop};
+use exit_status::{Status, by_compute};
 use key_port::{Signer, Verifier};
 use serve_command::Outside;
 use std::alloc::Global;
-use std::thread::Threads;
 
 /// How a run ends whose command stops so.
 fn status_of(why: Halt) -> Status
@@ -26,13 +25,12 @@ fn status_of(why: Halt) -> Status
         Halt::ReadFault => Status::ReadFault,
         Halt::TooLong => Status::TooLong,
         Halt::Stops(Stop::Memory) => Status::Memory,
-        Halt::Stops(Stop::Refused(refusal)) => Status::Refused(refusal),
+        Halt::Stops(Stop::Refused(why)) => Status::Refused(by_compute(why)),
     }
 }
 
 /// What `compute` gives of the input, each vote of which is checked as it ends.
 fn computed<
-    H: Threads,
     S: Source + Drop,
     K: Sink + Drop,
     E: Sink + Drop,
@@ -42,7 +40,6 @@ fn computed<
     G: Drop,
     L: Drop,
 >(
-    rt: &H,
     alloc: Global,
     wanted: &Compute,
     outside: &mut Outside<S, K, E, C, V, N, G, L>,
@@ -56,19 +53,11 @@ fn computed<
     ensures others { LeavesOthers outside.old outside.new }
 {
     let verifier = &mut outside.verifiers[0];
-    compute_from(
-        rt,
-        alloc,
-        wanted,
-        &mut outside.source,
-        INPUT_LIMIT,
-        verifier,
-    )
+    compute_from(alloc, wanted, &mut outside.source, INPUT_LIMIT, verifier)
 }
 
 /// Computes a consensus of the votes that the input is, each of which is checked as it ends.
 pub(crate) fn run_compute<
-    H: Threads,
     S: Source + Drop,
     K: Sink + Drop,
     E: Sink + Drop,
@@ -77,14 +66,14 @@ pub(crate) fn run_compute<
     N: Signer + Drop,
     G: Drop,
     L: Drop,
->(rt: &H, alloc: Global, wanted: &Compute, outside: &mut Outside<S, K, E, C, V, N, G, L>) -> Status
+>(alloc: Global, wanted: &Compute, outside: &mut Outside<S, K, E, C, V, N, G, L>) -> Status
     requires verifiers { 0 < vec_len outside.old.verifiers }
     ensures run { let at = ⟦<Outside<S, K, E, C, V, N, G, L> as Stands<S, C, V, N, G, L>>⟧.at in
         IsRun (may V.may_accept V.may_refuse N.may_give N.steps) (Some (Command.Compute wanted.now))
         (at outside.old) (at outside.new) result }
     ensures quiet { outside.new.errors ≡ outside.old.errors }
 {
-    match computed(rt, alloc, wanted, outside) {
+    match computed(alloc, wanted, outside) {
         Ok(text) => match write_all(&mut outside.sink, &text) {
             WriteAll::Done => Status::Done,
             WriteAll::Failed { .. } => Status::WriteFault,

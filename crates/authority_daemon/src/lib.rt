@@ -5,6 +5,7 @@ mod arriving;
 mod outside;
 mod program;
 mod serving;
+mod telling;
 mod texts;
 
 pub use exit_status::{Refusal, Status};

@@ -82,7 +82,7 @@ fn run_command<
 {
     match command_of(alloc, words) {
         Ok(Some(Command::Serve(wanted))) => run_serving(rt, alloc, &wanted, outside),
-        Ok(Some(Command::Compute(wanted))) => run_compute(rt, alloc, &wanted, outside),
+        Ok(Some(Command::Compute(wanted))) => run_compute(alloc, &wanted, outside),
         Ok(Some(Command::Rehearse(wanted))) => run_rehearsal(alloc, wanted, outside),
         Ok(Some(command)) => run_over(alloc, &command, outside),
         Ok(None) => Status::BadWords,

@@ -9,10 +9,10 @@ ghost use Rattle.authority_daemon.specs.Served.{IsServed};
 use crate::outside::Stands;
 use crate::texts::INPUT_LIMIT;
 use bytes::Bytes;
-use daemon_words::Serve;
+use daemon_words::{Serve, Stop};
 use dir_bytes::{Clock, ReadAllFault, Sink, Source, read_all};
 use dir_http::{Gate, Link};
-use exit_status::{Refusal, Status, Stop};
+use exit_status::{Refusal, Status, by_serve};
 use key_port::{Signer, Verifier};
 use serve_command::{Outside, Served, serve_station};
 use std::alloc::Global;
@@ -61,6 +61,6 @@ pub(crate) fn run_serving<
     match serve_station(rt, alloc, wanted, &input, outside) {
         Ok(served) => status_of(served),
         Err(Stop::Memory) => Status::Memory,
-        Err(Stop::Refused(refusal)) => Status::Refused(refusal),
+        Err(Stop::Refused(why)) => Status::Refused(by_serve(why)),
     }
 }

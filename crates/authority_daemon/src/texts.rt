@@ -1,24 +1,19 @@
 // The commands that write a text, over what stands outside.
-ghost use Rattle.std.specs.Prelude.{◌≡◌, ◌<◌, ◌^◌, Some, Err, IfErr, true, length, vec_len};
-ghost use Rattle.dir_bytes.specs.Causes.{Counts, Rose};
+ghost use Rattle.std.specs.Prelude.{◌≡◌, ◌<◌, ◌^◌, Some, true, length, vec_len};
 ghost use Rattle.daemon_words.specs.Rehearsals.{IsWithinBounds};
-ghost use Rattle.exit_status.specs.Stops.{Answered};
-ghost use Rattle.station_commands.specs.Voting.{IsBeforeSigner, IsOfStation};
-ghost use Rattle.authority_daemon.specs.Commands.{MakeVoteBy, may, writes_text};
+ghost use Rattle.authority_daemon.specs.Commands.{may, writes_text};
 ghost use Rattle.authority_daemon.specs.Inside.{IsAnswer, LeavesStreams};
 ghost use Rattle.authority_daemon.specs.Runs.{is_gathered};
 ghost use Rattle.authority_daemon.specs.World.{IsRun};
 
 use crate::outside::Stands;
-use bandwidth_commands::make_vote_with_file;
+use crate::telling::{check, health, show, vote};
 use bytes::Bytes;
-use daemon_words::{Command, Measures, Rehearse};
+use daemon_words::{Command, Rehearse, Stop};
 use dir_bytes::{Clock, ReadAllFault, Sink, Source, WriteAll, read_all, write_all};
-use document_commands::{check, show};
-use exit_status::{Refusal, Status, Stop};
+use exit_status::{Refusal, Status};
 use key_port::{Signer, Verifier};
 use serve_command::Outside;
-use station_commands::make_vote;
 use std::alloc::Global;
 use vote_rehearsal::rehearse;
 
@@ -102,7 +97,7 @@ fn answer<
     command: &Command,
     bytes: Vec<u8>,
     outside: &mut Outside<S, K, E, C, V, N, G, L>,
-) -> Result<Vec<u8>, Stop>
+) -> Result<Vec<u8>, Stop<Refusal>>
     requires clocks { 0 < vec_len outside.old.clocks }
     requires verifiers { 0 < vec_len outside.old.verifiers }
     requires input { is_gathered command.now ≡ true }
@@ -132,7 +127,7 @@ fn answer_to<
     command: &Command,
     bytes: &Bytes,
     outside: &mut Outside<S, K, E, C, V, N, G, L>,
-) -> Result<Vec<u8>, Stop>
+) -> Result<Vec<u8>, Stop<Refusal>>
     requires clocks { 0 < vec_len outside.old.clocks }
     requires verifiers { 0 < vec_len outside.old.verifiers }
     requires input { is_gathered command.now ≡ true }
@@ -154,36 +149,8 @@ fn answer_to<
             &mut outside.verifiers[0],
             &mut outside.signer,
         ),
-        Command::Report(wanted) => {
-            report_command::report(alloc, wanted, bytes, &mut outside.verifiers[0])
-        }
+        Command::Report(wanted) => { health(alloc, wanted, bytes, &mut outside.verifiers[0]) }
         // The input of the one is not gathered, the next reads none, and the last writes no text.
         Command::Compute(_) | Command::Rehearse(_) | Command::Serve(_) => unreachable!(),
-    }
-}
-
-/// The vote that `make-vote` makes of an input, by where measured bandwidths come from.
-fn vote<C: Clock, V: Verifier, N: Signer>(
-    alloc: Global,
-    bandwidths: Measures,
-    bytes: &Bytes,
-    clock: &mut C,
-    verifier: &mut V,
-    signer: &mut N,
-) -> Result<Vec<u8>, Stop>
-    requires { length bytes.now < 2 ^ 61 }
-    ensures answer { Answered (MakeVoteBy (may V.may_accept V.may_refuse N.may_give N.steps) bandwidths
-        (C.last clock.new) bytes.now signer.old signer.new) result }
-    ensures clock { Counts (C.asks clock.old) (C.asks clock.new) }
-    ensures verifier_fault { result ≡ Err (Stop.Refused Refusal.Verifier) → Rose (V.faults verifier.old) (V.faults verifier.new) }
-    ensures verifier_told { V.faults verifier.old < V.faults verifier.new → result ≡ Err (Stop.Refused Refusal.Verifier) }
-    ensures signer_fault { result ≡ Err (Stop.Refused Refusal.Signer) → Rose (N.faults signer.old) (N.faults signer.new) }
-    ensures signer_told { N.faults signer.old < N.faults signer.new → result ≡ Err (Stop.Refused Refusal.Signer) }
-    ensures unasked { IfErr result (λ why. IsOfStation why → verifier.new ≡ verifier.old) }
-    ensures unsigned { IfErr result (λ why. IsBeforeSigner why → signer.new ≡ signer.old) }
-{
-    match bandwidths {
-        Measures::Station => make_vote(alloc, bytes, clock, verifier, signer),
-        Measures::File => make_vote_with_file(alloc, bytes, clock, verifier, signer),
     }
 }

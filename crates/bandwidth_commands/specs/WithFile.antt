@@ -7,15 +7,21 @@ use Rattle.bandwidth_file.specs.declared.file.BandFile.{BandFile}
 use Rattle.bandwidth_front.specs.Fronts.{IsFront, front_fault}
 use Rattle.frame_terms.specs.declared.fault.ReadRefusal.{ReadRefusal}
 use Rattle.frame_terms.specs.declared.fault.ReadRefusal.TheVariants as read
-use Rattle.exit_status.specs.declared.bandwidth_refusal.BandwidthRefusal.TheVariants as bandwidth
-use Rattle.exit_status.specs.declared.station_refusal.StationRefusal.TheVariants as station
-use Rattle.exit_status.specs.declared.status.Refusal.{Refusal}
-use Rattle.exit_status.specs.declared.status.Refusal.TheVariants as refusal
+use Rattle.frame_terms.specs.declared.fault.FrameFault.{FrameFault}
+use Rattle.daemon_words.specs.Stops.{AnsweredAs}
+use Rattle.daemon_words.specs.declared.stop.Stop.{Stop}
+use Rattle.daemon_words.specs.declared.stop.Stop.TheVariants as stop
 use Rattle.measured_bandwidths.specs.Told.{told_relays}
 use Rattle.station_input.specs.Reading.{station_of}
 use Rattle.station_input.specs.declared.facts.StationFacts.{StationFacts}
 use Rattle.station_commands.specs.Descriptors.{refusal_from}
+use Rattle.station_commands.specs.Voting as station
 use Rattle.station_commands.specs.Voting.{VoteAnswers}
+use Rattle.bandwidth_commands.specs.Told.{by_fault, by_file, by_vote}
+use Rattle.bandwidth_commands.specs.declared.refusal.BandwidthRefusal.{BandwidthRefusal}
+use Rattle.bandwidth_commands.specs.declared.refusal.BandwidthRefusal.TheVariants as bandwidth
+use Rattle.bandwidth_commands.specs.declared.refusal.FileVoteRefusal.{FileVoteRefusal}
+use Rattle.bandwidth_commands.specs.declared.refusal.FileVoteRefusal.TheVariants as refusal
 
 -- ---- the file
 
@@ -33,10 +39,9 @@ pub record BeginsWithOldFile (bytes : List ℕ) (now timestamp : ℕ) : Type 0 w
   pub time : timestamp ≡ file.timestamp
 
 -- why the file is refused: for its first fault, or else since it is too old
-abbrev pub RefusesFile : List ℕ → ℕ → Refusal → Type 0
-RefusesFile bytes now (refusal.Bandwidth (bandwidth.Fault fault)) = front_fault bytes ≡ Some fault
-RefusesFile bytes now (refusal.Bandwidth (bandwidth.Old timestamp)) = BeginsWithOldFile bytes now timestamp
-RefusesFile bytes now _ = ⊥
+abbrev pub RefusesFile : List ℕ → ℕ → BandwidthRefusal → Type 0
+RefusesFile bytes now (bandwidth.Fault fault) = front_fault bytes ≡ Some fault
+RefusesFile bytes now (bandwidth.Old timestamp) = BeginsWithOldFile bytes now timestamp
 
 -- ---- the station
 
@@ -57,29 +62,40 @@ station_behind file start bytes = told_from file start (station_of (drop start b
 -- ---- the command
 
 -- the answer is that the file is refused
-abbrev pub IsOfFile : List ℕ → ℕ → Result (List ℕ) Refusal → Type 0
-IsOfFile bytes now (Err why) = RefusesFile bytes now why
-IsOfFile bytes now (Ok text) = ⊥
+abbrev pub IsOfFile : List ℕ → ℕ → Result (List ℕ) FileVoteRefusal → Type 0
+IsOfFile bytes now answer = (why : BandwidthRefusal) × (answer ≡ Err (by_file why)) × RefusesFile bytes now why
 
--- the answer is that what stands behind the file is not what a station is given
-abbrev pub IsFaultyBehind : BandFile → ℕ → List ℕ → Result (List ℕ) Refusal → Type 0
-IsFaultyBehind file start bytes (Err (refusal.Station (station.Fault fault))) =
-    station_behind file start bytes ≡ Err (read.Frame fault)
-IsFaultyBehind file start bytes _ = ⊥
+-- what stands behind the file is not what a station is given, with this fault
+abbrev pub IsFaultyBehind : BandFile → ℕ → List ℕ → FrameFault → Type 0
+IsFaultyBehind file start bytes fault = station_behind file start bytes ≡ Err (read.Frame fault)
 
 -- what is answered for what stands behind the file: why that is not what a station is given; or else what is answered for
 -- that station, with the bandwidths of the file
 abbrev pub AnswersBehind : {N : Type 0} → Rules → Relation → SignerSteps N → ℕ → BandFile → ℕ → List ℕ
-    → Result (List ℕ) Refusal → N → N → Type 0
+    → Result (List ℕ) FileVoteRefusal → N → N → Type 0
 AnswersBehind rules gives steps now file start bytes answer old new =
-    IsFaultyBehind file start bytes answer
+    ((fault : FrameFault) × (answer ≡ Err (by_fault fault)) × IsFaultyBehind file start bytes fault)
     ⊎ ((given : StationFacts) × (used : ℕ) × (station_behind file start bytes ≡ Ok (given, used))
-    × VoteAnswers rules gives steps now given used bytes answer old new)
+    × AnsweredAs by_vote (λ own. VoteAnswers rules gives steps now given used bytes own old new) answer)
 
 -- what the command answers to an input at a moment: why the file is refused; or else what is answered behind it
 abbrev pub FileVoteAnswers : {N : Type 0} → Rules → Relation → SignerSteps N → ℕ → List ℕ
-    → Result (List ℕ) Refusal → N → N → Type 0
+    → Result (List ℕ) FileVoteRefusal → N → N → Type 0
 FileVoteAnswers rules gives steps now bytes answer old new =
     IsOfFile bytes now answer
     ⊎ ((file : BandFile) × (start : ℕ) × BeginsWithFile bytes now file start
     × AnswersBehind rules gives steps now file start bytes answer old new)
+
+-- ---- what is asked
+
+-- what is refused before a descriptor is checked
+abbrev pub IsOfStation : Stop FileVoteRefusal → Type 0
+IsOfStation stop.Memory = ⊥
+IsOfStation (stop.Refused (refusal.File why)) = Unit {0}
+IsOfStation (stop.Refused (refusal.Vote why)) = station.IsOfStation (stop.Refused why)
+
+-- what is refused before the signer is asked
+abbrev pub IsBeforeSigner : Stop FileVoteRefusal → Type 0
+IsBeforeSigner stop.Memory = ⊥
+IsBeforeSigner (stop.Refused (refusal.File why)) = Unit {0}
+IsBeforeSigner (stop.Refused (refusal.Vote why)) = station.IsBeforeSigner (stop.Refused why)

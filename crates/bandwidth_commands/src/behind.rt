@@ -2,13 +2,12 @@
 ghost use Rattle.std.specs.Prelude.{◌≡◌, ◌≤◌, ◌<◌, ◌^◌, IfOk, length};
 ghost use Rattle.bandwidth_commands.specs.Private as its;
 ghost use Rattle.bandwidth_commands.specs.WithFile.{told_station};
-ghost use Rattle.station_commands.specs.Told.{IsOfNoKeys};
 
 use bandwidth_file::BandFile;
 use bandwidth_front::Front;
+use daemon_words::Stop;
 use dir_bytes::{Memory, Seq};
-use exit_status::{Refusal, StationRefusal, Stop};
-use frame_terms::ReadRefusal;
+use frame_terms::{FrameFault, ReadRefusal};
 use measured_bandwidths::told_by;
 use station_commands::from_place;
 use station_input::{StationFacts, read_station};
@@ -25,11 +24,11 @@ fn told(alloc: Global, mut station: StationFacts, file: &BandFile) -> Result<Sta
 }
 
 /// That what stands in the input from a place on is not what a station is given.
-fn fault_behind(start: usize, refusal: ReadRefusal) -> Stop
+fn fault_behind(start: usize, refusal: ReadRefusal) -> Stop<FrameFault>
     ensures { result ≡ its.fault_behind start refusal }
 {
     match from_place(start, refusal) {
-        ReadRefusal::Frame(fault) => Stop::Refused(Refusal::Station(StationRefusal::Fault(fault))),
+        ReadRefusal::Frame(fault) => Stop::Refused(fault),
         ReadRefusal::Memory => Stop::Memory,
     }
 }
@@ -37,16 +36,15 @@ fn fault_behind(start: usize, refusal: ReadRefusal) -> Stop
 /// What a station is given behind a bandwidth file, which tells the bandwidths of its relays, and the place behind it.
 ///
 /// # Errors
-/// `Refused` by `Station`: the first fault of what stands there, with its place in the input. `Memory` is want of memory.
+/// `Refused` is the first fault of what stands there, with its place in the input. `Memory` is want of memory.
 pub fn station_behind(
     alloc: Global,
     bytes: &[u8],
     front: &Front,
-) -> Result<(StationFacts, usize), Stop>
+) -> Result<(StationFacts, usize), Stop<FrameFault>>
     requires short { length bytes.now < 2 ^ 61 }
     requires within { front.now.used ≤ length bytes.now }
-    ensures gives { its.GivesStationBehind front.now.file front.now.used bytes.now result }
-    ensures others { IsOfNoKeys result }
+    ensures { its.GivesStationBehind front.now.file front.now.used bytes.now result }
 {
     relays_are_named_once();
     match read_station(alloc, &bytes[front.used..]) {

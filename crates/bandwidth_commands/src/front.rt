@@ -1,38 +1,45 @@
 // The bandwidth file in front of an input.
 ghost use Rattle.std.specs.Prelude.{◌≡◌};
 ghost use Rattle.bandwidth_commands.specs.Private as its;
-ghost use Rattle.station_commands.specs.Told.{IsOfNoKeys};
 
+use crate::refusal::BandwidthRefusal;
+use bandwidth_file::{BandFault, BandRefusal};
 use bandwidth_front::{Front, read_front};
-use exit_status::{BandwidthRefusal, Refusal, Stop, of_file};
+use daemon_words::Stop;
 use std::alloc::Global;
 
 /// The bandwidth file that an input begins with.
-fn front_in(alloc: Global, bytes: &[u8]) -> Result<Front, Stop>
-    ensures gives { its.GivesFront bytes.now result }
-    ensures others { IsOfNoKeys result }
+///
+/// # Errors
+/// `Refused` is its first fault. `Memory` is want of memory.
+fn front_in(alloc: Global, bytes: &[u8]) -> Result<Front, Stop<BandFault>>
+    ensures { its.GivesFront bytes.now result }
 {
-    of_file(read_front(alloc, bytes))
+    match read_front(alloc, bytes) {
+        Ok(front) => Ok(front),
+        Err(BandRefusal::Fault { place, reason }) => Err(Stop::Refused(BandFault {
+            place,
+            reason,
+        })),
+        Err(BandRefusal::Memory) => Err(Stop::Memory),
+    }
 }
 
 /// The same, where it is not too old to be voted on at the moment `now`.
 ///
 /// # Errors
-/// `Refused` by `Bandwidth`: the file's first fault, or else that it is too old. `Memory` is want of memory.
-pub fn file_of(alloc: Global, bytes: &[u8], now: u64) -> Result<Front, Stop>
-    ensures gives { its.GivesFile bytes.now now result }
-    ensures others { IsOfNoKeys result }
+/// `Refused` is the file's first fault, or else that it is too old. `Memory` is want of memory.
+pub fn file_of(alloc: Global, bytes: &[u8], now: u64) -> Result<Front, Stop<BandwidthRefusal>>
+    ensures { its.GivesFile bytes.now now result }
 {
-    let front = front_in(alloc, bytes)?;
+    let front = match front_in(alloc, bytes) {
+        Ok(front) => front,
+        Err(Stop::Refused(fault)) => return Err(Stop::Refused(BandwidthRefusal::Fault(fault))),
+        Err(Stop::Memory) => return Err(Stop::Memory),
+    };
     if front.file.is_old(now) {
-        return Err(too_old(front.file.timestamp));
+        let timestamp = front.file.timestamp;
+        return Err(Stop::Refused(BandwidthRefusal::Old { timestamp }));
     }
     Ok(front)
-}
-
-/// That the file with this time of measuring is too old.
-fn too_old(timestamp: u64) -> Stop
-    ensures { result ≡ its.too_old timestamp }
-{
-    Stop::Refused(Refusal::Bandwidth(BandwidthRefusal::Old { timestamp }))
 }

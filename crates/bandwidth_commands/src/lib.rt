@@ -4,7 +4,10 @@
 mod behind;
 mod front;
 mod making;
+mod refusal;
+mod told;
 
 pub use behind::station_behind;
 pub use front::file_of;
 pub use making::make_vote_with_file;
+pub use refusal::{BandwidthRefusal, FileVoteRefusal};

@@ -2,17 +2,18 @@
 ghost use Rattle.std.specs.Prelude.{◌≡◌, ◌<◌, ◌^◌, Err, IfErr, length};
 ghost use Rattle.dir_bytes.specs.Causes.{Counts, Rose};
 ghost use Rattle.key_port.specs.Answers.{rules};
-ghost use Rattle.exit_status.specs.Stops.{Answered};
-ghost use Rattle.station_commands.specs.Voting.{IsBeforeSigner, IsOfStation};
-ghost use Rattle.bandwidth_commands.specs.WithFile.{FileVoteAnswers};
+ghost use Rattle.daemon_words.specs.Stops.{Answered};
+ghost use Rattle.bandwidth_commands.specs.WithFile.{FileVoteAnswers, IsBeforeSigner, IsOfStation};
 
 use crate::behind::station_behind;
 use crate::front::file_of;
+use crate::refusal::FileVoteRefusal;
+use crate::told::{of_fault, of_file, of_vote};
 use bytes::Bytes;
+use daemon_words::Stop;
 use dir_bytes::Clock;
-use exit_status::{Refusal, Stop};
 use key_port::{Signer, Verifier};
-use station_commands::vote_from;
+use station_commands::{MakeVoteRefusal, vote_from};
 use std::alloc::Global;
 
 /// The signed vote of the station that is given behind the bandwidth file with which the input begins, as `make_vote` makes it, but
@@ -27,19 +28,28 @@ pub fn make_vote_with_file<C: Clock, V: Verifier, N: Signer>(
     clock: &mut C,
     verifier: &mut V,
     signer: &mut N,
-) -> Result<Vec<u8>, Stop>
+) -> Result<Vec<u8>, Stop<FileVoteRefusal>>
     requires { length bytes.now < 2 ^ 61 }
     ensures answer { Answered (λ answer. FileVoteAnswers (rules V.may_accept V.may_refuse) N.may_give N.steps (C.last clock.new) bytes.now answer signer.old signer.new) result }
     ensures clock { Counts (C.asks clock.old) (C.asks clock.new) }
-    ensures verifier_fault { result ≡ Err (Stop.Refused Refusal.Verifier) → Rose (V.faults verifier.old) (V.faults verifier.new) }
-    ensures verifier_told { V.faults verifier.old < V.faults verifier.new → result ≡ Err (Stop.Refused Refusal.Verifier) }
-    ensures signer_fault { result ≡ Err (Stop.Refused Refusal.Signer) → Rose (N.faults signer.old) (N.faults signer.new) }
-    ensures signer_told { N.faults signer.old < N.faults signer.new → result ≡ Err (Stop.Refused Refusal.Signer) }
+    ensures verifier_fault { result ≡ Err (Stop.Refused (FileVoteRefusal.Vote MakeVoteRefusal.Verifier)) → Rose (V.faults verifier.old) (V.faults verifier.new) }
+    ensures verifier_told { V.faults verifier.old < V.faults verifier.new → result ≡ Err (Stop.Refused (FileVoteRefusal.Vote MakeVoteRefusal.Verifier)) }
+    ensures signer_fault { result ≡ Err (Stop.Refused (FileVoteRefusal.Vote MakeVoteRefusal.Signer)) → Rose (N.faults signer.old) (N.faults signer.new) }
+    ensures signer_told { N.faults signer.old < N.faults signer.new → result ≡ Err (Stop.Refused (FileVoteRefusal.Vote MakeVoteRefusal.Signer)) }
     ensures unasked { IfErr result (λ why. IsOfStation why → verifier.new ≡ verifier.old) }
     ensures unsigned { IfErr result (λ why. IsBeforeSigner why → signer.new ≡ signer.old) }
 {
     let now = clock.now();
-    let front = file_of(alloc, bytes, now)?;
-    let (station, used) = station_behind(alloc, bytes, &front)?;
-    vote_from(alloc, bytes, &station, used, now, verifier, signer)
+    let front = match file_of(alloc, bytes, now) {
+        Ok(front) => front,
+        Err(why) => return Err(of_file(why)),
+    };
+    let (station, used) = match station_behind(alloc, bytes, &front) {
+        Ok((station, used)) => (station, used),
+        Err(why) => return Err(of_fault(why)),
+    };
+    match vote_from(alloc, bytes, &station, used, now, verifier, signer) {
+        Ok(text) => Ok(text),
+        Err(why) => Err(of_vote(why)),
+    }
 }

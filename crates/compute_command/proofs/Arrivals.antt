@@ -13,11 +13,12 @@ use Rattle.vote_terms.specs.Votes.{ReadVote}
 use Rattle.vote_doc.specs.Holdings.{Holding}
 use Rattle.daemon_words.specs.declared.command.Compute.{Compute}
 use Rattle.daemon_words.specs.declared.command.Kind.TheVariants.{Vote}
-use Rattle.exit_status.specs.declared.status.Refusal.{Refusal}
-use Rattle.exit_status.specs.declared.status.Refusal.TheVariants as refusal
-use Rattle.exit_status.specs.declared.stop.Stop.{Stop}
-use Rattle.exit_status.specs.declared.stop.Stop.TheVariants as stop
-use Rattle.moved_documents.specs.Moving.{moved_fault}
+use Rattle.daemon_words.specs.declared.stop.Stop.{Stop}
+use Rattle.daemon_words.specs.declared.stop.Stop.TheVariants as stop
+use Rattle.compute_command.specs.declared.refusal.AcceptRefusal.{AcceptRefusal}
+use Rattle.compute_command.specs.declared.refusal.EndRefusal.{EndRefusal}
+use Rattle.compute_command.specs.declared.refusal.EndRefusal.TheVariants as end
+use Rattle.vote_doc.specs.Behind.{fault_behind}
 use Rattle.compute_command.specs.declared.arriving.Arriving.{Arriving}
 use Rattle.compute_command.specs.declared.checking.Checking.{Checking}
 use Rattle.compute_command.specs.declared.rest.Turn.{Turn}
@@ -220,26 +221,21 @@ module _ (rules : Rules) (wanted : Compute) where
 
   -- ---- the end
 
-  stops_checked : (votes : List ReadVote) (kept : Holding) (why : Refusal) (bytes : List ℕ) → votes_of bytes ≡ Ok votes
-      → StopsAt rules wanted votes (stop.Refused why) → EndsSo rules wanted bytes (Err (stop.Refused why))
-  stops_checked votes kept (refusal.Votes why) bytes read is = (votes, read, is)
-  stops_checked votes kept refusal.Verifier bytes read is = (votes, read, is)
-  stops_checked votes kept (refusal.Document why) bytes read is = absurd is
-  stops_checked votes kept (refusal.Station why) bytes read is = absurd is
-  stops_checked votes kept (refusal.Report why) bytes read is = absurd is
-  stops_checked votes kept (refusal.Bandwidth why) bytes read is = absurd is
-  stops_checked votes kept refusal.Signer bytes read is = absurd is
-  stops_checked votes kept refusal.Gate bytes read is = absurd is
+  -- the held votes, or why there are none, as they end
+  abbrev Held : Result Holding AcceptRefusal → Result Holding (Stop EndRefusal)
+  Held (Ok kept) = Ok kept
+  Held (Err why) = Err (stop.Refused (end.Votes why))
 
-  checked_ends : (votes : List ReadVote) (kept : Holding) (first : Option Refusal) (bytes : List ℕ) → votes_of bytes ≡ Ok votes
-      → CheckedSo rules wanted votes kept.votes first → EndsSo rules wanted bytes (end_by kept first)
+  checked_ends : (votes : List ReadVote) (kept : Holding) (first : Option AcceptRefusal) (bytes : List ℕ)
+      → votes_of bytes ≡ Ok votes → CheckedSo rules wanted votes kept.votes first
+      → EndsSo rules wanted bytes (Held (end_by kept first))
   checked_ends votes kept None bytes read is = (votes, read, is.0, is.1)
-  checked_ends votes kept (Some why) bytes read is = stops_checked votes kept why bytes read is
+  checked_ends votes kept (Some why) bytes read is = (votes, read, is)
 
   -- the input is votes
   pub ends_checked : (bytes : List ℕ) (old : Arriving) (is : IsArriving rules wanted bytes old) → length bytes < 2 ^ 61
       → AnswersEnd old.start (room_behind is.votes) is.behind None
-      → EndsSo rules wanted bytes (end_by old.votes.kept old.votes.first)
+      → EndsSo rules wanted bytes (Held (end_by old.votes.kept old.votes.first))
   ends_checked bytes old is short ends =
       let read : votes_of bytes ≡ Ok is.votes =
       ap votes_of is.are
@@ -249,14 +245,14 @@ module _ (rules : Rules) (wanted : Compute) where
   -- it has a fault
   pub ends_refused : (bytes : List ℕ) (old : Arriving) (fault : FrameFault) (is : IsArriving rules wanted bytes old)
       → length bytes < 2 ^ 61 → AnswersEnd old.start (room_behind is.votes) is.behind (Some fault)
-      → EndsSo rules wanted bytes (Err (stop.Refused (refusal.Document (record { kind = Vote; fault = fault }))))
+      → EndsSo rules wanted bytes (Err (stop.Refused (end.Fault fault)))
   ends_refused bytes old fault is short (own, same, ends) =
       let short_ = subst (λ (l : List ℕ). length l < 2 ^ 61) is.are short in
-      let read : votes_of bytes ≡ Err (Frame (moved_fault (length is.front) own)) =
+      let read : votes_of bytes ≡ Err (Frame (fault_behind (length is.front) own)) =
       ap votes_of is.are ∙ then_fault is.front is.votes is.reads is.behind own short_ ends in
-      let there : moved_fault (length is.front) own ≡ fault =
-      ap (λ (k : ℕ). moved_fault k own) (sym is.start) ∙ sym same in
-      (refl, read ∙ ap (λ (f : FrameFault). Err (Frame f)) there)
+      let there : fault_behind (length is.front) own ≡ fault =
+      ap (λ (k : ℕ). fault_behind k own) (sym is.start) ∙ sym same in
+      read ∙ ap (λ (f : FrameFault). Err (Frame f)) there
 
   -- ---- what is answered there
 
@@ -274,14 +270,22 @@ module _ (rules : Rules) (wanted : Compute) where
         ends (room_behind is.votes) is.behind is.rest (omega (arith, behind_))
 
     pub end_refused : (fault : FrameFault) → told ≡ Some fault
-        → EndsSo rules wanted bytes (Err (stop.Refused (refusal.Document (record { kind = Vote; fault = fault }))))
+        → EndsSo rules wanted bytes (Err (stop.Refused (end.Fault fault)))
     end_refused fault some =
         ends_refused bytes old fault is (omega (arith, short))
         (subst (λ (o : Option FrameFault). AnswersEnd old.start (room_behind is.votes) is.behind o) some there)
 
-    pub end_checked : (result : Result Holding Stop) → told ≡ None → result ≡ end_by old.votes.kept old.votes.first
-        → EndsSo rules wanted bytes result
+    end_checked : (result : Result Holding AcceptRefusal) → told ≡ None → result ≡ end_by old.votes.kept old.votes.first
+        → EndsSo rules wanted bytes (Held result)
     end_checked result none same =
-        subst (λ (r : Result Holding Stop). EndsSo rules wanted bytes r) (sym same)
+        subst (λ (r : Result Holding AcceptRefusal). EndsSo rules wanted bytes (Held r)) (sym same)
         (ends_checked bytes old is (omega (arith, short))
         (subst (λ (o : Option FrameFault). AnswersEnd old.start (room_behind is.votes) is.behind o) none there))
+
+    pub end_held : (kept : Holding) → told ≡ None → Ok kept ≡ end_by old.votes.kept old.votes.first
+        → EndsSo rules wanted bytes (Ok kept)
+    end_held kept none same = end_checked (Ok kept) none same
+
+    pub end_not_held : (why : AcceptRefusal) → told ≡ None → Err why ≡ end_by old.votes.kept old.votes.first
+        → EndsSo rules wanted bytes (Err (stop.Refused (end.Votes why)))
+    end_not_held why none same = end_checked (Err why) none same

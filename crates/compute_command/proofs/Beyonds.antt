@@ -5,7 +5,7 @@ use Rattle.std.proofs.Common.{◌<◌, ◌≤◌, ◌^◌, append-nil, length-ap
 use Rattle.std.specs.Option.{option_map}
 use Rattle.std.specs.Prelude.{IfSome, unwrap_or}
 use Rattle.item_terms.specs.Items as model
-use Rattle.item_terms.specs.Items.{Contents, also, contents, failed, nothing}
+use Rattle.item_terms.specs.Items.{Contents, contents, nothing}
 use Rattle.item_terms.specs.declared.fault.DocFault.{DocFault}
 use Rattle.item_feeder.proofs.FaultPlaces.{fault_within}
 use Rattle.dirdoc_grammar.specs.declared.cursor.Cursor.{Cursor}
@@ -23,11 +23,11 @@ use Rattle.frame_terms.specs.declared.fault.FrameReason.TheVariants.{TooMany}
 use Rattle.frame_terms.specs.declared.row.Limit.TheVariants.{Votes}
 use Rattle.frame_terms.specs.declared.fault.ReadRefusal.{ReadRefusal}
 use Rattle.frame_terms.specs.declared.fault.ReadRefusal.TheVariants.{Frame}
-use Rattle.moved_documents.specs.Moving.{moved_fault}
+use Rattle.vote_doc.specs.Behind.{fault_behind}
 use Rattle.vote_frame.specs.Tables.{vote_tables}
 use Rattle.compute_command.specs.Beyonds.{EndsBeyond, HasTooMany, ReadsFront, fault_of}
 use Rattle.compute_command.specs.Furthers.{IsFurther}
-use Rattle.compute_command.specs.Votes.{by_first, item_too_many, no_limit, one_more}
+use Rattle.compute_command.specs.Votes.{by_first, item_too_many, no_limit, one_more_of}
 
 -- why there is one more, by what the bytes hold
 abbrev by_contents : Contents → Option ReadRefusal
@@ -35,7 +35,7 @@ by_contents held = by_first held.items held.fault
 
 -- a reader at the first byte sees what an input holds that goes on so
 sees : (bytes more : List ℕ) (cursor : Cursor) (finished_ : Bool) → ReadsFront bytes cursor
-    → one_more 0 (bytes ++ more) ≡ by_contents (left_with (fed_by cursor bytes finished_) more)
+    → one_more_of (bytes ++ more) ≡ by_contents (left_with (fed_by cursor bytes finished_) more)
 sees bytes more cursor finished_ is =
     ap (λ (k : ℕ). by_contents (contents k 0 nothing (bytes ++ more))) (sym is.limit)
     ∙ ap (λ (k : ℕ). by_contents (contents cursor.limit k nothing (drop k bytes ++ more))) (sym is.place)
@@ -59,30 +59,30 @@ too_many bytes cursor new taken.End own is takes known more = absurd (cc known)
 
 pub always : (start : ℕ) (bytes : List ℕ) (cursor new : Cursor) (given : Take) (told : Option FrameFault)
     → ReadsFront bytes cursor → Takes (fed_by cursor bytes false) given (fed_by new bytes false)
-    → told ≡ option_map (moved_fault start) (fault_of given)
+    → told ≡ option_map (fault_behind start) (fault_of given)
     → IfSome told (λ fault. IsFurther start (λ own. HasTooMany bytes own) fault)
 always start bytes cursor new given told is takes same =
     subst (λ (o : Option FrameFault). IfSome o (λ fault. IsFurther start (λ own. HasTooMany bytes own) fault)) (sym same)
     (by (fault_of given) refl)
   where
     by : (known : Option FrameFault) → fault_of given ≡ known
-        → IfSome (option_map (moved_fault start) known) (λ fault. IsFurther start (λ own. HasTooMany bytes own) fault)
+        → IfSome (option_map (fault_behind start) known) (λ fault. IsFurther start (λ own. HasTooMany bytes own) fault)
     by None e = tt
     by (Some own) e = (own, refl, too_many bytes cursor new given own is takes e)
 
 -- what it gives where none follows is so of these bytes
 alone : (bytes : List ℕ) (cursor new : Cursor) (given : Take) → ReadsFront bytes cursor
     → Takes (fed_by cursor bytes true) given (fed_by new bytes true)
-    → option_map (λ f. Frame f) (fault_of given) ≡ one_more 0 bytes
+    → option_map (λ f. Frame f) (fault_of given) ≡ one_more_of bytes
 alone bytes cursor new given is takes = by given takes
   where
-    seen_alone : one_more 0 bytes ≡ by_contents (left_with (fed_by cursor bytes true) [])
+    seen_alone : one_more_of bytes ≡ by_contents (left_with (fed_by cursor bytes true) [])
     seen_alone =
-        sym (ap (λ (l : List ℕ). one_more 0 l) (append-nil bytes))
+        sym (ap (λ (l : List ℕ). one_more_of l) (append-nil bytes))
         ∙ sees bytes [] cursor true is
 
     by : (given : Take) → Takes (fed_by cursor bytes true) given (fed_by new bytes true)
-        → option_map (λ f. Frame f) (fault_of given) ≡ one_more 0 bytes
+        → option_map (λ f. Frame f) (fault_of given) ≡ one_more_of bytes
     by (taken.Item item) takes = sym (seen_alone ∙ ap (λ (c : Contents). by_contents c) (takes.0 [] refl))
     by (taken.Fault fault) takes = sym (seen_alone ∙ ap (λ (c : Contents). by_contents c) (takes.0 [] refl))
     by taken.NotYet takes = absurd (cc (takes.0))
@@ -90,13 +90,13 @@ alone bytes cursor new given is takes = by given takes
 
 pub finished : (start : ℕ) (bytes : List ℕ) (cursor new : Cursor) (given : Take) (told : Option FrameFault)
     → ReadsFront bytes cursor → Takes (fed_by cursor bytes true) given (fed_by new bytes true)
-    → told ≡ option_map (moved_fault start) (fault_of given) → EndsBeyond start bytes told
+    → told ≡ option_map (fault_behind start) (fault_of given) → EndsBeyond start bytes told
 finished start bytes cursor new given told is takes same =
     subst (λ (o : Option FrameFault). EndsBeyond start bytes o) (sym same)
     (by (fault_of given) (alone bytes cursor new given is takes))
   where
-    by : (known : Option FrameFault) → option_map (λ f. Frame f) known ≡ one_more 0 bytes
-        → EndsBeyond start bytes (option_map (moved_fault start) known)
+    by : (known : Option FrameFault) → option_map (λ f. Frame f) known ≡ one_more_of bytes
+        → EndsBeyond start bytes (option_map (fault_behind start) known)
     by None e = sym e
     by (Some own) e = (own, refl, sym e)
 

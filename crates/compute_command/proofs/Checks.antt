@@ -23,10 +23,9 @@ use Rattle.vote_doc.specs.declared.check.VoteRefusal.TheVariants.{WrongPeriod, U
 use Rattle.vote_doc.specs.declared.check.VoteRefusal.TheVariants.{VerifierFault}
 use Rattle.vote_doc.proofs.Placing as placing
 use Rattle.daemon_words.specs.declared.command.Compute.{Compute}
-use Rattle.exit_status.specs.declared.status.Refusal.{Refusal}
-use Rattle.exit_status.specs.declared.status.Refusal.TheVariants as refusal
-use Rattle.exit_status.specs.declared.stop.Stop.TheVariants as stop
-use Rattle.exit_status.specs.declared.vote_refusal.VoteListRefusal.TheVariants as list
+use Rattle.daemon_words.specs.declared.stop.Stop.TheVariants as stop
+use Rattle.compute_command.specs.declared.refusal.AcceptRefusal.{AcceptRefusal}
+use Rattle.compute_command.specs.declared.refusal.AcceptRefusal.TheVariants as refusal
 use Rattle.compute_command.specs.declared.checking.Checking.{Checking}
 use Rattle.compute_command.specs.Accepting.{StopsAt, refusal_of}
 use Rattle.compute_command.specs.Checked.{CheckedSo, IsChecked, TellsFirst}
@@ -70,31 +69,24 @@ module _ (rules : Rules) (roster : List Fingerprint) (period : ℕ) (votes more 
   }
 
 -- why checking votes stops is why it stops where more come
-pub stops_more : (rules : Rules) (wanted : Compute) (votes more : List ReadVote) (why : Refusal)
+pub stops_more : (rules : Rules) (wanted : Compute) (votes more : List ReadVote) (why : AcceptRefusal)
     → StopsAt rules wanted votes (stop.Refused why) → StopsAt rules wanted (votes ++ more) (stop.Refused why)
-stops_more rules wanted votes more (refusal.Votes (list.Vote number word)) is =
+stops_more rules wanted votes more (refusal.Vote number word) is =
     refused_more rules wanted.roster wanted.valid_after votes more number word is
-stops_more rules wanted votes more (refusal.Votes (list.TooFew count roster)) is = absurd is
 stops_more rules wanted votes more refusal.Verifier is =
     asked_more rules wanted.roster wanted.valid_after votes more is
-stops_more rules wanted votes more (refusal.Document why) is = absurd is
-stops_more rules wanted votes more (refusal.Station why) is = absurd is
-stops_more rules wanted votes more (refusal.Report why) is = absurd is
-stops_more rules wanted votes more (refusal.Bandwidth why) is = absurd is
-stops_more rules wanted votes more refusal.Signer is = absurd is
-stops_more rules wanted votes more refusal.Gate is = absurd is
 
 -- ---- the verifier's count
 
 -- where it failed at the first vote that is refused
-tells_some : (before old new : ℕ) (why : Refusal) → old ≤ new → (why ≡ refusal.Verifier → Rose old new)
+tells_some : (before old new : ℕ) (why : AcceptRefusal) → old ≤ new → (why ≡ refusal.Verifier → Rose old new)
     → (old < new → why ≡ refusal.Verifier) → TellsFirst before old None → TellsFirst before new (Some why)
 tells_some before old new why more cause told is =
     let still : old ≡ before = ⊎_elim (λ lt. absurd (none_is (is.told lt))) (λ le. omega (arith, le, is.more)) (cases_lt before old) in
     record {
       more = omega (arith, more, is.more);
       cause = λ e. subst (λ (k : ℕ). Rose k new) still (cause (cc e));
-      told = λ lt. ap (λ (w : Refusal). Some w) (told (omega (arith, lt, still)));
+      told = λ lt. ap (λ (w : AcceptRefusal). Some w) (told (omega (arith, lt, still)));
     }
   where
     none_is : None ≡ Some refusal.Verifier → ⊥
@@ -116,22 +108,22 @@ verifier_is rules roster period vote number VerifierFault by is = refl
 
 -- where a vote is the first that is refused
 pub tells_refused : (rules : Rules) (wanted : Compute) (vote : ReadVote) (number before old new : ℕ) (why : VoteRefusal)
-    (told : Refusal) (first : Option Refusal) → told ≡ refusal_of number why → first ≡ None
+    (told : AcceptRefusal) (first : Option AcceptRefusal) → told ≡ refusal_of number why → first ≡ None
     → RefusedBy rules wanted.roster wanted.valid_after vote why → old ≤ new → (why ≡ VerifierFault → Rose old new)
     → (old < new → why ≡ VerifierFault) → TellsFirst before old first → TellsFirst before new (Some told)
 tells_refused rules wanted vote number before old new why told first same none by more cause tells is =
-    subst (λ (r : Refusal). TellsFirst before new (Some r)) (sym same)
+    subst (λ (r : AcceptRefusal). TellsFirst before new (Some r)) (sym same)
     (tells_some before old new (refusal_of number why) more
     (λ e. cause (verifier_is rules wanted.roster wanted.valid_after vote number why by e))
     (λ lt. ap (refusal_of number) (tells lt))
-    (subst (λ (o : Option Refusal). TellsFirst before old o) none is))
+    (subst (λ (o : Option AcceptRefusal). TellsFirst before old o) none is))
 
 -- where it is acceptable
-pub tells_on : (before old new : ℕ) (first : Option Refusal) → new ≡ old → TellsFirst before old first
+pub tells_on : (before old new : ℕ) (first : Option AcceptRefusal) → new ≡ old → TellsFirst before old first
     → TellsFirst before new first
 tells_on before old new first same is = subst (λ (k : ℕ). TellsFirst before k first) (sym same) is
 
-pub none_if : (o : Option Refusal) → is_some o ≡ false → o ≡ None
+pub none_if : (o : Option AcceptRefusal) → is_some o ≡ false → o ≡ None
 none_if None is = refl
 none_if (Some why) is = absurd (cc is)
 
@@ -166,24 +158,24 @@ module _ (rules : Rules) (wanted : Compute) (votes : List ReadVote) (vote : Read
       omega (arith, same, is.room.fits, is.count)
 
   -- one before it is refused
-  refused_before : (why : Refusal) → old.first ≡ Some why → new.first ≡ old.first → new.kept ≡ old.kept
+  refused_before : (why : AcceptRefusal) → old.first ≡ Some why → new.first ≡ old.first → new.kept ≡ old.kept
       → IsChecked rules wanted more new
   refused_before why first same kept =
       with_first (same_room kept) (same_fits kept)
-      (subst (λ (o : Option Refusal). CheckedSo rules wanted more new.kept.votes o) (sym (same ∙ first))
+      (subst (λ (o : Option AcceptRefusal). CheckedSo rules wanted more new.kept.votes o) (sym (same ∙ first))
       (stops_more rules wanted votes (vote ∷ []) why
-      (subst (λ (o : Option Refusal). CheckedSo rules wanted votes old.kept.votes o) first is.checked)))
+      (subst (λ (o : Option AcceptRefusal). CheckedSo rules wanted votes old.kept.votes o) first is.checked)))
 
   pub still_refused : is_some old.first ≡ true → new.first ≡ old.first → new.kept ≡ old.kept
       → IsChecked rules wanted more new
   still_refused some same kept = by old.first refl some
     where
-      by : (first : Option Refusal) → old.first ≡ first → is_some first ≡ true → IsChecked rules wanted more new
+      by : (first : Option AcceptRefusal) → old.first ≡ first → is_some first ≡ true → IsChecked rules wanted more new
       by None e some_ = absurd (cc some_)
       by (Some why) e some_ = refused_before why e same kept
 
   none_before : old.first ≡ None → CheckedSo rules wanted votes old.kept.votes None
-  none_before first = subst (λ (o : Option Refusal). CheckedSo rules wanted votes old.kept.votes o) first is.checked
+  none_before first = subst (λ (o : Option AcceptRefusal). CheckedSo rules wanted votes old.kept.votes o) first is.checked
 
   -- it is acceptable
   pub held_too : is_some old.first ≡ false → new.first ≡ old.first → new.kept ≡ record old.kept { votes = placed old.kept.votes vote }
@@ -197,7 +189,7 @@ module _ (rules : Rules) (wanted : Compute) (votes : List ReadVote) (vote : Read
       let length_is = ap (λ (l : List ReadVote). length l) votes_are in
       with_first (ap (λ (h : Holding). h.room) kept ∙ is.room.room)
       (omega (arith, length_is, placing.one_more old.kept.votes vote, is.room.fits, is.count))
-      (subst (λ (o : Option Refusal). CheckedSo rules wanted more new.kept.votes o) (sym (same ∙ first))
+      (subst (λ (o : Option AcceptRefusal). CheckedSo rules wanted more new.kept.votes o) (sym (same ∙ first))
       (votes_are ∙ held_are, All-push IsFine votes vote before.1 fine))
 
   -- it is the first that is refused
@@ -213,5 +205,5 @@ module _ (rules : Rules) (wanted : Compute) (votes : List ReadVote) (vote : Read
       let stops = stops_at rules wanted more n vote refusal within (sym (get_or_push votes vote vote n refl))
       (subst (λ (l : List ReadVote). All IsFine l) (sym front) before.1) by in
       with_first (same_room kept) (same_fits kept)
-      (subst (λ (o : Option Refusal). CheckedSo rules wanted more new.kept.votes o) (sym now)
+      (subst (λ (o : Option AcceptRefusal). CheckedSo rules wanted more new.kept.votes o) (sym now)
       (subst (λ (k : ℕ). StopsAt rules wanted more (stop.Refused (refusal_of k refusal))) (sym number) stops))

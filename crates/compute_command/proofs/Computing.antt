@@ -1,5 +1,5 @@
 -- The text that was written is that of the consensus of the held votes.
-use Rattle.std.proofs.Common.{◌≡◌, ℕ, true, List, length, Result, Ok, Err, refl, sym, ap, ◌∙◌}
+use Rattle.std.proofs.Common.{◌≡◌, ℕ, true, List, length, Ok, Err, refl, sym, ap, ◌∙◌}
 use Rattle.std.specs.Prelude.{All}
 use Rattle.std.specs.Global.{Vec}
 use Rattle.key_port.specs.Answers.{Rules}
@@ -10,13 +10,9 @@ use Rattle.vote_terms.specs.Acceptable.{IsAcceptable}
 use Rattle.compute_terms.specs.Consensuses.{consensus}
 use Rattle.consensus_terms.specs.declared.consensus.Consensus.{Consensus}
 use Rattle.daemon_words.specs.declared.command.Compute.{Compute}
-use Rattle.exit_status.specs.Stops.{Answered}
-use Rattle.exit_status.specs.declared.status.Refusal.TheVariants as refusal
-use Rattle.exit_status.specs.declared.stop.Stop.{Stop}
-use Rattle.exit_status.specs.declared.stop.Stop.TheVariants as stop
-use Rattle.exit_status.specs.declared.vote_refusal.VoteListRefusal.TheVariants as list
+use Rattle.consensus_calc.specs.declared.record.CalcFault.TheVariants as calc
 use Rattle.compute_command.specs.Votes.{votes_of}
-use Rattle.compute_command.specs.Answers.{ComputeAnswers, Computes, texts_of}
+use Rattle.compute_command.specs.Answers.{ComputeAnswers, Computes, HasTooFew, texts_of}
 use Rattle.compute_command.specs.Private.{WritesText}
 
 pub computes : (rules : Rules) (wanted : Compute) (bytes text : List ℕ) (votes now : List ReadVote) (roster : ℕ)
@@ -38,15 +34,17 @@ computes rules wanted bytes text votes now roster c read acceptable held_is rost
 }
 
 -- what was written, or that they are too few, answers the votes that were read
-pub text_answers : (rules : Rules) (wanted : Compute) (bytes : List ℕ) (votes now : List ReadVote) (result : Result (Vec ℕ) Stop)
-    → votes_of bytes ≡ Ok votes → All (λ vote. IsAcceptable rules wanted.roster wanted.valid_after vote) votes
-    → now ≡ held votes → WritesText wanted now result → Answered (ComputeAnswers rules wanted bytes) result
-text_answers rules wanted bytes votes now (Ok text) read acceptable held_is is =
-    computes rules wanted bytes text.items votes now (length wanted.roster) (consensus (length wanted.roster) now) read
-    acceptable held_is refl is.0 refl is.1
-text_answers rules wanted bytes votes now (Err stop.Memory) read acceptable held_is is = tt
-text_answers rules wanted bytes votes now (Err (stop.Refused (refusal.Votes (list.TooFew count roster)))) read acceptable
-    held_is is = record {
+module _ (rules : Rules) (wanted : Compute) (bytes : List ℕ) (votes now : List ReadVote) (read : votes_of bytes ≡ Ok votes)
+    (acceptable : All (λ vote. IsAcceptable rules wanted.roster wanted.valid_after vote) votes) (held_is : now ≡ held votes)
+  where
+    pub text_answers : (text : Vec ℕ) → WritesText wanted now (Ok text) → ComputeAnswers rules wanted bytes (Ok text.items)
+    text_answers text is =
+        computes rules wanted bytes text.items votes now (length wanted.roster) (consensus (length wanted.roster) now) read
+        acceptable held_is refl is.0 refl is.1
+
+    pub too_few : (count roster : ℕ) → WritesText wanted now (Err (calc.TooFew count roster))
+        → HasTooFew rules wanted bytes count roster
+    too_few count roster is = record {
       votes = votes;
       read = read;
       acceptable = acceptable;
@@ -55,12 +53,3 @@ text_answers rules wanted bytes votes now (Err (stop.Refused (refusal.Votes (lis
       few =
           ap (λ (n : ℕ). over n roster) is.1 ∙ ap (λ (n : ℕ). over (length now) n) is.2 ∙ is.0;
     }
-text_answers rules wanted bytes votes now (Err (stop.Refused (refusal.Votes (list.Vote number word)))) read acceptable held_is
-    is = absurd is
-text_answers rules wanted bytes votes now (Err (stop.Refused (refusal.Document why))) read acceptable held_is is = absurd is
-text_answers rules wanted bytes votes now (Err (stop.Refused (refusal.Station why))) read acceptable held_is is = absurd is
-text_answers rules wanted bytes votes now (Err (stop.Refused (refusal.Report why))) read acceptable held_is is = absurd is
-text_answers rules wanted bytes votes now (Err (stop.Refused (refusal.Bandwidth why))) read acceptable held_is is = absurd is
-text_answers rules wanted bytes votes now (Err (stop.Refused refusal.Verifier)) read acceptable held_is is = absurd is
-text_answers rules wanted bytes votes now (Err (stop.Refused refusal.Signer)) read acceptable held_is is = absurd is
-text_answers rules wanted bytes votes now (Err (stop.Refused refusal.Gate)) read acceptable held_is is = absurd is

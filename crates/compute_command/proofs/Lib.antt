@@ -14,4 +14,3 @@ pub mod Turning
 pub mod Stages
 pub mod Arrivals
 pub mod Sources
-pub mod Reasons

@@ -2,28 +2,17 @@
 use Rattle.std.proofs.Common.{◌≡◌, ◌∙◌, ℕ, zero, suc, ◌+◌, ◌-◌, ◌<◌, ◌^◌, List, [], ◌∷◌, ◌++◌, length, Option}
 use Rattle.std.proofs.Common.{Some, None}
 use Rattle.std.proofs.Common.{Result, Ok, Err, refl, sym, ap, subst, arith, length-append, append_assoc, append-nil}
-use Rattle.std.specs.Prelude.{unwrap_or}
 use Rattle.std.specs.Option.{option_map}
-use Rattle.item_terms.specs.Items.{Contents, Item, items_from}
-use Rattle.item_terms.specs.declared.fault.DocFault.{DocFault}
-use Rattle.item_feeder.specs.Moving.{moved_fault_if, moved_item, moved_items}
-use Rattle.frame_terms.specs.Decisions.{beginning_reason}
-use Rattle.frame_terms.specs.Keywords.{word_of}
+use Rattle.std.proofs.Math.Seq.{drop-append_seam}
 use Rattle.frame_terms.specs.declared.fault.FrameFault.{FrameFault}
-use Rattle.frame_terms.specs.declared.fault.FrameReason.{FrameReason}
-use Rattle.frame_terms.specs.declared.fault.FrameReason.TheVariants.{TooMany}
 use Rattle.frame_terms.specs.declared.fault.ReadRefusal.{ReadRefusal}
 use Rattle.frame_terms.specs.declared.fault.ReadRefusal.TheVariants.{Frame}
-use Rattle.frame_terms.specs.declared.row.Limit.TheVariants.{Votes}
-use Rattle.vote_frame.specs.Tables.{vote_tables}
 use Rattle.vote_terms.specs.Votes.{ReadVote}
 use Rattle.vote_doc.specs.Reading.{vote_from, vote_of}
-use Rattle.moved_documents.specs.Moving.{moved_fault, moved_refusal}
-use Rattle.moved_documents.proofs.MovedReading.{from_moved}
-use Rattle.moved_votes.proofs.MovedVotes.{votes_same}
-use Rattle.moved_votes.specs.Moved.{further}
+use Rattle.vote_doc.specs.Behind.{behind, fault_behind, refusal_behind}
+use Rattle.whole_votes.proofs.WholeVotes.{votes_same}
 use Rattle.compute_command.specs.Rests.{AreVotes, EndsVote, Read, next_by, next_of, room_behind}
-use Rattle.compute_command.specs.Votes.{by_first, item_too_many, no_limit, one_more, then_votes, unless_end}
+use Rattle.compute_command.specs.Votes.{one_more, one_more_of, then_votes, unless_end}
 use Rattle.compute_command.specs.Votes.{unless_more, votes_from, votes_of, with_front}
 
 -- ---- votes in front
@@ -40,34 +29,13 @@ front_of_front xs ys (Err e) = refl
 
 -- why there is one more, so many bytes further on
 abbrev moved_more : ℕ → Option ReadRefusal → Option ReadRefusal
-moved_more n None = None
-moved_more n (Some refusal) = Some (moved_refusal n refusal)
-
-too_many_moved : (n : ℕ) (item : Item) → item_too_many (moved_item n item) ≡ moved_fault n (item_too_many item)
-too_many_moved n item = by (beginning_reason vote_tables (word_of item.keyword))
-  where
-    there : ℕ → FrameReason → FrameFault
-    there place reason = record { place = place; reason = reason }
-
-    by : (why : Option FrameReason)
-        → unwrap_or (option_map (λ reason. there (n + item.place) reason) why) (there (n + item.place) (TooMany Votes))
-        ≡ moved_fault n (unwrap_or (option_map (λ reason. there item.place reason) why) (there item.place (TooMany Votes)))
-    by None = refl
-    by (Some reason) = refl
-
-first_moved : (n : ℕ) (items : List Item) (fault : Option DocFault)
-    → by_first (moved_items n items) (moved_fault_if n fault) ≡ moved_more n (by_first items fault)
-first_moved n [] None = refl
-first_moved n [] (Some fault) = refl
-first_moved n (item ∷ items) fault = ap (λ (f : FrameFault). Some (Frame f)) (too_many_moved n item)
+moved_more n more = option_map (refusal_behind n) more
 
 -- behind other bytes there is one more where there is alone
-pub one_more_moved : (before bytes : List ℕ)
-    → one_more (length before) (before ++ bytes) ≡ moved_more (length before) (one_more 0 bytes)
-one_more_moved before bytes =
-    let found = items_from 0 no_limit bytes in
-    ap (λ (c : Contents). by_first c.items c.fault) (from_moved before bytes no_limit)
-    ∙ first_moved (length before) found.items found.fault
+one_more_same : (before bytes : List ℕ)
+    → one_more (length before) (before ++ bytes) ≡ moved_more (length before) (one_more_of bytes)
+one_more_same before bytes =
+    ap (λ (l : List ℕ). moved_more (length before) (one_more_of l)) (drop-append_seam before bytes)
 
 -- ---- what stands there
 
@@ -78,22 +46,22 @@ Votes_ = Result (List ReadVote) ReadRefusal
 abbrev pub votes_by : ℕ → ℕ → List ℕ → Option Read → Votes_
 votes_by n room all None = Ok []
 votes_by n room all (Some (Ok (vote, end))) = with_front (vote ∷ []) (votes_from (room - 1) (n + end) all)
-votes_by n room all (Some (Err refusal)) = Err (moved_refusal n refusal)
+votes_by n room all (Some (Err refusal)) = Err (refusal_behind n refusal)
 
-pub votes_next : (room : ℕ) (before bytes : List ℕ) → length before + length bytes < 2 ^ 61
+pub votes_next : (room : ℕ) (before bytes : List ℕ)
     → votes_from room (length before) (before ++ bytes)
     ≡ votes_by (length before) room (before ++ bytes) (next_of room bytes)
 unfolding votes_from
-votes_next zero before bytes short = ap unless_more (one_more_moved before bytes) ∙ by (one_more 0 bytes)
+votes_next zero before bytes = ap unless_more (one_more_same before bytes) ∙ by (one_more_of bytes)
   where
     by : (more : Option ReadRefusal) → unless_more (moved_more (length before) more)
         ≡ votes_by (length before) zero (before ++ bytes) (next_by more zero bytes)
     by None = refl
     by (Some refusal) = refl
-votes_next (suc room) before bytes short =
-    ap (λ m. unless_end m (then_votes (vote_from n all) others)) (one_more_moved before bytes)
-    ∙ ap (λ r. unless_end (moved_more n (one_more 0 bytes)) (then_votes r others)) (votes_same before bytes short)
-    ∙ by (one_more 0 bytes) (vote_of bytes) refl
+votes_next (suc room) before bytes =
+    ap (λ m. unless_end m (then_votes (vote_from n all) others)) (one_more_same before bytes)
+    ∙ ap (λ r. unless_end (moved_more n (one_more_of bytes)) (then_votes r others)) (votes_same before bytes)
+    ∙ by (one_more_of bytes) (vote_of bytes) refl
   where
     n : ℕ
     n = length before
@@ -108,7 +76,7 @@ votes_next (suc room) before bytes short =
     one_less = omega arith
 
     by : (more : Option ReadRefusal) (read : Read) → vote_of bytes ≡ read
-        → unless_end (moved_more n more) (then_votes (further n read) others)
+        → unless_end (moved_more n more) (then_votes (behind n read) others)
         ≡ votes_by n (suc room) all (next_by more (suc room) bytes)
     by None read is = refl
     by (Some refusal) (Ok (vote, end)) is =
@@ -127,7 +95,7 @@ module _ (front : List ℕ) (votes : List ReadVote) (are : AreVotes front votes)
       → votes_of (front ++ more) ≡ with_front votes (votes_by (length front) room (front ++ more) next)
   votes_then more next short is =
       are more short
-      ∙ ap (λ r. with_front votes r) (votes_next room front more (omega (arith, length-append front more, short)))
+      ∙ ap (λ r. with_front votes r) (votes_next room front more)
       ∙ ap (λ (o : Option Read). with_front votes (votes_by (length front) room (front ++ more) o)) is
 
   -- a vote more
@@ -157,7 +125,7 @@ module _ (front : List ℕ) (votes : List ReadVote) (are : AreVotes front votes)
   -- or since there is a fault
   pub then_fault : (behind : List ℕ) (fault : FrameFault) → length (front ++ behind) < 2 ^ 61
       → next_of room behind ≡ Some (Err (Frame fault))
-      → votes_of (front ++ behind) ≡ Err (Frame (moved_fault (length front) fault))
+      → votes_of (front ++ behind) ≡ Err (Frame (fault_behind (length front) fault))
   then_fault behind fault short ends = votes_then behind (Some (Err (Frame fault))) short ends
 
 -- none yet

@@ -11,9 +11,9 @@ use Rattle.vote_terms.specs.Acceptable.{IsAcceptable, Refuses, RefusesNone}
 use Rattle.vote_terms.specs.declared.word.VoteWord.{VoteWord}
 use Rattle.vote_terms.specs.declared.word.VoteWord.TheVariants as word
 use Rattle.daemon_words.specs.declared.command.Compute.{Compute}
-use Rattle.exit_status.specs.declared.status.Refusal.{Refusal}
-use Rattle.exit_status.specs.declared.status.Refusal.TheVariants as refusal
-use Rattle.exit_status.specs.declared.vote_refusal.VoteListRefusal.TheVariants as list
+use Rattle.compute_command.specs.declared.refusal.ComputeRefusal.{ComputeRefusal}
+use Rattle.compute_command.specs.declared.refusal.ComputeRefusal.TheVariants as refusal
+use Rattle.compute_command.specs.declared.refusal.VoteListRefusal.TheVariants as list
 use Rattle.compute_command.specs.Answers.{CanCompute, ComputeAnswers}
 
 -- what holds of each element holds of one that stands there
@@ -39,9 +39,9 @@ not_refused_by rules roster period vote word.Signature ok free fails =
     ⊎_elim (λ no. false≢true (sym no ∙ ok.verified.signer)) (λ may. false≢true (sym free.signature ∙ may)) fails.3
 
 -- such an input is refused only where the verifier failed
-pub not_refused : (rules : Rules) (wanted : Compute) (bytes : List ℕ) (why : Refusal) → CanCompute rules wanted bytes
+pub not_refused : (rules : Rules) (wanted : Compute) (bytes : List ℕ) (why : ComputeRefusal) → CanCompute rules wanted bytes
     → ComputeAnswers rules wanted bytes (Err why) → why ≡ refusal.Verifier
-not_refused rules wanted bytes (refusal.Document fault) can a = absurd (cc (can.read, a.1))
+not_refused rules wanted bytes (refusal.Fault fault) can a = absurd (cc (can.read, a))
 not_refused rules wanted bytes (refusal.Votes (list.Vote number w)) can a =
     let same : a.votes ≡ can.votes = cc (a.read, can.read) in
     let first = a.first in
@@ -53,8 +53,3 @@ not_refused rules wanted bytes (refusal.Votes (list.Vote number w)) can a =
 not_refused rules wanted bytes (refusal.Votes (list.TooFew count roster)) can a =
     absurd (false≢true (cc (a.read, can.read, a.count_is, a.roster_is, a.few, can.enough)))
 not_refused rules wanted bytes refusal.Verifier can a = refl
-not_refused rules wanted bytes (refusal.Bandwidth why) can a = absurd a
-not_refused rules wanted bytes (refusal.Station why) can a = absurd a
-not_refused rules wanted bytes (refusal.Report why) can a = absurd a
-not_refused rules wanted bytes refusal.Signer can a = absurd a
-not_refused rules wanted bytes refusal.Gate can a = absurd a

@@ -13,7 +13,7 @@ use Rattle.vote_doc.specs.declared.check.VoteRefusal.{VoteRefusal}
 use Rattle.vote_doc.specs.declared.check.VoteRefusal.TheVariants.{WrongPeriod, UnknownAuthority, Cert, BadSignature, VerifierFault}
 use Rattle.daemon_words.specs.declared.command.Compute.{Compute}
 use Rattle.compute_command.specs.Accepting.{StopsAt, refusal_of}
-use Rattle.exit_status.specs.declared.stop.Stop.TheVariants as stop
+use Rattle.daemon_words.specs.declared.stop.Stop.TheVariants as stop
 
 -- the votes before this one are acceptable
 reached : (rules : Rules) (roster : List Fingerprint) (period : ℕ) (all : List ReadVote) (n : ℕ) (vote : ReadVote) → n < length all → vote ≡ get_or all n vote

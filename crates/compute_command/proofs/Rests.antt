@@ -1,6 +1,6 @@
 -- What is known of the bytes behind some votes, whatever follows.
-use Rattle.std.proofs.Common.{◌≡◌, ◌∙◌, ℕ, zero, suc, ◌+◌, ◌<◌, ◌^◌, List, [], ◌++◌, length}
-use Rattle.std.proofs.Common.{Option, Some, None, Ok, Err, refl, ap, subst, arith, length-append}
+use Rattle.std.proofs.Common.{◌≡◌, ◌∙◌, ℕ, zero, suc, ◌+◌, ◌<◌, ◌^◌, List, ◌++◌, length}
+use Rattle.std.proofs.Common.{Option, Some, None, Ok, Err, refl, ap, subst, arith}
 use Rattle.std.proofs.Common.{append_assoc}
 use Rattle.item_terms.specs.Items.{items_from}
 use Rattle.frame_terms.specs.declared.fault.FrameFault.{FrameFault}
@@ -9,12 +9,12 @@ use Rattle.frame_terms.specs.declared.fault.ReadRefusal.TheVariants.{Frame}
 use Rattle.vote_terms.specs.Votes.{ReadVote}
 use Rattle.vote_doc.specs.Reading.{vote_of}
 use Rattle.vote_feed.specs.Feeding.{IsFaulty, IsOpen, IsWhole}
-use Rattle.whole_votes.proofs.WholeVotes.{faulty_stand, whole_stand}
+use Rattle.whole_votes.proofs.WholeVotes.{faulty_stay, whole_stay}
 use Rattle.ended_votes.proofs.BlankVotes.{blank_are_none}
 use Rattle.ended_votes.proofs.EndedVotes.{open_are_none}
 use Rattle.compute_command.specs.Beyonds.{HasTooMany}
 use Rattle.compute_command.specs.Rests.{EndsVote, HasFault, HasNoVote, Read, next_by, next_of, vote_if}
-use Rattle.compute_command.specs.Votes.{no_limit, one_more}
+use Rattle.compute_command.specs.Votes.{no_limit, one_more_of}
 use Rattle.compute_command.proofs.TailEnds.{none_by, no_fault_by}
 
 -- where there may be one more, what stands there is a vote or its refusal
@@ -27,7 +27,7 @@ none_there zero refusal bytes none = refl
 none_there (suc room) refusal bytes none = absurd (omega (arith, none))
 
 -- an end has no vote
-end_has_none : (bytes : List ℕ) (vote : ReadVote) (end : ℕ) → one_more 0 bytes ≡ None → vote_of bytes ≡ Ok (vote, end) → ⊥
+end_has_none : (bytes : List ℕ) (vote : ReadVote) (end : ℕ) → one_more_of bytes ≡ None → vote_of bytes ≡ Ok (vote, end) → ⊥
 end_has_none bytes vote end is read =
     let found = items_from 0 no_limit bytes in
     let none = none_by found.items found.fault is in
@@ -37,14 +37,12 @@ end_has_none bytes vote end is read =
 -- a whole vote ends there, whatever follows
 pub ends_vote : (room : ℕ) (bytes : List ℕ) (vote : ReadVote) → 0 < room → IsWhole bytes
     → vote_of bytes ≡ Ok (vote, length bytes) → EndsVote room bytes vote
-ends_vote room bytes vote some whole read more short = by (one_more 0 (bytes ++ more)) refl
+ends_vote room bytes vote some whole read more short = by (one_more_of (bytes ++ more)) refl
   where
     there : vote_of (bytes ++ more) ≡ Ok (vote, length bytes)
-    there =
-        whole_stand [] bytes more vote (omega (arith, length-append bytes more, short)) whole read
-        ∙ ap (λ (k : ℕ). Ok (vote, k)) (omega arith)
+    there = whole_stay bytes more whole ∙ read
 
-    by : (o : Option ReadRefusal) → one_more 0 (bytes ++ more) ≡ o
+    by : (o : Option ReadRefusal) → one_more_of (bytes ++ more) ≡ o
         → next_by o room (bytes ++ more) ≡ Some (Ok (vote, length bytes))
     by None e = absurd (end_has_none (bytes ++ more) vote (length bytes) e there)
     by (Some refusal) e = ap (λ (r : Read). Some r) (vote_there room refusal (bytes ++ more) some ∙ there)
@@ -53,11 +51,9 @@ ends_vote room bytes vote some whole read more short = by (one_more 0 (bytes ++ 
 pub has_fault : (room : ℕ) (bytes : List ℕ) (fault : FrameFault) → 0 < room → IsFaulty bytes
     → vote_of bytes ≡ Err (Frame fault) → HasFault room bytes fault
 has_fault room bytes fault some faulty read more short refusal is =
-    let zero_more : 0 + fault.place ≡ fault.place = omega arith in
     ap (λ (o : Option ReadRefusal). next_by o room (bytes ++ more)) is
     ∙ ap (λ (r : Read). Some r) (vote_there room refusal (bytes ++ more) some
-    ∙ faulty_stand [] bytes more fault (omega (arith, length-append bytes more, short)) faulty read
-    ∙ ap (λ (k : ℕ). Err (Frame (record { place = k; reason = fault.reason }))) zero_more)
+    ∙ faulty_stay bytes more fault faulty read)
 
 -- one vote too many is refused, whatever follows
 pub has_too_many : (room : ℕ) (bytes : List ℕ) (fault : FrameFault) → room ≡ 0 → HasTooMany bytes fault
@@ -73,7 +69,7 @@ fault_stays room bytes piece fault has more short refusal is =
     let same : (bytes ++ piece) ++ more ≡ bytes ++ (piece ++ more) = append_assoc bytes piece more in
     ap (next_of room) same
     ∙ has (piece ++ more) (subst (λ (l : List ℕ). length l < 2 ^ 61) same short) refusal
-    (subst (λ (l : List ℕ). one_more 0 l ≡ Some refusal) same is)
+    (subst (λ (l : List ℕ). one_more_of l ≡ Some refusal) same is)
 
 -- bytes of which nothing is known, and faulty ones, are no vote
 pub open_has_none : (bytes : List ℕ) → IsOpen bytes → HasNoVote bytes

@@ -10,12 +10,17 @@ use Rattle.dir_bytes.proofs.Appending.{consumes_more}
 use Rattle.key_port.specs.Answers.{Rules}
 use Rattle.vote_doc.specs.Holdings.{Holding}
 use Rattle.daemon_words.specs.declared.command.Compute.{Compute}
-use Rattle.exit_status.specs.Stops.{Answered}
-use Rattle.exit_status.specs.declared.status.Refusal.{Refusal}
-use Rattle.exit_status.specs.declared.status.Refusal.TheVariants as refusal
-use Rattle.exit_status.specs.declared.stop.Stop.{Stop}
-use Rattle.exit_status.specs.declared.stop.Stop.TheVariants as stop
-use Rattle.exit_status.specs.declared.vote_refusal.VoteListRefusal.TheVariants as list
+use Rattle.consensus_calc.specs.declared.record.CalcFault.{CalcFault}
+use Rattle.consensus_calc.specs.declared.record.CalcFault.TheVariants as calc
+use Rattle.daemon_words.specs.declared.stop.Stop.{Stop}
+use Rattle.daemon_words.specs.declared.stop.Stop.TheVariants as stop
+use Rattle.compute_command.specs.declared.refusal.AcceptRefusal.{AcceptRefusal}
+use Rattle.compute_command.specs.declared.refusal.AcceptRefusal.TheVariants as accept
+use Rattle.compute_command.specs.declared.refusal.ComputeRefusal.{ComputeRefusal}
+use Rattle.compute_command.specs.declared.refusal.ComputeRefusal.TheVariants as refusal
+use Rattle.compute_command.specs.declared.refusal.EndRefusal.{EndRefusal}
+use Rattle.compute_command.specs.declared.refusal.EndRefusal.TheVariants as end
+use Rattle.compute_command.specs.declared.refusal.VoteListRefusal.TheVariants as list
 use Rattle.compute_command.specs.declared.arriving.Arriving.{Arriving}
 use Rattle.compute_command.specs.declared.halt.Halt.{Halt}
 use Rattle.compute_command.specs.declared.halt.Halt.TheVariants as halt
@@ -24,12 +29,8 @@ use Rattle.compute_command.specs.Arriving.{ComputesFrom, EndsAll, EndsSo, HasRea
 use Rattle.compute_command.specs.Arriving.{TellsEnd, TellsVerifier}
 use Rattle.compute_command.specs.Checked.{TellsFirst}
 use Rattle.compute_command.specs.Private.{WritesText}
-use Rattle.compute_command.proofs.Computing.{text_answers}
-
--- what was written, or why it was not
-abbrev pub halted : Result (Vec ℕ) Stop → Result (Vec ℕ) Halt
-halted (Ok text) = Ok text
-halted (Err why) = Err (halt.Stops why)
+use Rattle.compute_command.specs.Told.{by_accept, by_end, of_calc, of_end}
+use Rattle.compute_command.proofs.Computing.{text_answers, too_few}
 
 -- ---- pieces of a source
 
@@ -107,7 +108,7 @@ module _ (rules : Rules) (wanted : Compute) where
   reading_answers (Some all) new limit (halt.Stops stop.Memory) is = tt
   reading_answers (Some all) new limit (halt.Stops (stop.Refused why)) is = absurd is
 
-  refused_whole : (old new : Option (List ℕ)) (limit : ℕ) (bytes : List ℕ) (why : Refusal) → HasWhole old new limit bytes
+  refused_whole : (old new : Option (List ℕ)) (limit : ℕ) (bytes : List ℕ) (why : ComputeRefusal) → HasWhole old new limit bytes
       → ComputeAnswers rules wanted bytes (Err why)
       → ComputesFrom rules wanted old new limit (Err (halt.Stops (stop.Refused why)))
   refused_whole None new limit bytes why whole is = tt
@@ -126,54 +127,51 @@ module _ (rules : Rules) (wanted : Compute) where
   without_memory (Some all) new limit = tt
 
   -- what the end of the input stops for
-  end_stops : (bytes : List ℕ) (why : Refusal) → EndsSo rules wanted bytes (Err (stop.Refused why))
-      → ComputeAnswers rules wanted bytes (Err why)
-  end_stops bytes (refusal.Document why) is = is
-  end_stops bytes (refusal.Votes (list.Vote number word)) (votes, read, first) =
+  end_stops : (bytes : List ℕ) (why : EndRefusal) → EndsSo rules wanted bytes (Err (stop.Refused why))
+      → ComputeAnswers rules wanted bytes (Err (by_end why))
+  end_stops bytes (end.Fault fault) is = is
+  end_stops bytes (end.Votes (accept.Vote number word)) (votes, read, first) =
       record { votes = votes; read = read; first = first }
-  end_stops bytes (refusal.Votes (list.TooFew count roster)) (votes, read, first) = absurd first
-  end_stops bytes refusal.Verifier (votes, read, asked) = record { votes = votes; read = read; asked = asked }
-  end_stops bytes (refusal.Station why) (votes, read, first) = absurd first
-  end_stops bytes (refusal.Report why) (votes, read, first) = absurd first
-  end_stops bytes (refusal.Bandwidth why) (votes, read, first) = absurd first
-  end_stops bytes refusal.Signer (votes, read, first) = absurd first
-  end_stops bytes refusal.Gate (votes, read, first) = absurd first
+  end_stops bytes (end.Votes accept.Verifier) (votes, read, asked) =
+      record { votes = votes; read = read; asked = asked }
 
-  pub ends_here : (old new : Option (List ℕ)) (limit : ℕ) (arriving : Arriving) (result : Result Holding Stop) → limit < 2 ^ 60
-      → (read : HasReadVotes rules wanted old new limit (Ok arriving)) → EndsAll arriving result
+  ends_here : (old new : Option (List ℕ)) (limit : ℕ) (arriving : Arriving) (result : Result Holding (Stop EndRefusal))
+      → limit < 2 ^ 60 → (read : HasReadVotes rules wanted old new limit (Ok arriving)) → EndsAll arriving result
       → EndsSo rules wanted read.0 result
   ends_here old new limit arriving result short (bytes, whole, is) ends =
       ends rules wanted bytes is (omega (arith, whole_few old new limit bytes whole, short))
 
-  pub end_answers : (old new : Option (List ℕ)) (limit : ℕ) (arriving : Arriving) (why : Stop) → limit < 2 ^ 60
+  pub end_answers : (old new : Option (List ℕ)) (limit : ℕ) (arriving : Arriving) (why : Stop EndRefusal) → limit < 2 ^ 60
       → HasReadVotes rules wanted old new limit (Ok arriving) → EndsAll arriving (Err why)
-      → ComputesFrom rules wanted old new limit (Err (halt.Stops why))
+      → ComputesFrom rules wanted old new limit (Err (halt.Stops (of_end why)))
   end_answers old new limit arriving stop.Memory short read ends = without_memory old new limit
   end_answers old new limit arriving (stop.Refused why) short (bytes, whole, is) ends =
-      refused_whole old new limit bytes why whole
+      refused_whole old new limit bytes (by_end why) whole
       (end_stops bytes why (ends_here old new limit arriving (Err (stop.Refused why)) short (bytes, whole, is) ends))
 
   -- what comes of the held votes
-  text_from : (old new : Option (List ℕ)) (limit : ℕ) (bytes : List ℕ) → HasWhole old new limit bytes
-      → (result : Result (Vec ℕ) Stop) → Answered (ComputeAnswers rules wanted bytes) result
-      → ComputesFrom rules wanted old new limit (halted result)
-  text_from old new limit bytes whole (Ok text) is = text_whole old new limit bytes text whole is
-  text_from old new limit bytes whole (Err stop.Memory) is = without_memory old new limit
-  text_from old new limit bytes whole (Err (stop.Refused why)) is = refused_whole old new limit bytes why whole is
+  module _ (old new : Option (List ℕ)) (limit : ℕ) (arriving : Arriving) (accepted : Holding) (short : limit < 2 ^ 60)
+      (read : HasReadVotes rules wanted old new limit (Ok arriving)) (ends : EndsAll arriving (Ok accepted)) where
+    so : EndsSo rules wanted read.0 (Ok accepted)
+    so = ends_here old new limit arriving (Ok accepted) short read ends
 
-  pub held_answers : (old new : Option (List ℕ)) (limit : ℕ) (arriving : Arriving) (accepted : Holding)
-      (result : Result (Vec ℕ) Stop) → limit < 2 ^ 60 → HasReadVotes rules wanted old new limit (Ok arriving)
-      → EndsAll arriving (Ok accepted) → WritesText wanted accepted.votes result
-      → ComputesFrom rules wanted old new limit (halted result)
-  held_answers old new limit arriving accepted result short (bytes, whole, is) ends writes =
-      let so = ends_here old new limit arriving (Ok accepted) short (bytes, whole, is) ends in
-      text_from old new limit bytes whole result
-      (text_answers rules wanted bytes so.0 accepted.votes result so.1 so.3 so.2 writes)
+    pub text_written : (text : Vec ℕ) → WritesText wanted accepted.votes (Ok text)
+        → ComputesFrom rules wanted old new limit (Ok text)
+    text_written text writes =
+        text_whole old new limit read.0 text read.1
+        (text_answers rules wanted read.0 so.0 accepted.votes so.1 so.3 so.2 text writes)
+
+    pub not_written : (why : CalcFault) → WritesText wanted accepted.votes (Err why)
+        → ComputesFrom rules wanted old new limit (Err (halt.Stops (of_calc why)))
+    not_written calc.Memory writes = without_memory old new limit
+    not_written (calc.TooFew count roster) writes =
+        refused_whole old new limit read.0 (refusal.Votes (list.TooFew count roster)) read.1
+        (too_few rules wanted read.0 so.0 accepted.votes so.1 so.3 so.2 count roster writes)
 
 -- ---- the verifier's count
 
 -- it has not failed yet
-pub tells_none : (count : ℕ) (first : Option Refusal) → first ≡ None → TellsFirst count count first
+pub tells_none : (count : ℕ) (first : Option AcceptRefusal) → first ≡ None → TellsFirst count count first
 tells_none count None none = record {
   more = omega arith;
   cause = λ e. absurd (cc e);
@@ -182,35 +180,33 @@ tells_none count None none = record {
 tells_none count (Some why) none = absurd (cc none)
 
 -- no vote is refused where votes are held
-pub held_untold : (before now : ℕ) (first : Option Refusal) (accepted : Holding) (A : Type 0) → TellsFirst before now first
+pub held_untold : (before now : ℕ) (first : Option AcceptRefusal) (accepted : Holding) (A : Type 0) → TellsFirst before now first
     → TellsEnd first (Ok accepted) → before < now → A
 held_untold before now first accepted A tells none lt = absurd (by first none (tells.told lt))
   where
-    by : (o : Option Refusal) → o ≡ None → o ≡ Some refusal.Verifier → ⊥
+    by : (o : Option AcceptRefusal) → o ≡ None → o ≡ Some accept.Verifier → ⊥
     by None e is = cc is
     by (Some why) e is = cc e
 
 -- the verifier's fault is told only where it failed
-pub end_told : (before now : ℕ) (first : Option Refusal) → TellsFirst before now first
-    → TellsEnd first (Err (stop.Refused refusal.Verifier)) → Rose before now
-end_told before now first tells is = tells.cause is
-
-told_of : (first : Option Refusal) (why : Refusal) → first ≡ Some why → first ≡ Some refusal.Verifier
-    → TellsVerifier (Err (halt.Stops (stop.Refused why)))
-told_of first why is told =
-    let both : Some why ≡ Some refusal.Verifier = sym is ∙ told in
-    let same : why ≡ refusal.Verifier = cc both in
-    inl (ap (λ (w : Refusal). halt.Stops (stop.Refused w)) same)
+pub end_told : (before now : ℕ) (first : Option AcceptRefusal) (why : Stop EndRefusal) → TellsFirst before now first
+    → TellsEnd first (Err why) → of_end why ≡ stop.Refused refusal.Verifier → Rose before now
+end_told before now first stop.Memory tells is told = absurd (cc told)
+end_told before now first (stop.Refused (end.Fault fault)) tells is told = absurd (cc told)
+end_told before now first (stop.Refused (end.Votes (accept.Vote number word))) tells is told = absurd (cc told)
+end_told before now first (stop.Refused (end.Votes accept.Verifier)) tells is told = tells.cause is
 
 -- and where it failed, unless something stands before it
-pub end_tells : (before now : ℕ) (first : Option Refusal) (why : Stop) → TellsFirst before now first
-    → TellsEnd first (Err why) → before < now → TellsVerifier (Err (halt.Stops why))
+pub end_tells : (before now : ℕ) (first : Option AcceptRefusal) (why : Stop EndRefusal) → TellsFirst before now first
+    → TellsEnd first (Err why) → before < now → TellsVerifier (Err (halt.Stops (of_end why)))
 end_tells before now first stop.Memory tells is lt = inr tt
-end_tells before now first (stop.Refused (refusal.Document why)) tells is lt = inr tt
-end_tells before now first (stop.Refused (refusal.Votes why)) tells is lt = told_of first (refusal.Votes why) is (tells.told lt)
-end_tells before now first (stop.Refused (refusal.Station why)) tells is lt = told_of first (refusal.Station why) is (tells.told lt)
-end_tells before now first (stop.Refused (refusal.Report why)) tells is lt = told_of first (refusal.Report why) is (tells.told lt)
-end_tells before now first (stop.Refused (refusal.Bandwidth why)) tells is lt = told_of first (refusal.Bandwidth why) is (tells.told lt)
-end_tells before now first (stop.Refused refusal.Verifier) tells is lt = told_of first refusal.Verifier is (tells.told lt)
-end_tells before now first (stop.Refused refusal.Signer) tells is lt = told_of first refusal.Signer is (tells.told lt)
-end_tells before now first (stop.Refused refusal.Gate) tells is lt = told_of first refusal.Gate is (tells.told lt)
+end_tells before now first (stop.Refused (end.Fault fault)) tells is lt = inr tt
+end_tells before now first (stop.Refused (end.Votes why)) tells is lt =
+    let both : Some why ≡ Some accept.Verifier = sym is ∙ tells.told lt in
+    let same : why ≡ accept.Verifier = cc both in
+    inl (ap (λ (w : AcceptRefusal). halt.Stops (stop.Refused (by_accept w))) same)
+
+-- it is not asked where the consensus is calculated
+pub calc_told : (why : CalcFault) → of_calc why ≡ stop.Refused refusal.Verifier → ⊥
+calc_told calc.Memory told = cc told
+calc_told (calc.TooFew held roster) told = cc told

@@ -17,7 +17,7 @@ use Rattle.part_laws.specs.Moved.{sizes}
 use Rattle.part_laws.proofs.LinesTogether.{sizes_all}
 use Rattle.frame_terms.specs.declared.fault.ReadRefusal.{ReadRefusal}
 use Rattle.compute_command.specs.Tails.{is_end, tail_of}
-use Rattle.compute_command.specs.Votes.{by_first, no_limit, one_more}
+use Rattle.compute_command.specs.Votes.{by_first, no_limit, one_more_of}
 use Rattle.compute_command.proofs.TailLines.{all_blank, blank_line, tail_says}
 
 -- ---- a line
@@ -118,14 +118,14 @@ no_fault_by [] (Some fault) is = absurd (cc is)
 no_fault_by (item ∷ items) (Some fault) is = absurd (cc is)
 
 -- blank lines alone are the end of an input
-pub end_is_none : (bytes : List ℕ) → length bytes < 2 ^ 61 → is_end (tail_of bytes) ≡ true → one_more 0 bytes ≡ None
+pub end_is_none : (bytes : List ℕ) → length bytes < 2 ^ 61 → is_end (tail_of bytes) ≡ true → one_more_of bytes ≡ None
 end_is_none bytes short is =
     let blank = sym (tail_says bytes) ∙ is in
     let are = are_blank_by (0 + no_limit) 0 (lines (drop 0 bytes)) blank (omega (arith, sizes_all bytes, short)) in
     ap (λ (c : Contents). by_first c.items c.fault) (no_others_are 0 no_limit bytes [] are)
 
 -- and an end is blank lines alone
-pub none_is_end : (bytes : List ℕ) → one_more 0 bytes ≡ None → is_end (tail_of bytes) ≡ true
+pub none_is_end : (bytes : List ℕ) → one_more_of bytes ≡ None → is_end (tail_of bytes) ≡ true
 none_is_end bytes is =
     let found = items_from 0 no_limit bytes in
     let none = none_by found.items found.fault is in
@@ -137,11 +137,11 @@ none_is_end bytes is =
 -- so where they are not, one more vote is read or refused
 pub record IsRefusedIf (bytes : List ℕ) : Type 0 where
   pub refusal : ReadRefusal
-  pub more : one_more 0 bytes ≡ Some refusal
+  pub more : one_more_of bytes ≡ Some refusal
 
 pub not_end : (bytes : List ℕ) → is_end (tail_of bytes) ≡ false → IsRefusedIf bytes
-not_end bytes is = by (one_more 0 bytes) refl
+not_end bytes is = by (one_more_of bytes) refl
   where
-    by : (o : Option ReadRefusal) → one_more 0 bytes ≡ o → IsRefusedIf bytes
+    by : (o : Option ReadRefusal) → one_more_of bytes ≡ o → IsRefusedIf bytes
     by None e = absurd (cc (none_is_end bytes e, is))
     by (Some refusal) e = record { refusal = refusal; more = e }

@@ -14,6 +14,7 @@ use Rattle.frame_terms.specs.declared.fault.ReadRefusal.{ReadRefusal}
 use Rattle.frame_terms.specs.declared.fault.ReadRefusal.TheVariants.{Frame}
 use Rattle.vote_terms.specs.Votes.{ReadVote}
 use Rattle.vote_doc.specs.Reading.{ReadsVote, vote_of}
+use Rattle.fault_laws.proofs.VoteFaults.{fault_of_vote}
 use Rattle.vote_feed.specs.declared.fed.Fed.{Fed}
 use Rattle.vote_feed.specs.declared.fed.Fed.TheVariants as fed
 use Rattle.vote_feed.specs.Feeding.{EndsSo, Feeds, IsFaulty, IsOpen, IsWhole, end_of}
@@ -29,7 +30,7 @@ use Rattle.compute_command.specs.Furthers.{IsFurther}
 use Rattle.compute_command.specs.Rests.{AnswersEnd, EndsVote, HasFault, HasNoVote, IsFaultOf, IsRest, IsVoteOf}
 use Rattle.compute_command.specs.Rests.{Knows, Read, Turns, next_by, next_of, turn_on}
 use Rattle.compute_command.specs.Tails.{is_end, tail_of, tail_with}
-use Rattle.compute_command.specs.Votes.{one_more}
+use Rattle.compute_command.specs.Votes.{one_more_of}
 use Rattle.compute_command.proofs.Furthers.{further_on}
 use Rattle.compute_command.proofs.Rests.{ends_vote, fault_stays, has_fault, has_too_many}
 use Rattle.compute_command.proofs.Rests.{vote_there}
@@ -46,7 +47,7 @@ end_or other (Ok end) = end
 end_or other (Err refusal) = other
 
 -- what is read of whole bytes is their vote
-pub vote_of_whole : (bytes : List ℕ) (read : ReadVote × ℕ) → IsWhole bytes → ReadsVote 0 bytes (Ok read) → IsVoteOf bytes read
+pub vote_of_whole : (bytes : List ℕ) (read : ReadVote × ℕ) → IsWhole bytes → ReadsVote bytes (Ok read) → IsVoteOf bytes read
 vote_of_whole bytes (vote, end) whole reads =
     let ends : end_of (Ok (vote, end)) ≡ Ok (length bytes) =
     sym (ap end_of reads.0) ∙ end_there bytes (Ok (length bytes)) whole in
@@ -59,10 +60,18 @@ whole_not_refused bytes fault whole is =
     cc ends
 
 pub never_refused : (bytes : List ℕ) (result : Result (ReadVote × ℕ) ReadRefusal) (refusal : ReadRefusal)
-    (fault : FrameFault) → result ≡ Err refusal → refusal ≡ Frame fault → IsWhole bytes → ReadsVote 0 bytes result → ⊥
+    (fault : FrameFault) → result ≡ Err refusal → refusal ≡ Frame fault → IsWhole bytes → ReadsVote bytes result → ⊥
 never_refused bytes result refusal fault is same whole reads =
     whole_not_refused bytes fault whole
-    (subst (λ (r : Result (ReadVote × ℕ) ReadRefusal). ReadsVote 0 bytes r) (is ∙ ap (λ (e : ReadRefusal). Err e) same)
+    (subst (λ (r : Result (ReadVote × ℕ) ReadRefusal). ReadsVote bytes r) (is ∙ ap (λ (e : ReadRefusal). Err e) same)
+    reads)
+
+-- a fault that is read stands within the bytes
+pub fault_within : (bytes : List ℕ) (result : Result (ReadVote × ℕ) ReadRefusal) (refusal : ReadRefusal) (fault : FrameFault)
+    → result ≡ Err refusal → refusal ≡ Frame fault → ReadsVote bytes result → fault.place ≤ length bytes
+fault_within bytes result refusal fault is same reads =
+    fault_of_vote bytes fault
+    (subst (λ (r : Result (ReadVote × ℕ) ReadRefusal). ReadsVote bytes r) (is ∙ ap (λ (e : ReadRefusal). Err e) same)
     reads)
 
 -- faulty bytes have no vote
@@ -229,7 +238,7 @@ has_then : (room : ℕ) (bytes : List ℕ) → length bytes < 2 ^ 61 → is_end 
     → HasFault room bytes own → NextFaulty room bytes own
 has_then room bytes short is own has =
     let more = not_end bytes is in
-    subst (λ (l : List ℕ). (refusal : ReadRefusal) → one_more 0 l ≡ Some refusal → NextFaulty room l own)
+    subst (λ (l : List ℕ). (refusal : ReadRefusal) → one_more_of l ≡ Some refusal → NextFaulty room l own)
     (append-nil bytes)
     (has [] (subst (λ (l : List ℕ). length l < 2 ^ 61) (sym (append-nil bytes)) short)) more.refusal more.more
 

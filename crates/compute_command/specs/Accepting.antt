@@ -12,11 +12,10 @@ use Rattle.vote_doc.specs.Holdings.{Holding}
 use Rattle.vote_doc.specs.declared.check.VoteRefusal.{VoteRefusal}
 use Rattle.vote_doc.specs.declared.check.VoteRefusal.TheVariants.{WrongPeriod, UnknownAuthority, Cert, BadSignature, VerifierFault}
 use Rattle.daemon_words.specs.declared.command.Compute.{Compute}
-use Rattle.exit_status.specs.declared.status.Refusal.{Refusal}
-use Rattle.exit_status.specs.declared.status.Refusal.TheVariants as refusal
-use Rattle.exit_status.specs.declared.stop.Stop.{Stop}
-use Rattle.exit_status.specs.declared.stop.Stop.TheVariants as stop
-use Rattle.exit_status.specs.declared.vote_refusal.VoteListRefusal.TheVariants as list
+use Rattle.daemon_words.specs.declared.stop.Stop.{Stop}
+use Rattle.daemon_words.specs.declared.stop.Stop.TheVariants as stop
+use Rattle.compute_command.specs.declared.refusal.AcceptRefusal.{AcceptRefusal}
+use Rattle.compute_command.specs.declared.refusal.AcceptRefusal.TheVariants as refusal
 
 -- the word for what a certificate lacks
 abbrev pub certificate_word : CertAnswer → Option VoteWord
@@ -36,24 +35,23 @@ word_of BadSignature = Some word.Signature
 word_of VerifierFault = None
 
 -- what refusing the vote with this number says by a word
-abbrev pub refusal_by : ℕ → Option VoteWord → Refusal
-refusal_by number (Some why) = refusal.Votes (list.Vote number why)
+abbrev pub refusal_by : ℕ → Option VoteWord → AcceptRefusal
+refusal_by number (Some why) = refusal.Vote number why
 refusal_by number None = refusal.Verifier
 
 -- what refusing the vote with this number says
-abbrev pub refusal_of : ℕ → VoteRefusal → Refusal
+abbrev pub refusal_of : ℕ → VoteRefusal → AcceptRefusal
 refusal_of number given = refusal_by number (word_of given)
 
 -- why checking votes stops: a vote is refused, or the verifier failed at one
-abbrev pub StopsAt : Rules → Compute → List ReadVote → Stop → Type 0
+abbrev pub StopsAt : Rules → Compute → List ReadVote → Stop AcceptRefusal → Type 0
 StopsAt rules wanted votes stop.Memory = Unit {0}
-StopsAt rules wanted votes (stop.Refused (refusal.Votes (list.Vote number why))) =
+StopsAt rules wanted votes (stop.Refused (refusal.Vote number why)) =
     IsFirstRefused rules wanted.roster wanted.valid_after votes number why
 StopsAt rules wanted votes (stop.Refused refusal.Verifier) = AsksOf rules wanted.roster wanted.valid_after votes
-StopsAt rules wanted votes (stop.Refused _) = ⊥
 
 -- what checking votes answers: those that are held, and that each is acceptable; or why it stops
-abbrev pub Accepts : Rules → Compute → List ReadVote → Result Holding Stop → Type 0
+abbrev pub Accepts : Rules → Compute → List ReadVote → Result Holding (Stop AcceptRefusal) → Type 0
 Accepts rules wanted votes (Ok accepted) =
     (accepted.votes ≡ held votes) × All (λ vote. IsAcceptable rules wanted.roster wanted.valid_after vote) votes
 Accepts rules wanted votes (Err e) = StopsAt rules wanted votes e

@@ -14,10 +14,9 @@ use Rattle.vote_terms.specs.declared.word.VoteWord.{VoteWord}
 use Rattle.daemon_words.specs.declared.command.Compute.{Compute}
 use Rattle.daemon_words.specs.declared.command.Flavours.{Flavours}
 use Rattle.daemon_words.specs.declared.command.Flavours.TheVariants as flavours
-use Rattle.daemon_words.specs.declared.command.Kind.TheVariants.{Vote}
-use Rattle.exit_status.specs.declared.status.Refusal.{Refusal}
-use Rattle.exit_status.specs.declared.status.Refusal.TheVariants as refusal
-use Rattle.exit_status.specs.declared.vote_refusal.VoteListRefusal.TheVariants as list
+use Rattle.compute_command.specs.declared.refusal.ComputeRefusal.{ComputeRefusal}
+use Rattle.compute_command.specs.declared.refusal.ComputeRefusal.TheVariants as refusal
+use Rattle.compute_command.specs.declared.refusal.VoteListRefusal.TheVariants as list
 use Rattle.compute_command.specs.Votes.{votes_of}
 
 -- the texts of a consensus in the flavours that are wanted; of both the ns flavour comes first
@@ -57,20 +56,14 @@ pub record HasTooFew (rules : Rules) (wanted : Compute) (bytes : List ℕ) (coun
   pub few : over count roster ≡ false
 
 -- what the command answers to an input: a text, or a refusal. Where the verifier failed it was asked.
-abbrev pub ComputeAnswers : Rules → Compute → List ℕ → Result (List ℕ) Refusal → Type 0
+abbrev pub ComputeAnswers : Rules → Compute → List ℕ → Result (List ℕ) ComputeRefusal → Type 0
 ComputeAnswers rules wanted bytes (Ok text) = Computes rules wanted bytes text
-ComputeAnswers rules wanted bytes (Err (refusal.Document why)) =
-    (why.kind ≡ Vote) × (votes_of bytes ≡ Err (Frame why.fault))
+ComputeAnswers rules wanted bytes (Err (refusal.Fault fault)) = votes_of bytes ≡ Err (Frame fault)
 ComputeAnswers rules wanted bytes (Err (refusal.Votes (list.Vote number word))) =
     RefusesVote rules wanted bytes number word
 ComputeAnswers rules wanted bytes (Err (refusal.Votes (list.TooFew count roster))) =
     HasTooFew rules wanted bytes count roster
 ComputeAnswers rules wanted bytes (Err refusal.Verifier) = AsksVerifier rules wanted bytes
-ComputeAnswers rules wanted bytes (Err (refusal.Bandwidth why)) = ⊥
-ComputeAnswers rules wanted bytes (Err (refusal.Station why)) = ⊥
-ComputeAnswers rules wanted bytes (Err (refusal.Report why)) = ⊥
-ComputeAnswers rules wanted bytes (Err refusal.Signer) = ⊥
-ComputeAnswers rules wanted bytes (Err refusal.Gate) = ⊥
 
 -- The input is acceptable votes of more than half of the roster, and the verifier may refuse none of their signatures.
 pub record CanCompute (rules : Rules) (wanted : Compute) (bytes : List ℕ) : Type 0 where

@@ -11,11 +11,13 @@ use Rattle.vote_terms.specs.Held.{held}
 use Rattle.vote_terms.specs.Acceptable.{IsAcceptable}
 use Rattle.vote_doc.specs.Holdings.{Holding}
 use Rattle.daemon_words.specs.declared.command.Compute.{Compute}
-use Rattle.daemon_words.specs.declared.command.Kind.TheVariants.{Vote}
-use Rattle.exit_status.specs.declared.status.Refusal.{Refusal}
-use Rattle.exit_status.specs.declared.status.Refusal.TheVariants as refusal
-use Rattle.exit_status.specs.declared.stop.Stop.{Stop}
-use Rattle.exit_status.specs.declared.stop.Stop.TheVariants as stop
+use Rattle.daemon_words.specs.declared.stop.Stop.{Stop}
+use Rattle.daemon_words.specs.declared.stop.Stop.TheVariants as stop
+use Rattle.compute_command.specs.declared.refusal.AcceptRefusal.{AcceptRefusal}
+use Rattle.compute_command.specs.declared.refusal.ComputeRefusal.{ComputeRefusal}
+use Rattle.compute_command.specs.declared.refusal.ComputeRefusal.TheVariants as refusal
+use Rattle.compute_command.specs.declared.refusal.EndRefusal.{EndRefusal}
+use Rattle.compute_command.specs.declared.refusal.EndRefusal.TheVariants as end
 use Rattle.compute_command.specs.declared.arriving.Arriving.{Arriving}
 use Rattle.compute_command.specs.declared.checking.Checking.{Checking}
 use Rattle.compute_command.specs.declared.halt.Halt.{Halt}
@@ -66,27 +68,26 @@ pub record TurnsTo (rules : Rules) (wanted : Compute) (bytes piece : List ℕ) (
 
 -- what is answered where the input ends: the votes that are held, of votes that are each acceptable; its first
 -- fault; or why a vote is refused
-abbrev pub EndsSo : Rules → Compute → List ℕ → Result Holding Stop → Type 0
+abbrev pub EndsSo : Rules → Compute → List ℕ → Result Holding (Stop EndRefusal) → Type 0
 EndsSo rules wanted bytes (Ok accepted) =
     (votes : List ReadVote) × (votes_of bytes ≡ Ok votes) × (accepted.votes ≡ held votes)
     × All (λ vote. IsAcceptable rules wanted.roster wanted.valid_after vote) votes
 EndsSo rules wanted bytes (Err stop.Memory) = Unit {0}
-EndsSo rules wanted bytes (Err (stop.Refused (refusal.Document why))) =
-    (why.kind ≡ Vote) × (votes_of bytes ≡ Err (Frame why.fault))
-EndsSo rules wanted bytes (Err (stop.Refused why)) =
+EndsSo rules wanted bytes (Err (stop.Refused (end.Fault fault))) = votes_of bytes ≡ Err (Frame fault)
+EndsSo rules wanted bytes (Err (stop.Refused (end.Votes why))) =
     (votes : List ReadVote) × (votes_of bytes ≡ Ok votes) × StopsAt rules wanted votes (stop.Refused why)
 
 -- the same of all bytes that may have come, whatever the votes were checked for
-abbrev pub EndsAll : Arriving → Result Holding Stop → Type 0
+abbrev pub EndsAll : Arriving → Result Holding (Stop EndRefusal) → Type 0
 EndsAll arriving result =
     (rules : Rules) (wanted : Compute) → WithMore rules wanted arriving 0 (λ bytes. EndsSo rules wanted bytes result)
 
 -- why the first vote is refused that is, is told, unless the input has a fault, or there is no memory
-abbrev pub TellsEnd : Option Refusal → Result Holding Stop → Type 0
+abbrev pub TellsEnd : Option AcceptRefusal → Result Holding (Stop EndRefusal) → Type 0
 TellsEnd first (Ok accepted) = first ≡ None
 TellsEnd first (Err stop.Memory) = Unit {0}
-TellsEnd first (Err (stop.Refused (refusal.Document why))) = Unit {0}
-TellsEnd first (Err (stop.Refused why)) = first ≡ Some why
+TellsEnd first (Err (stop.Refused (end.Fault fault))) = Unit {0}
+TellsEnd first (Err (stop.Refused (end.Votes why))) = first ≡ Some why
 
 -- ---- the command over a source
 
@@ -106,24 +107,12 @@ ComputesFrom rules wanted (Some bytes) new limit (Err (halt.Stops stop.Memory)) 
 ComputesFrom rules wanted (Some bytes) new limit (Err (halt.Stops (stop.Refused why))) =
     ReadsWhole bytes new limit × ComputeAnswers rules wanted bytes (Err why)
 
--- what the command refuses an input for: its first fault, a vote of it or their number, or a verifier that failed
-abbrev pub IsOfVotes : Refusal → Type 0
-IsOfVotes (refusal.Document why) = Unit {0}
-IsOfVotes (refusal.Votes why) = Unit {0}
-IsOfVotes refusal.Verifier = Unit {0}
-IsOfVotes _ = ⊥
-
--- it refuses the input for no other reason, whether the source tells or not
-abbrev pub RefusesForVotes : Result (Vec ℕ) Halt → Type 0
-RefusesForVotes (Err (halt.Stops (stop.Refused why))) = IsOfVotes why
-RefusesForVotes _ = Unit {0}
-
 -- what stands before a vote's refusal in the order of the statuses, or is want of memory
 abbrev pub IsBeforeVotes : Halt → Type 0
 IsBeforeVotes halt.ReadFault = Unit {0}
 IsBeforeVotes halt.TooLong = Unit {0}
 IsBeforeVotes (halt.Stops stop.Memory) = Unit {0}
-IsBeforeVotes (halt.Stops (stop.Refused (refusal.Document why))) = Unit {0}
+IsBeforeVotes (halt.Stops (stop.Refused (refusal.Fault fault))) = Unit {0}
 IsBeforeVotes (halt.Stops (stop.Refused why)) = ⊥
 
 -- the verifier's fault is told, unless something stands before it

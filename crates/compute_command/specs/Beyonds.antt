@@ -9,17 +9,17 @@ use Rattle.frame_terms.specs.declared.fault.FrameFault.{FrameFault}
 use Rattle.frame_terms.specs.declared.fault.FrameReason.TheVariants.{Doc}
 use Rattle.frame_terms.specs.declared.fault.ReadRefusal.TheVariants.{Frame}
 use Rattle.compute_command.specs.Furthers.{IsFurther}
-use Rattle.compute_command.specs.Votes.{item_too_many, no_limit, one_more}
+use Rattle.compute_command.specs.Votes.{item_too_many, no_limit, one_more_of}
 
 -- Whatever follows, one vote more is refused for this fault.
 abbrev pub HasTooMany : List ℕ → FrameFault → Type 0
-HasTooMany bytes fault = (more : List ℕ) → one_more 0 (bytes ++ more) ≡ Some (Frame fault)
+HasTooMany bytes fault = (more : List ℕ) → one_more_of (bytes ++ more) ≡ Some (Frame fault)
 
 -- where no more follow, nothing where the input ends there, and else why one vote more is refused, so many bytes
 -- further on
 abbrev pub EndsBeyond : ℕ → List ℕ → Option FrameFault → Type 0
-EndsBeyond start bytes None = one_more 0 bytes ≡ None
-EndsBeyond start bytes (Some fault) = IsFurther start (λ own. one_more 0 bytes ≡ Some (Frame own)) fault
+EndsBeyond start bytes None = one_more_of bytes ≡ None
+EndsBeyond start bytes (Some fault) = IsFurther start (λ own. one_more_of bytes ≡ Some (Frame own)) fault
 
 -- A reader stands at the first of the bytes, under no limit.
 pub record ReadsFront (bytes : List ℕ) (cursor : Cursor) : Type 0 where

@@ -7,16 +7,15 @@ use Rattle.vote_terms.specs.Held.{held}
 use Rattle.vote_terms.specs.Acceptable.{IsAcceptable}
 use Rattle.vote_doc.specs.Holdings.{Holding}
 use Rattle.daemon_words.specs.declared.command.Compute.{Compute}
-use Rattle.exit_status.specs.declared.status.Refusal.{Refusal}
-use Rattle.exit_status.specs.declared.status.Refusal.TheVariants as refusal
-use Rattle.exit_status.specs.declared.stop.Stop.{Stop}
-use Rattle.exit_status.specs.declared.stop.Stop.TheVariants as stop
+use Rattle.daemon_words.specs.declared.stop.Stop.TheVariants as stop
+use Rattle.compute_command.specs.declared.refusal.AcceptRefusal.{AcceptRefusal}
+use Rattle.compute_command.specs.declared.refusal.AcceptRefusal.TheVariants as refusal
 use Rattle.compute_command.specs.declared.checking.Checking.{Checking}
 use Rattle.compute_command.specs.Accepting.{StopsAt}
 use Rattle.compute_command.specs.Votes.{most_votes}
 
 -- each vote is acceptable, and these are held; or why the first is refused that is
-abbrev pub CheckedSo : Rules → Compute → List ReadVote → List ReadVote → Option Refusal → Type 0
+abbrev pub CheckedSo : Rules → Compute → List ReadVote → List ReadVote → Option AcceptRefusal → Type 0
 CheckedSo rules wanted votes kept None =
     (kept ≡ held votes) × All (λ vote. IsAcceptable rules wanted.roster wanted.valid_after vote) votes
 CheckedSo rules wanted votes kept (Some why) = StopsAt rules wanted votes (stop.Refused why)
@@ -43,16 +42,16 @@ OneMoreChecked rules wanted vote old new =
     (votes : List ReadVote) → IsChecked rules wanted votes old → IsChecked rules wanted (votes ++ vote ∷ []) new
 
 -- Since it had failed so often the verifier failed at the first vote that is refused, or at none.
-pub record TellsFirst (before now : ℕ) (first : Option Refusal) : Type 0 where
+pub record TellsFirst (before now : ℕ) (first : Option AcceptRefusal) : Type 0 where
   pub more : before ≤ now
   pub cause : first ≡ Some refusal.Verifier → Rose before now
   pub told : before < now → first ≡ Some refusal.Verifier
 
 -- where the verifier failed at the first vote that is refused, or at none, that is so afterwards
-abbrev pub TellsOn : ℕ → ℕ → Option Refusal → Option Refusal → Type 0
+abbrev pub TellsOn : ℕ → ℕ → Option AcceptRefusal → Option AcceptRefusal → Type 0
 TellsOn old new first then = (before : ℕ) → TellsFirst before old first → TellsFirst before new then
 
 -- the held votes where no more come, or why one is refused
-abbrev pub end_by : Holding → Option Refusal → Result Holding Stop
+abbrev pub end_by : Holding → Option AcceptRefusal → Result Holding AcceptRefusal
 end_by kept None = Ok kept
-end_by kept (Some why) = Err (stop.Refused why)
+end_by kept (Some why) = Err why

@@ -1,3 +1,4 @@
+pub mod Told
 pub mod Votes
 pub mod Answers
 pub mod Accepting

@@ -16,7 +16,7 @@ use Rattle.compute_command.specs.declared.rest.Turn.TheVariants as turn
 use Rattle.compute_command.specs.declared.tail.Tail.{Tail}
 use Rattle.compute_command.specs.Furthers.{IsFurther}
 use Rattle.compute_command.specs.Tails.{tail_of, tail_with}
-use Rattle.compute_command.specs.Votes.{most_votes, one_more, votes_from, votes_of, with_front}
+use Rattle.compute_command.specs.Votes.{most_votes, one_more_of, votes_from, votes_of, with_front}
 use Rattle.std.specs.List.{fold}
 
 -- ---- what stands there
@@ -39,7 +39,7 @@ next_by (Some refusal) room bytes = Some (vote_if room refusal bytes)
 -- what stands in bytes that may have so many votes: nothing where they are blank lines alone; and else the first vote,
 -- with the place after it, or why there is none
 abbrev pub next_of : ℕ → List ℕ → Option Read
-next_of room bytes = next_by (one_more 0 bytes) room bytes
+next_of room bytes = next_by (one_more_of bytes) room bytes
 
 -- ---- what is known of it whatever follows
 
@@ -54,7 +54,7 @@ EndsVote room bytes vote = Always bytes (λ all. next_of room all ≡ Some (Ok (
 -- Whatever follows, the bytes have this fault, unless all are blank lines alone.
 abbrev pub HasFault : ℕ → List ℕ → FrameFault → Type 0
 HasFault room bytes fault =
-    Always bytes (λ all. (refusal : ReadRefusal) → one_more 0 all ≡ Some refusal → next_of room all ≡ Some (Err (Frame fault)))
+    Always bytes (λ all. (refusal : ReadRefusal) → one_more_of all ≡ Some refusal → next_of room all ≡ Some (Err (Frame fault)))
 
 -- ---- the votes so far
 

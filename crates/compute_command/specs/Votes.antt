@@ -1,6 +1,7 @@
 -- The votes that an input is: one after the other, with nothing but blank lines before, between and after them.
-use Rattle.std.specs.Prelude.{ℕ, zero, suc, List, [], ◌∷◌, ◌++◌, Option, Some, None, Result, Ok, Err, unwrap_or}
-use Rattle.item_terms.specs.Items.{Item, items_from}
+use Rattle.std.specs.Prelude.{ℕ, zero, suc, List, [], ◌∷◌, ◌++◌, drop, Option, Some, None, Result, Ok, Err, unwrap_or}
+use Rattle.std.specs.Option.{option_map}
+use Rattle.item_terms.specs.Items.{Item, items_of}
 use Rattle.item_terms.specs.declared.fault.DocFault.{DocFault}
 use Rattle.frame_terms.specs.declared.fault.FrameFault.{FrameFault}
 use Rattle.frame_terms.specs.declared.fault.FrameReason.TheVariants.{TooMany}
@@ -10,6 +11,7 @@ use Rattle.frame_terms.specs.declared.row.Limit.TheVariants.{Votes}
 use Rattle.frame_terms.specs.Decisions.{first_fault}
 use Rattle.frame_terms.specs.Refusals.{of_doc}
 use Rattle.vote_terms.specs.Votes.{ReadVote}
+use Rattle.vote_doc.specs.Behind.{refusal_behind}
 use Rattle.vote_doc.specs.Reading.{vote_from}
 use Rattle.vote_frame.specs.Tables.{vote_tables}
 
@@ -28,9 +30,13 @@ by_first [] None = None
 by_first [] (Some fault) = Some (of_doc fault)
 by_first (item ∷ items) fault = Some (Frame (item_too_many item))
 
--- nothing where only blank lines follow a place, and else why one more vote is refused
+-- nothing where the bytes are blank lines alone, and else why one more vote is refused that they begin with
+abbrev pub one_more_of : List ℕ → Option ReadRefusal
+one_more_of bytes = by_first (items_of no_limit bytes).items (items_of no_limit bytes).fault
+
+-- nothing where only blank lines follow a place, and else why one more vote is refused there
 abbrev pub one_more : ℕ → List ℕ → Option ReadRefusal
-one_more place bytes = by_first (items_from place no_limit bytes).items (items_from place no_limit bytes).fault
+one_more place bytes = option_map (refusal_behind place) (one_more_of (drop place bytes))
 
 -- ---- the votes
 

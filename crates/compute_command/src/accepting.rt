@@ -5,8 +5,8 @@ ghost use Rattle.key_port.specs.Answers.{rules};
 ghost use Rattle.compute_command.specs.Accepting as words;
 ghost use Rattle.compute_command.specs.Accepting.{Accepts};
 
-use daemon_words::Compute;
-use exit_status::{Refusal, Stop, VoteListRefusal};
+use crate::refusal::AcceptRefusal;
+use daemon_words::{Compute, Stop};
 use key_port::Verifier;
 use std::alloc::Global;
 use vote_doc::{Accepted, CertAnswer, Vote, VoteRefusal, VoteWord, check_vote};
@@ -38,12 +38,12 @@ fn word_of(refusal: VoteRefusal) -> Option<VoteWord>
 }
 
 /// What refusing the vote with this number says.
-pub(crate) fn refused(number: u64, refusal: VoteRefusal) -> Refusal
+pub(crate) fn refused(number: u64, refusal: VoteRefusal) -> AcceptRefusal
     ensures { result ≡ words.refusal_of number refusal }
 {
     match word_of(refusal) {
-        Some(word) => Refusal::Votes(VoteListRefusal::Vote { number, word }),
-        None => Refusal::Verifier,
+        Some(word) => AcceptRefusal::Vote { number, word },
+        None => AcceptRefusal::Verifier,
     }
 }
 
@@ -53,12 +53,12 @@ pub fn accept<V: Verifier>(
     wanted: &Compute,
     votes: Vec<Vote>,
     verifier: &mut V,
-) -> Result<Accepted, Stop>
+) -> Result<Accepted, Stop<AcceptRefusal>>
     requires { vec_len votes < 2 ^ 32 }
     ensures accepts { Accepts (rules V.may_accept V.may_refuse) wanted.now votes.items result }
-    ensures fault { result ≡ Err (Stop.Refused Refusal.Verifier) → Rose (V.faults verifier.old) (V.faults verifier.new) }
+    ensures fault { result ≡ Err (Stop.Refused AcceptRefusal.Verifier) → Rose (V.faults verifier.old) (V.faults verifier.new) }
     ensures faults { V.faults verifier.old ≤ V.faults verifier.new }
-    ensures told { V.faults verifier.old < V.faults verifier.new → result ≡ Err (Stop.Refused Refusal.Verifier) }
+    ensures told { V.faults verifier.old < V.faults verifier.new → result ≡ Err (Stop.Refused AcceptRefusal.Verifier) }
 {
     let mut votes = votes;
     let mut accepted = Accepted::new(alloc, votes.len() as u32)?;

@@ -7,13 +7,12 @@ ghost use Rattle.compute_command.specs.Checked.{TellsOn};
 ghost use Rattle.compute_command.specs.Rests.{HasRest};
 
 use crate::checking::Checking;
+use crate::refusal::EndRefusal;
 use crate::rest::{Rest, Turn};
-use daemon_words::{Compute, Kind};
+use daemon_words::{Compute, Stop};
 use dir_bytes::Memory;
-use exit_status::{DocumentRefusal, Refusal, Stop};
 use key_port::Verifier;
 use std::alloc::Global;
-use std::thread::Threads;
 use vote_doc::Accepted;
 
 /// An input whose bytes arrive, and its votes, which are checked as they end.
@@ -55,9 +54,8 @@ impl Arriving {
     ///
     /// # Errors
     /// `Memory` is want of memory.
-    fn turn<R: Threads, V: Verifier>(
+    fn turn<V: Verifier>(
         self,
-        rt: &R,
         alloc: Global,
         wanted: &Compute,
         piece: &[u8],
@@ -70,7 +68,7 @@ impl Arriving {
             self.votes.first next.0.votes.first) }
     {
         let Arriving { start, rest, votes } = self;
-        match rest.feed(rt, alloc, start, piece)? {
+        match rest.feed(alloc, start, piece)? {
             Turn::On { rest, taken } => Ok((Arriving { start, rest, votes }, taken)),
             Turn::Vote {
                 vote,
@@ -89,9 +87,8 @@ impl Arriving {
     ///
     /// # Errors
     /// `Memory` is want of memory.
-    pub(crate) fn take<R: Threads, V: Verifier>(
+    pub(crate) fn take<V: Verifier>(
         self,
-        rt: &R,
         alloc: Global,
         wanted: &Compute,
         piece: &[u8],
@@ -106,7 +103,7 @@ impl Arriving {
         let mut now = self;
         let mut left = piece;
         'turns: while !left.is_empty() {
-            let (next, taken) = now.turn(rt, alloc, wanted, left, verifier)?;
+            let (next, taken) = now.turn(alloc, wanted, left, verifier)?;
             now = next;
             left = &left[taken..];
         }
@@ -118,18 +115,18 @@ impl Arriving {
     ///
     /// # Errors
     /// `Refused` is why there are none. `Memory` is want of memory.
-    pub(crate) fn end(self, alloc: Global) -> Result<Accepted, Stop>
+    pub(crate) fn end(self) -> Result<Accepted, Stop<EndRefusal>>
         requires { HasRest self.start self.rest 0 }
         ensures ends { EndsAll self result }
         ensures first { TellsEnd self.votes.first result }
     {
         let Arriving { start, rest, votes } = self;
-        match rest.finish(alloc, start)? {
-            Some(fault) => {
-                let kind = Kind::Vote;
-                Err(Stop::Refused(Refusal::Document(DocumentRefusal { kind, fault })))
-            }
-            None => votes.end(),
+        match rest.finish(start)? {
+            Some(fault) => Err(Stop::Refused(EndRefusal::Fault(fault))),
+            None => match votes.end() {
+                Ok(accepted) => Ok(accepted),
+                Err(why) => Err(Stop::Refused(EndRefusal::Votes(why))),
+            },
         }
     }
 }

@@ -2,7 +2,7 @@
 ghost use Rattle.std.specs.Prelude.{◌≡◌, ◌++◌, ◌+◌, ◌<◌, ◌^◌, [], length, IfOk, IfSome, OnOk};
 ghost use Rattle.std.specs.Option.{option_map};
 ghost use Rattle.compute_command.specs.Beyonds as terms;
-ghost use Rattle.moved_documents.specs.Moving.{moved_fault};
+ghost use Rattle.vote_doc.specs.Behind.{fault_behind};
 ghost use Rattle.compute_command.specs.Beyonds.{EndsBeyond, HasTooMany};
 ghost use Rattle.compute_command.specs.Furthers.{IsFurther};
 
@@ -48,7 +48,7 @@ fn fault_of(taken: Take<'_>) -> Option<FrameFault>
 /// A fault so many bytes further on.
 fn further(start: u64, fault: Option<FrameFault>) -> Option<FrameFault>
     requires { IfSome fault (λ own. start + own.place < 2 ^ 64) }
-    ensures { result ≡ option_map (moved_fault start) fault }
+    ensures { result ≡ option_map (fault_behind start) fault }
 {
     match fault {
         Some(fault) => Some(FrameFault {

@@ -7,13 +7,12 @@ ghost use Rattle.compute_command.specs.Votes.{most_votes};
 
 use crate::accepting::refused;
 use crate::most_votes::MOST_VOTES;
+use crate::refusal::AcceptRefusal;
 use daemon_words::Compute;
 use dir_bytes::Memory;
-use exit_status::{Refusal, Stop};
-use hashed_feed::HashedVote;
 use key_port::Verifier;
 use std::alloc::Global;
-use vote_doc::{Accepted, check_vote};
+use vote_doc::{Accepted, Vote, check_vote};
 
 /// Votes that were checked in their order as they came.
 #[derive(Drop)]
@@ -21,7 +20,7 @@ pub(crate) struct Checking {
     /// Those that are held.
     pub(crate) kept: Accepted,
     /// Why the first is refused that is. None behind it is checked.
-    pub(crate) first: Option<Refusal>,
+    pub(crate) first: Option<AcceptRefusal>,
     /// How many came.
     pub(crate) count: u64,
 }
@@ -51,12 +50,7 @@ impl Checking {
     }
 
     /// Checks one vote more, unless one before it is refused, and holds it. Takes no memory.
-    pub(crate) fn check<V: Verifier>(
-        &mut self,
-        wanted: &Compute,
-        vote: HashedVote,
-        verifier: &mut V,
-    )
+    pub(crate) fn check<V: Verifier>(&mut self, wanted: &Compute, vote: Vote, verifier: &mut V)
         requires few { self.old.count < most_votes }
         requires room { HasRoom self.old.count self.old.kept }
         ensures checked { OneMoreChecked (rules V.may_accept V.may_refuse) wanted.now vote self.old self.new }
@@ -66,21 +60,20 @@ impl Checking {
         if self.first.is_some() {
             return;
         }
-        let (vote, whole) = vote.into_parts();
         match check_vote(vote, &wanted.roster, wanted.valid_after, verifier) {
             Ok(checked) => {
-                let _ = self.kept.place(checked.into_held_with(whole));
+                let _ = self.kept.place(checked.into_held());
             }
             Err(refusal) => self.first = Some(refused(self.count, refusal)),
         }
     }
 
     /// The held votes where no more come, or why one is refused.
-    pub(crate) fn end(self) -> Result<Accepted, Stop>
+    pub(crate) fn end(self) -> Result<Accepted, AcceptRefusal>
         ensures { result ≡ terms.end_by self.kept self.first }
     {
         match self.first {
-            Some(refusal) => Err(Stop::Refused(refusal)),
+            Some(refusal) => Err(refusal),
             None => Ok(self.kept),
         }
     }

@@ -2,26 +2,29 @@
 ghost use Rattle.std.specs.Prelude.{◌≡◌, IfOk};
 ghost use Rattle.consensus_calc.specs.Calculating.{HasMoments};
 ghost use Rattle.compute_command.specs.Answers.{texts_of};
-ghost use Rattle.compute_command.specs.Private.{GivesConsensus, WritesText};
+ghost use Rattle.compute_command.specs.Private.{WritesText};
 
-use consensus_calc::CalcFault;
+use consensus_calc::{CalcFault, compute};
 use consensus_terms::{Consensus, Flavour};
 use consensus_text::{unsigned, unsigned_both};
 use daemon_words::{Compute, Flavours};
 use dir_bytes::Memory;
-use exit_status::{Refusal, Stop, VoteListRefusal};
 use std::alloc::Global;
 use vote_doc::Accepted;
 
 /// The texts of the consensus of the held votes in the flavours that are wanted, or why there are none.
 ///
 /// # Errors
-/// `Refused` where they are not of more than half of the roster. `Memory` is want of memory.
-pub(crate) fn text_of(alloc: Global, wanted: &Compute, accepted: &Accepted) -> Result<Vec<u8>, Stop>
+/// `TooFew` where they are not of more than half of the roster. `Memory` is want of memory.
+pub(crate) fn text_of(
+    alloc: Global,
+    wanted: &Compute,
+    accepted: &Accepted,
+) -> Result<Vec<u8>, CalcFault>
     ensures { WritesText wanted.now accepted.now.votes result }
 {
     let roster = wanted.roster.len() as u32;
-    let consensus = consensus_of(alloc, roster, accepted)?;
+    let consensus = compute(alloc, roster, accepted)?;
     let text = texts_of(alloc, &consensus, wanted.flavours)?;
     Ok(text)
 }
@@ -35,20 +38,5 @@ fn texts_of(alloc: Global, consensus: &Consensus, flavours: Flavours) -> Result<
         Flavours::Ns => unsigned(alloc, consensus, Flavour::Ns),
         Flavours::Microdesc => unsigned(alloc, consensus, Flavour::Microdesc),
         Flavours::Both => unsigned_both(alloc, consensus),
-    }
-}
-
-/// The consensus of the held votes, where the roster has so many authorities, or why the command stops.
-fn consensus_of(alloc: Global, roster: u32, votes: &Accepted) -> Result<Consensus, Stop>
-    ensures calculates { GivesConsensus roster votes.now.votes result }
-    ensures moments { IfOk result (λ consensus. HasMoments consensus.facts) }
-{
-    match consensus_calc::compute(alloc, roster, votes) {
-        Ok(consensus) => Ok(consensus),
-        Err(CalcFault::TooFew { held, roster }) => {
-            let few = VoteListRefusal::TooFew { held, roster };
-            Err(Stop::Refused(Refusal::Votes(few)))
-        }
-        Err(CalcFault::Memory) => Err(Stop::Memory),
     }
 }

@@ -3,25 +3,23 @@ ghost use Rattle.std.specs.Prelude.{◌≡◌, ◌≤◌, ◌<◌, ◌+◌, ◌^
 ghost use Rattle.dir_bytes.specs.Causes.{Rose};
 ghost use Rattle.dir_bytes.specs.Streams.{TakesAtMost};
 ghost use Rattle.key_port.specs.Answers.{rules};
-ghost use Rattle.compute_command.specs.Arriving.{ComputesFrom, HasReadVotes, RefusesForVotes, StopsReading};
+ghost use Rattle.compute_command.specs.Arriving.{ComputesFrom, HasReadVotes, StopsReading};
 ghost use Rattle.compute_command.specs.Arriving.{TellsRead, TellsVerifier};
 
 use crate::arriving::Arriving;
 use crate::consensus::text_of;
 use crate::halt::Halt;
-use daemon_words::Compute;
+use crate::refusal::ComputeRefusal;
+use daemon_words::{Compute, Stop};
 use dir_bytes::{ReadAnswer, Source};
-use exit_status::{Refusal, Stop};
 use key_port::Verifier;
 use std::alloc::Global;
-use std::thread::Threads;
 
 /// The input of a source, read to its end, of which each vote was checked as it ended.
 ///
 /// # Errors
 /// `TooLong` where it has more bytes than `limit`; `ReadFault` where the source failed; `Stops` is want of memory.
-fn read_votes<R: Threads, S: Source, V: Verifier>(
-    rt: &R,
+fn read_votes<S: Source, V: Verifier>(
     alloc: Global,
     wanted: &Compute,
     source: &mut S,
@@ -46,7 +44,7 @@ fn read_votes<R: Threads, S: Source, V: Verifier>(
                     return Err(Halt::TooLong);
                 }
                 room -= count as u64;
-                arriving = arriving.take(rt, alloc, wanted, &piece[..count], verifier)?;
+                arriving = arriving.take(alloc, wanted, &piece[..count], verifier)?;
             }
             ReadAnswer::End => return Ok(arriving),
             ReadAnswer::Failed => return Err(Halt::ReadFault),
@@ -55,16 +53,15 @@ fn read_votes<R: Threads, S: Source, V: Verifier>(
 }
 
 /// The unsigned texts of the consensus of the votes that a source has, in the flavours that are wanted, or why there is
-/// none. There may be up to `limit` bytes. Each vote is hashed while it is read, and checked as it ends, before the source
-/// is asked again; none is checked behind one that is refused, or behind a fault. One vote is kept for each authority, and
-/// the bytes behind the last vote that was read.
+/// none. There may be up to `limit` bytes. Each vote is checked as it ends, before the source is asked again; none is
+/// checked behind one that is refused, or behind a fault. One vote is kept for each authority, and the bytes behind the
+/// last vote that was read.
 ///
 /// # Errors
-/// By the first that applies: `ReadFault`, where the source failed; `TooLong`; and `Stops`: `Document`, the input's first
+/// By the first that applies: `ReadFault`, where the source failed; `TooLong`; and `Stops`: `Fault`, the input's first
 /// fault; `Vote`, the first vote that is not acceptable, or `Verifier` where its count of faults rose; `TooFew`. `Memory`
 /// is want of memory.
-pub fn compute_from<R: Threads, S: Source, V: Verifier>(
-    rt: &R,
+pub fn compute_from<S: Source, V: Verifier>(
     alloc: Global,
     wanted: &Compute,
     source: &mut S,
@@ -73,17 +70,15 @@ pub fn compute_from<R: Threads, S: Source, V: Verifier>(
 ) -> Result<Vec<u8>, Halt>
     requires { limit < 2 ^ 60 }
     ensures answer { ComputesFrom (rules V.may_accept V.may_refuse) wanted.now (S.left source.old) (S.left source.new) limit result }
-    // Also where the source does not tell, an input is refused for its votes alone.
-    ensures kinds { RefusesForVotes result }
     // An input that was not read to its end had bytes taken off the front: at most the limit, and one piece.
     ensures stops { StopsReading (S.left source.old) (S.left source.new) (limit + 65536) result }
     ensures fault { result ≡ Err Halt.ReadFault → Rose (S.faults source.old) (S.faults source.new) }
     ensures told { S.faults source.old < S.faults source.new → result ≡ Err Halt.ReadFault }
-    ensures verifier_fault { result ≡ Err (Halt.Stops (Stop.Refused Refusal.Verifier)) → Rose (V.faults verifier.old) (V.faults verifier.new) }
+    ensures verifier_fault { result ≡ Err (Halt.Stops (Stop.Refused ComputeRefusal.Verifier)) → Rose (V.faults verifier.old) (V.faults verifier.new) }
     ensures verifier_told { V.faults verifier.old < V.faults verifier.new → TellsVerifier result }
 {
-    let arriving = read_votes(rt, alloc, wanted, source, limit, verifier)?;
-    let accepted = arriving.end(alloc)?;
+    let arriving = read_votes(alloc, wanted, source, limit, verifier)?;
+    let accepted = arriving.end()?;
     let text = text_of(alloc, wanted, &accepted)?;
     Ok(text)
 }

@@ -7,12 +7,13 @@ mod beyond;
 mod checking;
 mod consensus;
 mod from_source;
-mod further;
 mod halt;
 mod most_votes;
+mod refusal;
 mod rest;
 mod tail;
 
 pub use accepting::accept;
 pub use from_source::compute_from;
 pub use halt::Halt;
+pub use refusal::{AcceptRefusal, ComputeRefusal, VoteListRefusal};

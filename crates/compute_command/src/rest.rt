@@ -7,20 +7,18 @@ ghost use Rattle.compute_command.specs.Rests.{AnswersEnd, HasNoVote, HasRest, Is
 ghost use Rattle.compute_command.specs.Tails.{tail_of};
 
 use crate::beyond::Beyond;
-use crate::further::fault_behind;
 use crate::tail::{Tail, tail_after};
 use dir_bytes::Memory;
 use frame_terms::{FrameFault, ReadRefusal};
-use hashed_feed::{HashedFeeder, HashedVote};
 use std::alloc::Global;
-use std::thread::Threads;
-use vote_feed::Fed;
+use vote_doc::Vote;
+use vote_feed::{Fed, VoteFeeder};
 
 /// What is known of the bytes behind the votes that were read, as one vote more.
 #[derive(Drop)]
 pub(crate) enum Stage {
     /// They may begin one, and nothing is known of it.
-    Reading(HashedFeeder),
+    Reading(VoteFeeder),
     /// They may begin none, since there are as many votes as there may be.
     Full(Beyond),
     /// They have this fault, if they are no blank lines alone, whatever follows. Its place counts from the input's
@@ -48,7 +46,7 @@ pub(crate) enum Turn {
     },
     /// A vote ended.
     Vote {
-        vote: HashedVote,
+        vote: Vote,
         /// So many bytes it has, with the blank lines before it.
         length: usize,
         /// So many of the bytes were taken.
@@ -60,7 +58,7 @@ pub(crate) enum Turn {
 ///
 /// # Errors
 /// `Memory` is want of memory.
-fn whole_vote(feeder: HashedFeeder) -> Result<(HashedVote, usize), Memory>
+fn whole_vote(feeder: VoteFeeder) -> Result<(Vote, usize), Memory>
     requires { IsWhole feeder }
     ensures { IfOk result (λ read. IsVoteOf feeder read) }
 {
@@ -75,13 +73,19 @@ fn whole_vote(feeder: HashedFeeder) -> Result<(HashedVote, usize), Memory>
 ///
 /// # Errors
 /// `Memory` is want of memory.
-fn vote_fault(alloc: Global, start: u64, feeder: HashedFeeder) -> Result<FrameFault, Memory>
+fn vote_fault(start: u64, feeder: VoteFeeder) -> Result<FrameFault, Memory>
     requires none { HasNoVote feeder }
     requires short { start + length feeder < 2 ^ 61 }
     ensures { IfOk result (λ fault. IsFurther start (λ own. IsFaultOf feeder own) fault) }
 {
-    let bytes = feeder.into_bytes()?;
-    fault_behind(alloc, start, &bytes)
+    match feeder.finish() {
+        Err(ReadRefusal::Frame(fault)) => Ok(FrameFault {
+            place: start + fault.place,
+            reason: fault.reason,
+        }),
+        Err(ReadRefusal::Memory) => Err(Memory),
+        Ok(_) => unreachable!(),
+    }
 }
 
 /// All of these bytes are taken, and no vote ends.
@@ -99,12 +103,11 @@ fn on(tail: Tail, stage: Stage, piece: &[u8]) -> Turn
 ///
 /// # Errors
 /// `Memory` is want of memory.
-fn read_on<R: Threads>(
-    rt: &R,
+fn read_on(
     alloc: Global,
     start: u64,
     tail: Tail,
-    feeder: HashedFeeder,
+    feeder: VoteFeeder,
     piece: &[u8],
 ) -> Result<Turn, Memory>
     requires open_ { IsOpen feeder }
@@ -113,7 +116,7 @@ fn read_on<R: Threads>(
         → IfOk result (λ turn. Turns start room feeder piece.now turn) }
 {
     let mut feeder = feeder;
-    match feeder.feed(rt, piece)? {
+    match feeder.feed(piece)? {
         Fed::All => Ok(on(tail, Stage::Reading(feeder), piece)),
         Fed::Whole { taken } => {
             let (vote, length) = whole_vote(feeder)?;
@@ -124,7 +127,7 @@ fn read_on<R: Threads>(
             })
         }
         Fed::Fault { taken } => {
-            let fault = vote_fault(alloc, start, feeder)?;
+            let fault = vote_fault(start, feeder)?;
             Ok(on(tail, Stage::Faulted(fault), &piece[..taken]))
         }
     }
@@ -159,7 +162,7 @@ impl Rest {
             let stage = Stage::Full(Beyond::new(alloc));
             return Ok(Rest { tail, stage });
         }
-        let stage = Stage::Reading(HashedFeeder::new(alloc)?);
+        let stage = Stage::Reading(VoteFeeder::new(alloc)?);
         Ok(Rest { tail, stage })
     }
 
@@ -167,13 +170,7 @@ impl Rest {
     ///
     /// # Errors
     /// `Memory` is want of memory.
-    pub(crate) fn feed<R: Threads>(
-        self,
-        rt: &R,
-        alloc: Global,
-        start: u64,
-        piece: &[u8],
-    ) -> Result<Turn, Memory>
+    pub(crate) fn feed(self, alloc: Global, start: u64, piece: &[u8]) -> Result<Turn, Memory>
         requires { HasRest start self (length piece.now) }
         ensures { (room : ℕ) (bytes : List ℕ) → IsRest start room bytes self
             → start + length bytes + length piece.now < 2 ^ 61
@@ -181,7 +178,7 @@ impl Rest {
     {
         let Rest { tail, stage } = self;
         match stage {
-            Stage::Reading(feeder) => read_on(rt, alloc, start, tail, feeder, piece),
+            Stage::Reading(feeder) => read_on(alloc, start, tail, feeder, piece),
             Stage::Full(beyond) => look_on(start, tail, beyond, piece),
             Stage::Faulted(fault) => Ok(on(tail, Stage::Faulted(fault), piece)),
         }
@@ -191,7 +188,7 @@ impl Rest {
     ///
     /// # Errors
     /// `Memory` is want of memory.
-    pub(crate) fn finish(self, alloc: Global, start: u64) -> Result<Option<FrameFault>, Memory>
+    pub(crate) fn finish(self, start: u64) -> Result<Option<FrameFault>, Memory>
         requires { HasRest start self 0 }
         ensures { (room : ℕ) (bytes : List ℕ) → IsRest start room bytes self → start + length bytes < 2 ^ 61
             → IfOk result (λ fault. AnswersEnd start room bytes fault) }
@@ -201,7 +198,7 @@ impl Rest {
             return Ok(None);
         }
         match stage {
-            Stage::Reading(feeder) => Ok(Some(vote_fault(alloc, start, feeder)?)),
+            Stage::Reading(feeder) => Ok(Some(vote_fault(start, feeder)?)),
             Stage::Full(beyond) => Ok(beyond.finish(start)),
             Stage::Faulted(fault) => Ok(Some(fault)),
         }

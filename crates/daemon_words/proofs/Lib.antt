@@ -5,3 +5,4 @@ pub mod Rehearsed
 pub mod Reported
 pub mod Served
 pub mod Bounds
+pub mod WentOn

@@ -6,3 +6,4 @@ pub mod Serving
 pub mod Lending
 pub mod Values
 pub mod Words
+pub mod Stops

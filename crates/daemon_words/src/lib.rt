@@ -1,4 +1,4 @@
-//! The words of the program: which command they give, with which options.
+//! The words of the program: which command they give, with which options; and why a call of a command gives nothing.
 #![tactic(auto)]
 
 mod command;
@@ -7,6 +7,7 @@ mod keys;
 mod rehearsal;
 mod report;
 mod serving;
+mod stop;
 mod values;
 
 pub use command::{Command, Compute, Flavours, Kind, Measures, Subject, command_of};
@@ -14,3 +15,4 @@ pub use keys::{Keys, keys_of};
 pub use rehearsal::Rehearse;
 pub use report::Report;
 pub use serving::Serve;
+pub use stop::{DocumentRefusal, Stop, of_kind};

@@ -1,3 +1,2 @@
 pub mod NotRefused
 pub mod MadeOf
-pub mod ReadFiles

@@ -12,15 +12,15 @@ use Rattle.frame_terms.specs.Refusals.{Fails}
 use Rattle.document_commands.specs.Ends.{ComesOf, EndsAs, refusal_of}
 
 module _ {S V F D : Type 0} where
-  -- What is kept of sections and makes a value comes of them.
+  -- What is kept of sections, and the place after them, make a value that comes of them.
   pub comes_of : (fault_of : FrameFault → FrameFault) (wrap : Result (F × ℕ) ReadRefusal → Result (D × ℕ) ReadRefusal)
-      (value : F → D) → ((kept : F) (n : ℕ) → wrap (Ok (kept, n)) ≡ Ok (value kept, n))
+      (value : F → ℕ → D) → ((kept : F) (n : ℕ) → wrap (Ok (kept, n)) ≡ Ok (value kept n, n))
       → ((fault : FrameFault) → wrap (Err (Frame fault)) ≡ Err (Frame (fault_of fault)))
       → (with_ : F → S → List (Taken V) → F) (facts : F) (made : Result (Document S V) ReadRefusal)
       → ComesOf fault_of made (wrap (finish with_ facts made))
   comes_of fault_of wrap value makes tells with_ facts (Ok document) =
       let kept = fold (λ k (group : Group S V). with_ k group.section group.taken) facts document.groups in
-      (value kept, makes kept document.used)
+      (value kept document.used, makes kept document.used)
   comes_of fault_of wrap value makes tells with_ facts (Err (Frame fault)) = tells fault
   comes_of fault_of wrap value makes tells with_ facts (Err Memory) = tt
 

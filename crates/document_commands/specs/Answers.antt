@@ -16,9 +16,13 @@ use Rattle.bandwidth_file.specs.Texts as file
 use Rattle.daemon_words.specs.declared.command.Kind.{Kind}
 use Rattle.daemon_words.specs.declared.command.Subject.{Subject}
 use Rattle.daemon_words.specs.declared.command.Subject.TheVariants as subject
-use Rattle.exit_status.specs.declared.status.Refusal.{Refusal}
-use Rattle.exit_status.specs.declared.status.Refusal.TheVariants as refusal
+use Rattle.bandwidth_file.specs.declared.refusal.BandFault.{BandFault}
+use Rattle.daemon_words.specs.Stops.{AnsweredAs, told_as}
+use Rattle.daemon_words.specs.declared.stop.DocumentRefusal.{DocumentRefusal}
+use Rattle.daemon_words.specs.declared.stop.Stop.{Stop}
 use Rattle.document_commands.specs.BandwidthFiles.{FileAnswers}
+use Rattle.document_commands.specs.declared.refusal.SubjectRefusal.{SubjectRefusal}
+use Rattle.document_commands.specs.declared.refusal.SubjectRefusal.TheVariants as refusal
 use Rattle.document_commands.specs.Documents.{Document, cert, consensus, descriptor, detached, document_of, micro, vote}
 
 -- A document was read, and the text is that of it.
@@ -27,11 +31,11 @@ pub record Tells {D : Type 0} (text_of : D → List ℕ) (read : Result D ReadRe
   pub is : read ≡ Ok document
   pub written : text ≡ text_of document
 
--- what a command answers that tells something of what was read: a text, or the first fault, and no other refusal
-abbrev pub ReadAnswers : {D : Type 0} → (D → List ℕ) → Kind → Result D ReadRefusal → Result (List ℕ) Refusal → Type 0
+-- what a command answers that tells something of what was read: a text, or the first fault
+abbrev pub ReadAnswers : {D : Type 0} → (D → List ℕ) → Kind → Result D ReadRefusal → Result (List ℕ) DocumentRefusal
+    → Type 0
 ReadAnswers text_of kind read (Ok text) = Tells text_of read text
-ReadAnswers text_of kind read (Err (refusal.Document why)) = (why.kind ≡ kind) × (read ≡ Err (Frame why.fault))
-ReadAnswers text_of kind read (Err _) = ⊥
+ReadAnswers text_of kind read (Err why) = (why.kind ≡ kind) × (read ≡ Err (Frame why.fault))
 
 -- what `check` says of a document that is one
 abbrev pub check_text : {D : Type 0} → D → List ℕ
@@ -46,15 +50,30 @@ canonical_text (descriptor read) = descriptor_text read
 canonical_text (micro read) = micro_text read
 canonical_text (detached read) = detached_text read
 
+-- that the input is no document, or no bandwidth file
+abbrev pub by_document : DocumentRefusal → SubjectRefusal
+by_document why = refusal.Document why
+
+abbrev pub of_document : Stop DocumentRefusal → Stop SubjectRefusal
+of_document given = told_as by_document given
+
+abbrev pub by_file : BandFault → SubjectRefusal
+by_file fault = refusal.File fault
+
+abbrev pub of_file : Stop BandFault → Stop SubjectRefusal
+of_file given = told_as by_file given
+
 -- what `check` answers
-abbrev pub CheckAnswers : Subject → List ℕ → Result (List ℕ) Refusal → Type 0
-CheckAnswers (subject.Document kind) bytes answer = ReadAnswers check_text kind (document_of kind bytes) answer
-CheckAnswers subject.BandwidthFile bytes answer = FileAnswers check_text bytes answer
+abbrev pub CheckAnswers : Subject → List ℕ → Result (List ℕ) SubjectRefusal → Type 0
+CheckAnswers (subject.Document kind) bytes answer =
+    AnsweredAs by_document (ReadAnswers check_text kind (document_of kind bytes)) answer
+CheckAnswers subject.BandwidthFile bytes answer = AnsweredAs by_file (FileAnswers check_text bytes) answer
 
 -- what `show` answers
-abbrev pub ShowAnswers : Subject → List ℕ → Result (List ℕ) Refusal → Type 0
-ShowAnswers (subject.Document kind) bytes answer = ReadAnswers canonical_text kind (document_of kind bytes) answer
-ShowAnswers subject.BandwidthFile bytes answer = FileAnswers file.text_of bytes answer
+abbrev pub ShowAnswers : Subject → List ℕ → Result (List ℕ) SubjectRefusal → Type 0
+ShowAnswers (subject.Document kind) bytes answer =
+    AnsweredAs by_document (ReadAnswers canonical_text kind (document_of kind bytes)) answer
+ShowAnswers subject.BandwidthFile bytes answer = AnsweredAs by_file (FileAnswers file.text_of bytes) answer
 
 -- The input is one document of this kind.
 pub record IsDocument (kind : Kind) (bytes : List ℕ) : Type 0 where

@@ -1,13 +1,14 @@
 -- What the private functions of this crate return.
-use Rattle.std.specs.Prelude.{◌≡◌, ◌≤◌, List, ℕ, Result, Ok, Err}
-use Rattle.bandwidth_file.specs.Files.{IsBandFile}
+use Rattle.std.specs.Prelude.{◌≡◌, ◌≤◌, List, ℕ, Some, Result, Ok, Err}
+use Rattle.item_terms.specs.Lines.{lines}
+use Rattle.bandwidth_file.specs.Files.{IsBandFile, first_fault}
 use Rattle.bandwidth_file.specs.declared.file.BandFile.{BandFile}
-use Rattle.exit_status.specs.declared.stop.Stop.{Stop}
-use Rattle.exit_status.specs.declared.stop.Stop.TheVariants as stop
+use Rattle.bandwidth_file.specs.declared.refusal.BandFault.{BandFault}
+use Rattle.daemon_words.specs.declared.stop.Stop.{Stop}
+use Rattle.daemon_words.specs.declared.stop.Stop.TheVariants as stop
 use Rattle.frame_terms.specs.declared.fault.FrameFault.{FrameFault}
 use Rattle.frame_terms.specs.declared.fault.ReadRefusal.{ReadRefusal}
 use Rattle.frame_terms.specs.Refusals.{Fails}
-use Rattle.document_commands.specs.BandwidthFiles.{RefusesFile}
 use Rattle.document_commands.specs.Ends.{refusal_of}
 
 -- what was read is the document, or the refusal is its fault
@@ -27,7 +28,7 @@ ReadsFirst fault_of read most (Ok (document, used)) = (read ≡ Ok (document, us
 ReadsFirst fault_of read most (Err refusal) = Fails (refusal_of fault_of refusal) read
 
 -- what was read is the bandwidth file, or the refusal is its first fault
-abbrev pub ReadsFile : List ℕ → Result BandFile Stop → Type 0
+abbrev pub ReadsFile : List ℕ → Result BandFile (Stop BandFault) → Type 0
 ReadsFile bytes (Ok file) = IsBandFile bytes file
-ReadsFile bytes (Err (stop.Refused why)) = RefusesFile bytes why
+ReadsFile bytes (Err (stop.Refused fault)) = first_fault (lines bytes) ≡ Some fault
 ReadsFile bytes (Err stop.Memory) = Unit {0}

@@ -11,6 +11,8 @@ mod ends;
 mod micro;
 mod next_micro;
 mod one;
+mod refusal;
 mod vote;
 
 pub use commands::{check, show};
+pub use refusal::SubjectRefusal;

@@ -4,7 +4,7 @@ ghost use Rattle.item_terms.specs.Items.{items_of};
 ghost use Rattle.frame_terms.specs.declared.fault.FrameFault.{FrameFault};
 ghost use Rattle.frame_terms.specs.declared.fault.ReadRefusal.{ReadRefusal};
 ghost use Rattle.frame_terms.specs.Documents.{document_of};
-ghost use Rattle.exit_status.specs.Stops.{Answered};
+ghost use Rattle.daemon_words.specs.Stops.{Answered};
 ghost use Rattle.document_commands.specs.Answers.{ReadAnswers, check_text};
 ghost use Rattle.blank_lines.specs.Blanks as blanks;
 ghost use Rattle.document_commands.specs.Documents as documents;
@@ -14,9 +14,8 @@ ghost use Rattle.document_commands.specs.Private.{IsOne, ReadsFirst, ReadsOne};
 use crate::ends::{end_of, refusal_of};
 use blank_lines::after_blanks;
 use bytes::Bytes;
-use daemon_words::Kind;
+use daemon_words::{DocumentRefusal, Kind, Stop, of_kind};
 use dir_bytes::Memory;
-use exit_status::{Stop, of_kind};
 use frame_reader::Frame;
 use frame_terms::{FrameFault, FrameReason, ReadRefusal};
 use std::alloc::Global;
@@ -77,7 +76,11 @@ pub trait Document: Drop {
 }
 
 /// `ok`, where the input is one document.
-pub fn check_one<D: Document>(alloc: Global, kind: Kind, bytes: &Bytes) -> Result<Vec<u8>, Stop>
+pub fn check_one<D: Document>(
+    alloc: Global,
+    kind: Kind,
+    bytes: &Bytes,
+) -> Result<Vec<u8>, Stop<DocumentRefusal>>
     requires { length bytes.now < 2 ^ 61 }
     ensures { Answered (ReadAnswers check_text kind (documents.whole bytes.now (D.read_of bytes.now))) result }
 {
@@ -87,7 +90,11 @@ pub fn check_one<D: Document>(alloc: Global, kind: Kind, bytes: &Bytes) -> Resul
 }
 
 /// The canonical text of the one document that the input is.
-pub fn show_one<D: Document>(alloc: Global, kind: Kind, bytes: &Bytes) -> Result<Vec<u8>, Stop>
+pub fn show_one<D: Document>(
+    alloc: Global,
+    kind: Kind,
+    bytes: &Bytes,
+) -> Result<Vec<u8>, Stop<DocumentRefusal>>
     requires { length bytes.now < 2 ^ 61 }
     ensures { Answered (ReadAnswers D.text_of kind (documents.whole bytes.now (D.read_of bytes.now))) result }
 {

@@ -30,7 +30,7 @@ impl Document for Vote {
     }
 
     fn read(alloc: Global, bytes: &Bytes) -> Result<(Vote, usize), ReadRefusal> {
-        vote_doc::read(alloc, bytes, 0)
+        vote_doc::read(alloc, bytes)
     }
 
     fn fault(_: &[u8], fault: FrameFault) -> FrameFault {

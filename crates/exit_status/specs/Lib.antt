@@ -6,4 +6,4 @@ pub mod BandwidthLines
 pub mod StationLines
 pub mod ReportLines
 pub mod Lines
-pub mod Stops
+pub mod Told

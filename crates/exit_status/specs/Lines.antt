@@ -11,11 +11,12 @@ use Rattle.exit_status.specs.declared.status.Refusal.TheVariants as refusal
 use Rattle.exit_status.specs.declared.status.Status.{Status}
 use Rattle.exit_status.specs.declared.status.Status.TheVariants as status
 
--- the parts of a refusal's line: a line for each family of commands
+-- the parts of a refusal's line: a line for each family of reasons
 abbrev pub refusal_parts : Refusal → List (List ℕ)
 refusal_parts (refusal.Document why) = fault_parts (document_limit why.kind) why.fault.place why.fault.reason
 refusal_parts (refusal.Votes why) = votes_parts why
 refusal_parts (refusal.Station why) = station_parts why
+refusal_parts refusal.MadeVote = codes "limit vote 16777216" ∷ end ∷ []
 refusal_parts (refusal.Report why) = report_parts why
 refusal_parts refusal.Verifier = codes "verifier fault" ∷ end ∷ []
 refusal_parts (refusal.Bandwidth why) = bandwidth_parts why
@@ -38,11 +39,12 @@ line_of given = joined (parts given)
 
 -- ---- numbers
 
--- the number of a refusal: a line for each family of commands
+-- the number of a refusal: a line for each family of reasons
 abbrev pub refusal_number : Refusal → ℕ
 refusal_number (refusal.Document why) = fault_number why.fault.reason
 refusal_number (refusal.Votes why) = votes_number why
 refusal_number (refusal.Station why) = station_number why
+refusal_number refusal.MadeVote = 9
 refusal_number (refusal.Report why) = report_number why
 refusal_number refusal.Verifier = 8
 refusal_number (refusal.Bandwidth why) = bandwidth_number why

@@ -1,23 +1,22 @@
--- Why no vote is made of what a station is given: the line and the number of each reason.
+-- Why a station can make no vote: the line and the number of each reason.
 use Rattle.std.specs.Prelude.{ℕ, List, [], ◌∷◌, codes, decimal}
-use Rattle.exit_status.specs.DocumentLines.{fault_number, fault_parts}
+use Rattle.daemon_words.specs.declared.command.Kind.TheVariants as kind
+use Rattle.station_commands.specs.declared.refusal.CertWord.{CertWord}
+use Rattle.station_commands.specs.declared.refusal.CertWord.TheVariants as cert
+use Rattle.station_commands.specs.declared.refusal.DescriptorWord.{DescriptorWord}
+use Rattle.station_commands.specs.declared.refusal.DescriptorWord.TheVariants as descriptor
+use Rattle.station_commands.specs.declared.refusal.OrderWord.{OrderWord}
+use Rattle.station_commands.specs.declared.refusal.OrderWord.TheVariants as word
+use Rattle.station_commands.specs.declared.refusal.StationRefusal.{StationRefusal}
+use Rattle.station_commands.specs.declared.refusal.StationRefusal.TheVariants as station
+use Rattle.exit_status.specs.DocumentLines.{document_limit, fault_number, fault_parts}
 use Rattle.exit_status.specs.Parts.{end}
-use Rattle.exit_status.specs.declared.station_refusal.CertWord.{CertWord}
-use Rattle.exit_status.specs.declared.station_refusal.CertWord.TheVariants as cert
-use Rattle.exit_status.specs.declared.station_refusal.DescriptorWord.{DescriptorWord}
-use Rattle.exit_status.specs.declared.station_refusal.DescriptorWord.TheVariants as descriptor
-use Rattle.exit_status.specs.declared.station_refusal.StationRefusal.{StationRefusal}
-use Rattle.exit_status.specs.declared.station_refusal.StationRefusal.TheVariants as station
-use Rattle.exit_status.specs.declared.station_refusal.StationWord.{StationWord}
-use Rattle.exit_status.specs.declared.station_refusal.StationWord.TheVariants as word
 
 -- the word of a line for what is wrong with what a station is given
-abbrev pub station_text : StationWord → List ℕ
-station_text word.Roster = codes "roster"
-station_text word.Schedule = codes "schedule"
-station_text word.Own = codes "own"
-station_text word.Pool = codes "pool"
-station_text word.EndOfTime = codes "end of time"
+abbrev pub order_text : OrderWord → List ℕ
+order_text word.Roster = codes "roster"
+order_text word.Schedule = codes "schedule"
+order_text word.Own = codes "own"
 
 -- the word of a line for the clause that a descriptor fails
 abbrev pub descriptor_text : DescriptorWord → List ℕ
@@ -41,18 +40,26 @@ descriptor_parts number why =
 abbrev pub station_limit : List ℕ
 station_limit = codes "input 268435456"
 
--- why no vote is made
+-- what is wrong with what a station is given, or with the time
+abbrev pub word_parts : List ℕ → List (List ℕ)
+word_parts why = codes "station refused: " ∷ why ∷ end ∷ []
+
+-- why a station can make no vote
 abbrev pub station_parts : StationRefusal → List (List ℕ)
 station_parts (station.Fault fault) = fault_parts station_limit fault.place fault.reason
-station_parts (station.Word why) = codes "station refused: " ∷ station_text why ∷ end ∷ []
+station_parts (station.Order why) = word_parts (order_text why)
+station_parts (station.NoDescriptor fault) = fault_parts (document_limit kind.Descriptor) fault.place fault.reason
 station_parts (station.Descriptor number why) = descriptor_parts number why
+station_parts station.PoolFull = word_parts (codes "pool")
+station_parts station.EndOfTime = word_parts (codes "end of time")
 station_parts (station.OwnCert why) = codes "own certificate refused: " ∷ cert_text why ∷ end ∷ []
-station_parts station.MadeVote = codes "limit vote 16777216" ∷ end ∷ []
 
 -- the number of each reason
 abbrev pub station_number : StationRefusal → ℕ
 station_number (station.Fault fault) = fault_number fault.reason
-station_number (station.Word why) = 13
+station_number (station.Order why) = 13
+station_number (station.NoDescriptor fault) = fault_number fault.reason
 station_number (station.Descriptor number why) = 6
+station_number station.PoolFull = 13
+station_number station.EndOfTime = 13
 station_number (station.OwnCert why) = 12
-station_number station.MadeVote = 9

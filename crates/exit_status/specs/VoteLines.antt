@@ -3,8 +3,8 @@ use Rattle.std.specs.Prelude.{ℕ, List, [], ◌∷◌, codes, decimal}
 use Rattle.vote_terms.specs.declared.word.VoteWord.{VoteWord}
 use Rattle.vote_terms.specs.declared.word.VoteWord.TheVariants as word
 use Rattle.exit_status.specs.Parts.{end}
-use Rattle.exit_status.specs.declared.vote_refusal.VoteListRefusal.{VoteListRefusal}
-use Rattle.exit_status.specs.declared.vote_refusal.VoteListRefusal.TheVariants as votes
+use Rattle.compute_command.specs.declared.refusal.VoteListRefusal.{VoteListRefusal}
+use Rattle.compute_command.specs.declared.refusal.VoteListRefusal.TheVariants as votes
 
 -- the word of a line for the clause that a vote fails
 abbrev pub word_text : VoteWord → List ℕ

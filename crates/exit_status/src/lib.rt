@@ -1,21 +1,16 @@
-//! How a run ends: the statuses, the number of each, and the line that each writes.
+//! How a run ends: the statuses, the number of each, and the line that each writes; and how each command's refusal is told.
 #![tactic(auto)]
 
-mod bandwidth_refusal;
-mod document_refusal;
+mod bandwidth_lines;
+mod document_lines;
 mod parts;
-mod report_refusal;
-mod station_refusal;
+mod report_lines;
+mod station_lines;
 mod status;
 mod status_line;
-mod stop;
-mod vote_refusal;
+mod told;
+mod vote_lines;
 
-pub use bandwidth_refusal::BandwidthRefusal;
-pub use document_refusal::DocumentRefusal;
-pub use report_refusal::{MomentText, ReportRefusal};
-pub use station_refusal::{CertWord, DescriptorWord, StationRefusal, StationWord};
 pub use status::{Refusal, Status};
 pub use status_line::report;
-pub use stop::{Stop, of_file, of_kind};
-pub use vote_refusal::VoteListRefusal;
+pub use told::{by_compute, by_file_vote, by_make_vote, by_report, by_serve, by_subject};

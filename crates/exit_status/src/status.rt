@@ -3,24 +3,32 @@ ghost use Rattle.std.specs.Prelude.{◌≡◌};
 ghost use Rattle.std.specs.Process as process;
 ghost use Rattle.exit_status.specs.Lines.{number_of, refusal_number};
 
-use crate::bandwidth_refusal::BandwidthRefusal;
-use crate::document_refusal::DocumentRefusal;
-use crate::report_refusal::ReportRefusal;
-use crate::station_refusal::StationRefusal;
-use crate::vote_refusal::VoteListRefusal;
+use crate::bandwidth_lines::bandwidth_number;
+use crate::document_lines::fault_number;
+use crate::report_lines::report_number;
+use crate::station_lines::station_number;
+use crate::vote_lines::votes_number;
+use bandwidth_commands::BandwidthRefusal;
+use compute_command::VoteListRefusal;
+use daemon_words::DocumentRefusal;
+use report_command::NoReport;
+use station_commands::StationRefusal;
 use std::process::ExitCode;
 
-/// Why a command gives no text: a variant for each family of commands, and one for each object outside that a command asks.
+/// Why a command gives no text: a variant for each family of reasons, which stands in the crate of its command, and one for each
+/// object outside that a command asks.
 #[derive(Clone, Copy, Debug, PartialEq, Eq)]
 pub enum Refusal {
-    /// The input is no list of documents of the kind that the command reads.
+    /// The input is no document of the kind that the command reads, or no list of them.
     Document(DocumentRefusal),
     /// The votes that the input is give no consensus.
     Votes(VoteListRefusal),
-    /// No vote is made of what a station is given.
+    /// The station can make no vote.
     Station(StationRefusal),
+    /// The made vote is longer than a vote may be.
+    MadeVote,
     /// The input gives no report.
-    Report(ReportRefusal),
+    Report(NoReport),
     /// The first verifier failed, and it is not known whether what it was asked of holds.
     Verifier,
     /// The input gives no bandwidth file that counts.
@@ -80,12 +88,13 @@ impl Refusal {
         ensures { result ≡ refusal_number self }
     {
         match self {
-            Refusal::Document(refusal) => refusal.number(),
-            Refusal::Votes(refusal) => refusal.number(),
-            Refusal::Station(refusal) => refusal.number(),
-            Refusal::Report(refusal) => refusal.number(),
+            Refusal::Document(refusal) => fault_number(refusal.fault.reason),
+            Refusal::Votes(refusal) => votes_number(refusal),
+            Refusal::Station(refusal) => station_number(refusal),
+            Refusal::MadeVote => 9,
+            Refusal::Report(refusal) => report_number(refusal),
             Refusal::Verifier => 8,
-            Refusal::Bandwidth(refusal) => refusal.number(),
+            Refusal::Bandwidth(refusal) => bandwidth_number(refusal),
             Refusal::Signer => 10,
             Refusal::Gate => 11,
         }

@@ -4,13 +4,13 @@ ghost use Rattle.exit_status.specs.Lines.{line_of, refusal_parts};
 ghost use Rattle.exit_status.specs.Parts.{joined};
 ghost use Rattle.exit_status.specs.Reports.{Reports};
 
-use crate::bandwidth_refusal::report_bandwidth;
-use crate::document_refusal::{document_limit, report_fault};
+use crate::bandwidth_lines::report_bandwidth;
+use crate::document_lines::{document_limit, report_fault};
 use crate::parts::write_parts;
-use crate::report_refusal::report_report;
-use crate::station_refusal::report_station;
+use crate::report_lines::report_report;
+use crate::station_lines::report_station;
 use crate::status::{Refusal, Status};
-use crate::vote_refusal::report_votes;
+use crate::vote_lines::report_votes;
 use dir_bytes::Sink;
 
 /// Writes the line of a status, or a front of it where the sink fails.
@@ -29,7 +29,7 @@ pub fn report<E: Sink>(errors: &mut E, status: Status)
     }
 }
 
-/// Writes the line of a refusal: a line here for each family of commands.
+/// Writes the line of a refusal: a line here for each family of reasons.
 fn report_refusal<E: Sink>(errors: &mut E, refusal: Refusal)
     ensures { Reports (E.written errors.old) (E.written errors.new) (E.faults errors.old) (E.faults errors.new)
         (joined (refusal_parts refusal)) }
@@ -43,6 +43,7 @@ fn report_refusal<E: Sink>(errors: &mut E, refusal: Refusal)
         ),
         Refusal::Votes(refusal) => report_votes(errors, refusal),
         Refusal::Station(refusal) => report_station(errors, refusal),
+        Refusal::MadeVote => write_parts(errors, &[b"limit vote 16777216", b"\n"]),
         Refusal::Report(refusal) => report_report(errors, refusal),
         Refusal::Verifier => write_parts(errors, &[b"verifier fault", b"\n"]),
         Refusal::Bandwidth(refusal) => report_bandwidth(errors, refusal),

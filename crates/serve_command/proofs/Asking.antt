@@ -2,11 +2,12 @@
 use Rattle.std.proofs.Common.{◌≡◌, ◌<◌, ℕ, List, [], ◌∷◌, length, Result, Ok, Err, refl, sym, ap, subst, ◌∙◌, arith}
 use Rattle.std.specs.Prelude.{IfErr, slice_index_or, slice_set}
 use Rattle.dir_bytes.specs.Causes.{Counts, Rose}
-use Rattle.exit_status.specs.declared.status.Refusal.TheVariants as refusal
-use Rattle.exit_status.specs.declared.stop.Stop.{Stop}
-use Rattle.exit_status.specs.declared.stop.Stop.TheVariants as stop
+use Rattle.daemon_words.specs.declared.stop.Stop.{Stop}
+use Rattle.daemon_words.specs.declared.stop.Stop.TheVariants as stop
+use Rattle.serve_command.specs.declared.refusal.ServeRefusal.{ServeRefusal}
+use Rattle.serve_command.specs.declared.refusal.ServeRefusal.TheVariants as refusal
 use Rattle.serve_work.specs.declared.serving.Served.{Served}
-use Rattle.serve_command.specs.Serving.{AsksFirst, AsksOnce}
+use Rattle.serve_command.specs.Serving.{AsksFirst, AsksClock}
 
 -- It is the first of them.
 record IsFirst {X : Type 0} (items : List X) (x : X) : Type 0 where
@@ -20,12 +21,12 @@ first_of (y ∷ items) x some is =
     record { others = items; were = ap (λ z. z ∷ items) (sym is); set = λ later. refl }
 
 module _ {C : Type 0} (asks last : C → ℕ) (clocks : List C) (clock later : C) where
-  -- the clock was asked once
-  pub asked_once : (clocks' : List C) (now : ℕ) (Is : ℕ → Result Served Stop → Type 0) (result : Result Served Stop)
+  -- the clock was asked
+  pub asked_clock : (clocks' : List C) (now : ℕ) (Is : ℕ → Result Served (Stop ServeRefusal) → Type 0) (result : Result Served (Stop ServeRefusal))
       → 0 < length clocks → clock ≡ slice_index_or clocks 0 clock → Counts (asks clock) (asks later)
       → now ≡ last later → Is now result → IfErr result (λ why. clocks' ≡ slice_set clocks 0 later)
-      → AsksOnce asks last clocks clocks' Is result
-  asked_once clocks' now Is (Ok served) some first counts same is stays =
+      → AsksClock asks last clocks clocks' Is result
+  asked_clock clocks' now Is (Ok served) some first counts same is stays =
       let it = first_of clocks clock some first in
       record {
         first = clock;
@@ -36,7 +37,7 @@ module _ {C : Type 0} (asks last : C → ℕ) (clocks : List C) (clock later : C
         is = subst (λ n. Is n (Ok served)) same is;
         no_more = tt;
       }
-  asked_once clocks' now Is (Err why) some first counts same is stays =
+  asked_clock clocks' now Is (Err why) some first counts same is stays =
       let it = first_of clocks clock some first in
       record {
         first = clock;
@@ -49,7 +50,7 @@ module _ {C : Type 0} (asks last : C → ℕ) (clocks : List C) (clock later : C
       }
 
 -- the verifier alone was asked
-pub asked_first : {V : Type 0} (faults : V → ℕ) (verifiers : List V) (first later : V) (why : Stop)
+pub asked_first : {V : Type 0} (faults : V → ℕ) (verifiers : List V) (first later : V) (why : Stop ServeRefusal)
     → 0 < length verifiers → first ≡ slice_index_or verifiers 0 first
     → (why ≡ stop.Refused refusal.Verifier → Rose (faults first) (faults later))
     → (faults first < faults later → why ≡ stop.Refused refusal.Verifier)

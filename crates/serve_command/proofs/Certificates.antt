@@ -1,5 +1,5 @@
 -- A certificate that holds at a moment fails none of its clauses then.
-use Rattle.std.proofs.Common.{◌≡◌, ℕ, ◌≤◌, ◌<◌, Bool, true, false, refl, sym, ap, ◌∙◌, arith, inl}
+use Rattle.std.proofs.Common.{◌≡◌, ℕ, ◌≤◌, ◌<◌, Bool, true, false, refl, sym, ap, ◌∙◌, arith}
 use Rattle.std.specs.Prelude.{◌≢◌}
 use Rattle.std.proofs.lemmas.Bool.{false≢true}
 use Rattle.key_port.specs.Answers.{Rules}
@@ -7,13 +7,11 @@ use Rattle.authority_certs.specs.Checks.{Checks, certifies, crosscertifies, name
 use Rattle.authority_certs.specs.declared.cert.Cert.{Cert}
 use Rattle.authority_certs.specs.declared.checking.CertAnswer.{CertAnswer}
 use Rattle.authority_certs.specs.declared.checking.CertAnswer.TheVariants as answer
-use Rattle.exit_status.specs.declared.status.Refusal.{Refusal}
-use Rattle.exit_status.specs.declared.status.Refusal.TheVariants as refusal
-use Rattle.exit_status.specs.declared.stop.Stop.{Stop}
-use Rattle.exit_status.specs.declared.stop.Stop.TheVariants as stop
-use Rattle.station_commands.specs.Told.{cert_refused}
-use Rattle.station_command_laws.specs.Answerable.{HoldsAt, IsOfKeys}
+use Rattle.station_command_laws.specs.Answerable.{HoldsAt}
 use Rattle.serve_command.specs.Starting.{RefusesCertificate}
+use Rattle.serve_command.specs.Told.{cert_refused}
+use Rattle.serve_command.specs.declared.refusal.ServeRefusal.{ServeRefusal}
+use Rattle.serve_command.specs.declared.refusal.ServeRefusal.TheVariants as refusal
 
 -- a test does not fail that passes
 not_so : (test : Bool) → test ≡ false → test ≡ true → ⊥
@@ -38,19 +36,10 @@ never_fails rules at moment certificate answer.BadCrosscert same holds fails che
     absurd (not_so (crosscertifies rules.may_refuse certificate) holds.crosscert checks.2)
 never_fails rules at moment certificate answer.VerifierFault same holds fails checks = refl
 
--- why a call stopped, or another reason where it stopped for want of memory
-abbrev reason : Refusal → Stop → Refusal
-reason other stop.Memory = other
-reason other (stop.Refused why) = why
-
--- which is told
-told_of_verifier : (found : CertAnswer) (why : Refusal) → found ≡ answer.VerifierFault
-    → stop.Refused why ≡ cert_refused found → why ≡ refusal.Verifier
-told_of_verifier found why same told = ap (reason why) (told ∙ ap cert_refused same)
-
 -- so what is told of the certificate is the verifier's
-pub of_certificate : (rules : Rules) (at moment : ℕ) (certificate : Cert) (why : Refusal) → moment ≡ at
-    → HoldsAt rules at certificate → RefusesCertificate rules moment certificate why → IsOfKeys why
+pub of_certificate : (rules : Rules) (at moment : ℕ) (certificate : Cert) (why : ServeRefusal) → moment ≡ at
+    → HoldsAt rules at certificate → RefusesCertificate rules moment certificate why → why ≡ refusal.Verifier
 of_certificate rules at moment certificate why same holds refuses =
-    inl (told_of_verifier refuses.found why
-    (never_fails rules at moment certificate refuses.found same holds refuses.fails refuses.checks) refuses.told)
+    refuses.told
+    ∙ ap cert_refused
+    (never_fails rules at moment certificate refuses.found same holds refuses.fails refuses.checks)

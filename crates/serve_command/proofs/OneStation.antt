@@ -1,17 +1,18 @@
 -- An input gives one station; and what is refused of one thing is refused of the same.
-use Rattle.std.proofs.Common.{◌≡◌, ℕ, List, Result, Ok, Err, sym, ap, subst, ◌∙◌}
+use Rattle.std.proofs.Common.{◌≡◌, ℕ, List, Result, Ok, sym, ap, subst, ◌∙◌}
 use Rattle.key_port.specs.Answers.{Rules}
 use Rattle.frame_terms.specs.declared.fault.ReadRefusal.{ReadRefusal}
 use Rattle.bandwidth_file.specs.Ages.{IsOld}
 use Rattle.bandwidth_file.specs.declared.file.BandFile.{BandFile}
 use Rattle.daemon_words.specs.declared.command.Measures.{Measures}
 use Rattle.daemon_words.specs.declared.command.Measures.TheVariants as measures
-use Rattle.exit_status.specs.declared.status.Refusal.{Refusal}
+use Rattle.frame_terms.specs.declared.fault.FrameFault.{FrameFault}
+use Rattle.serve_command.specs.declared.refusal.ServeRefusal.{ServeRefusal}
 use Rattle.station_input.specs.declared.facts.StationFacts.{StationFacts}
 use Rattle.bandwidth_commands.specs.WithFile.{IsFaultyBehind, station_behind}
 use Rattle.station_command_laws.proofs.FilesNotRefused.{one_front, one_start}
 use Rattle.station_command_laws.proofs.OneBasis.{given_in, one_station, one_used, used_in}
-use Rattle.serve_command.specs.Starting.{RefusesStation, RefusesToServe, StandsBehind, StandsIn}
+use Rattle.serve_command.specs.Starting.{RefusesStation, StandsBehind, StandsIn}
 
 -- ---- what holds of one thing holds of the same
 
@@ -27,40 +28,34 @@ stands_alike bytes a b m n found file start is =
     ∙ ap (λ (one : BandFile). station_behind one m bytes) (sym file) ∙ is
 
 -- of why that is not what a station is given: at the same place, of the same file, and of both
-faulty_at : (bytes : List ℕ) (file : BandFile) (m n : ℕ) (why : Refusal) → m ≡ n
-    → IsFaultyBehind file m bytes (Err why) → IsFaultyBehind file n bytes (Err why)
-faulty_at bytes file m n why start is = subst (λ (place : ℕ). IsFaultyBehind file place bytes (Err why)) start is
+faulty_at : (bytes : List ℕ) (file : BandFile) (m n : ℕ) (fault : FrameFault) → m ≡ n
+    → IsFaultyBehind file m bytes fault → IsFaultyBehind file n bytes fault
+faulty_at bytes file m n fault start is = subst (λ (place : ℕ). IsFaultyBehind file place bytes fault) start is
 
-faulty_of : (bytes : List ℕ) (a b : BandFile) (start : ℕ) (why : Refusal) → a ≡ b
-    → IsFaultyBehind a start bytes (Err why) → IsFaultyBehind b start bytes (Err why)
-faulty_of bytes a b start why file is = subst (λ (one : BandFile). IsFaultyBehind one start bytes (Err why)) file is
+faulty_of : (bytes : List ℕ) (a b : BandFile) (start : ℕ) (fault : FrameFault) → a ≡ b
+    → IsFaultyBehind a start bytes fault → IsFaultyBehind b start bytes fault
+faulty_of bytes a b start fault file is = subst (λ (one : BandFile). IsFaultyBehind one start bytes fault) file is
 
-pub faulty_alike : (bytes : List ℕ) (a b : BandFile) (m n : ℕ) (why : Refusal) → a ≡ b → m ≡ n
-    → IsFaultyBehind a m bytes (Err why) → IsFaultyBehind b n bytes (Err why)
-faulty_alike bytes a b m n why file start is =
-    faulty_at bytes b m n why start (faulty_of bytes a b m why file is)
+pub faulty_alike : (bytes : List ℕ) (a b : BandFile) (m n : ℕ) (fault : FrameFault) → a ≡ b → m ≡ n
+    → IsFaultyBehind a m bytes fault → IsFaultyBehind b n bytes fault
+faulty_alike bytes a b m n fault file start is =
+    faulty_at bytes b m n fault start (faulty_of bytes a b m fault file is)
 
 -- of why a station starts no authority: at the same place, of the same station, and of both
-refused_at : (rules : Rules) (now : ℕ) (given : StationFacts) (m n : ℕ) (bytes : List ℕ) (why : Refusal) → m ≡ n
+refused_at : (rules : Rules) (now : ℕ) (given : StationFacts) (m n : ℕ) (bytes : List ℕ) (why : ServeRefusal) → m ≡ n
     → RefusesStation rules now given m bytes why → RefusesStation rules now given n bytes why
 refused_at rules now given m n bytes why place is =
     subst (λ (used : ℕ). RefusesStation rules now given used bytes why) place is
 
-refused_of : (rules : Rules) (now : ℕ) (a b : StationFacts) (used : ℕ) (bytes : List ℕ) (why : Refusal) → a ≡ b
+refused_of : (rules : Rules) (now : ℕ) (a b : StationFacts) (used : ℕ) (bytes : List ℕ) (why : ServeRefusal) → a ≡ b
     → RefusesStation rules now a used bytes why → RefusesStation rules now b used bytes why
 refused_of rules now a b used bytes why station is =
     subst (λ (given : StationFacts). RefusesStation rules now given used bytes why) station is
 
-pub refused_alike : (rules : Rules) (now : ℕ) (a b : StationFacts) (m n : ℕ) (bytes : List ℕ) (why : Refusal) → a ≡ b
+pub refused_alike : (rules : Rules) (now : ℕ) (a b : StationFacts) (m n : ℕ) (bytes : List ℕ) (why : ServeRefusal) → a ≡ b
     → m ≡ n → RefusesStation rules now a m bytes why → RefusesStation rules now b n bytes why
 refused_alike rules now a b m n bytes why station place is =
     refused_at rules now b m n bytes why place (refused_of rules now a b m bytes why station is)
-
--- of why an input starts none
-pub refused_for : (rules : Rules) (from : Measures) (now : ℕ) (bytes : List ℕ) (why other : Refusal) → why ≡ other
-    → RefusesToServe rules from now bytes why → RefusesToServe rules from now bytes other
-refused_for rules from now bytes why other same is =
-    subst (λ (reason : Refusal). RefusesToServe rules from now bytes reason) same is
 
 -- ---- one station
 

@@ -1,34 +1,41 @@
 -- What was read of what a station is given, or why it was not.
-use Rattle.std.proofs.Common.{◌≡◌, ℕ, List, Result, Ok, Err, subst, inl, inr}
-use Rattle.std.specs.Prelude.{IfErr, IfOk}
+use Rattle.std.proofs.Common.{◌≡◌, ℕ, List, Ok, Err, refl, subst, inl, inr}
 use Rattle.bandwidth_front.specs.declared.front.Front.{Front}
 use Rattle.daemon_words.specs.declared.command.Measures.TheVariants as measures
-use Rattle.exit_status.specs.declared.stop.Stop.{Stop}
-use Rattle.exit_status.specs.declared.stop.Stop.TheVariants as stop
+use Rattle.frame_terms.specs.declared.fault.FrameFault.{FrameFault}
+use Rattle.daemon_words.specs.declared.stop.Stop.{Stop}
+use Rattle.daemon_words.specs.declared.stop.Stop.TheVariants as stop
 use Rattle.station_input.specs.declared.facts.StationFacts.{StationFacts}
 use Rattle.station_laws.specs.Once.{RelaysAreNamedOnce}
 use Rattle.station_commands.specs.Voting.{GivesStation}
 use Rattle.bandwidth_commands.specs.Private.{GivesFile, GivesStationBehind}
-use Rattle.bandwidth_commands.specs.WithFile.{BeginsWithFile, RefusesFile}
+use Rattle.bandwidth_commands.specs.WithFile.{BeginsWithFile, IsFaultyBehind, RefusesFile}
+use Rattle.bandwidth_commands.specs.declared.refusal.BandwidthRefusal.{BandwidthRefusal}
 use Rattle.serve_command.specs.Private.{IsReadIn, StopsFor}
 use Rattle.serve_command.specs.Starting.{IsFaultyIn}
+use Rattle.serve_command.specs.Told.{of_fault, of_file}
 
 module _ (now : ℕ) (bytes : List ℕ) where
   -- ---- without a file
 
-  pub read_there : (result : Result (StationFacts × ℕ) Stop) → RelaysAreNamedOnce → GivesStation bytes result
-      → IfOk result (λ read. IsReadIn measures.Station now bytes read.0 read.1)
-  read_there (Ok (given, used)) once is =
+  pub read_there : (given : StationFacts) (used : ℕ) → RelaysAreNamedOnce → GivesStation bytes (Ok (given, used))
+      → IsReadIn measures.Station now bytes given used
+  read_there given used once is =
       record { stands = is.0; within = is.1; apart = (once bytes given used is.0).rules }
-  read_there (Err why) once is = tt
+
+  pub not_there : (why : Stop FrameFault) → GivesStation bytes (Err why)
+      → StopsFor (IsFaultyIn measures.Station now bytes) (of_fault why)
+  not_there stop.Memory is = tt
+  not_there (stop.Refused fault) is = (fault, refl, is)
 
   -- ---- behind a file; a slice of the bytes is all of them
 
   -- there is no file
-  pub no_file : (slice : List ℕ) (why : Stop) → slice ≡ bytes → GivesFile slice now (Err why)
-      → StopsFor (IsFaultyIn measures.File now bytes) why
+  pub no_file : (slice : List ℕ) (why : Stop BandwidthRefusal) → slice ≡ bytes → GivesFile slice now (Err why)
+      → StopsFor (IsFaultyIn measures.File now bytes) (of_file why)
   no_file slice stop.Memory same is = tt
-  no_file slice (stop.Refused why) same is = inl (subst (λ (b : List ℕ). RefusesFile b now why) same is)
+  no_file slice (stop.Refused why) same is =
+      inl (why, refl, subst (λ (b : List ℕ). RefusesFile b now why) same is)
 
   -- there is one
   pub begins : (slice : List ℕ) (front : Front) → slice ≡ bytes → GivesFile slice now (Ok front)
@@ -37,35 +44,24 @@ module _ (now : ℕ) (bytes : List ℕ) where
 
   module _ (slice : List ℕ) (front : Front) (same : slice ≡ bytes)
       (begun : BeginsWithFile bytes now front.file front.used) where
-    whole : (result : Result (StationFacts × ℕ) Stop) → GivesStationBehind front.file front.used slice result
-        → GivesStationBehind front.file front.used bytes result
-    whole result is = subst (λ (b : List ℕ). GivesStationBehind front.file front.used b result) same is
+    pub read_behind : (given : StationFacts) (used : ℕ)
+        → GivesStationBehind front.file front.used slice (Ok (given, used)) → IsReadIn measures.File now bytes given used
+    read_behind given used is =
+        let there =
+        subst (λ (b : List ℕ). GivesStationBehind front.file front.used b (Ok (given, used))) same is in
+        record {
+          stands = record { file = front.file; start = front.used; begins = begun; stands = there.0 };
+          within = there.1;
+          apart = there.2;
+        }
 
-    found : (result : Result (StationFacts × ℕ) Stop) → GivesStationBehind front.file front.used bytes result
-        → IfOk result (λ read. IsReadIn measures.File now bytes read.0 read.1)
-    found (Ok (given, used)) is = record {
-      stands = record { file = front.file; start = front.used; begins = begun; stands = is.0 };
-      within = is.1;
-      apart = is.2;
-    }
-    found (Err why) is = tt
-
-    pub read_behind : (result : Result (StationFacts × ℕ) Stop)
-        → GivesStationBehind front.file front.used slice result
-        → IfOk result (λ read. IsReadIn measures.File now bytes read.0 read.1)
-    read_behind result is = found result (whole result is)
-
-    fails : (why : Stop) → GivesStationBehind front.file front.used bytes (Err why)
-        → StopsFor (IsFaultyIn measures.File now bytes) why
-    fails stop.Memory is = tt
-    fails (stop.Refused why) is = inr (front.file, front.used, begun, is)
-
-    not_found : (result : Result (StationFacts × ℕ) Stop) → GivesStationBehind front.file front.used bytes result
-        → IfErr result (λ why. StopsFor (IsFaultyIn measures.File now bytes) why)
-    not_found (Ok read) is = tt
-    not_found (Err why) is = fails why is
-
-    pub faulty_behind : (result : Result (StationFacts × ℕ) Stop)
-        → GivesStationBehind front.file front.used slice result
-        → IfErr result (λ why. StopsFor (IsFaultyIn measures.File now bytes) why)
-    faulty_behind result is = not_found result (whole result is)
+    pub faulty_behind : (why : Stop FrameFault) → GivesStationBehind front.file front.used slice (Err why)
+        → StopsFor (IsFaultyIn measures.File now bytes) (of_fault why)
+    faulty_behind stop.Memory is = tt
+    faulty_behind (stop.Refused fault) is =
+        inr (
+          front.file,
+          front.used,
+          begun,
+          (fault, refl, subst (λ (b : List ℕ). IsFaultyBehind front.file front.used b fault) same is),
+        )

@@ -1,18 +1,25 @@
 -- What an authority starts with, call by call.
 use Rattle.std.proofs.Common.{◌≡◌, ℕ, List, length, Some, None, Ok, refl, sym, subst, ◌∙◌, arith}
 use Rattle.std.specs.Prelude.{◌≢◌, All}
+use Rattle.dir_values.specs.declared.digest.Fingerprint.{Fingerprint}
+use Rattle.dir_values.specs.Rosters.{IsRoster}
 use Rattle.key_port.specs.Answers.{Rules}
 use Rattle.authority_certs.specs.Checks.{IsCertified}
 use Rattle.daemon_words.specs.declared.command.Measures.{Measures}
+use Rattle.flag_rules.specs.Rules.{RuleAlike}
+use Rattle.flag_rules.specs.declared.operator.OperatorRule.{OperatorRule}
 use Rattle.station_input.specs.declared.facts.StationFacts.{StationFacts}
 use Rattle.vote_pool.specs.Pools.{Pooled}
 use Rattle.vote_schedule.specs.Schedules.{IsSchedule, Schedule}
 use Rattle.vote_maker.specs.Made.{basis, schedule_in}
+use Rattle.period_terms.specs.Histories.{IsStart}
 use Rattle.period_terms.specs.Schedules.{next_valid_after}
 use Rattle.period_terms.specs.declared.state.State.{State}
+use Rattle.period_core.specs.Starting.{Starts}
 use Rattle.period_terms.proofs.NextPeriods.{answers_one, next_is_next}
 use Rattle.board_terms.specs.Boards.{IsAt, IsNew, Locks, Parts}
-use Rattle.station_commands.specs.Voting.{GivesPeriod, HasPool}
+use Rattle.vote_schedule.specs.Moments.{AnswersNext}
+use Rattle.station_commands.specs.Voting.{HasPool}
 use Rattle.serve_command.specs.Private.{CanBeginBy, IsOpened, IsReadIn, IsReady}
 use Rattle.serve_command.specs.Starting.{CanBegin, IsStartOf}
 
@@ -32,10 +39,10 @@ period_ahead rules now given used bytes schedule pool can none =
 -- an authority can begin
 pub can_begin : (rules : Rules) (now : ℕ) (given : StationFacts) (used : ℕ) (bytes : List ℕ) (schedule : Schedule)
     (pool : Pooled) (valid_after : ℕ) → HasPool rules given used bytes pool → schedule ≡ schedule_in given
-    → IsSchedule schedule → GivesPeriod schedule now (Ok valid_after) → IsCertified rules valid_after given.certificate
+    → IsSchedule schedule → AnswersNext schedule 0 now (Some valid_after) → IsCertified rules valid_after given.certificate
     → CanBeginBy rules now given used bytes schedule pool
 can_begin rules now given used bytes schedule pool valid_after has same times next certified =
-    let there = subst (λ (s : Schedule). GivesPeriod s now (Ok valid_after)) same next in
+    let there = subst (λ (s : Schedule). AnswersNext s 0 now (Some valid_after)) same next in
     record {
       can = record {
         its = basis given pool.descriptors valid_after now;
@@ -55,17 +62,33 @@ can_begin rules now given used bytes schedule pool valid_after has same times ne
       times = times;
     }
 
+-- the state in which an authority starts is a start
+pub is_start : (roster : List Fingerprint) (own : Fingerprint) (schedule : Schedule) (now : ℕ) (state : State)
+    → IsRoster roster → IsSchedule schedule → Starts roster own schedule now (Ok state) → IsStart state
+is_start roster own schedule now state members times starts = rw starts.1.2 (record {
+  members = members;
+  member = starts.0;
+  times = times;
+  now = now;
+  next = starts.1.1;
+  empty = refl;
+})
+
 -- a board of what an authority begins with
 pub is_opened : (rules : Rules) (now : ℕ) (bytes : List ℕ) (count : ℕ) (given : StationFacts) (used : ℕ)
-    (schedule : Schedule) (start : State) (pool : Pooled) (board : Locks) (passes : List Parts)
-    → CanBeginBy rules now given used bytes schedule pool → IsStartOf given now start
-    → (board.station.start ≡ start) × (board.pool.start ≡ pool)
+    (schedule : Schedule) (start : State) (pool : Pooled) (rulings : List OperatorRule) (board : Locks)
+    (passes : List Parts) → CanBeginBy rules now given used bytes schedule pool → IsStartOf given now start
+    → IsStart start → RuleAlike given.rules rulings → (board.station.start ≡ start) × (board.pool.start ≡ pool)
     → (board.station.passes ≡ count) × (board.pool.passes ≡ count) × (length passes ≡ count)
-    → All (IsNew board) passes → All (IsAt board) passes → IsOpened rules now given used bytes count board passes
-is_opened rules now bytes count given used schedule start pool board passes can starts begun counts new at =
+    → All (IsNew board) passes → All (IsAt board) passes
+    → IsOpened rules now given used bytes count rulings board passes
+is_opened rules now bytes count given used schedule start pool rulings board passes can starts begins alike begun counts
+    new at =
     record {
+      alike = alike;
       begins = subst (λ (p : Pooled). CanBegin rules now given used bytes p) (sym begun.1) can.can;
       start_is = subst (λ (s : State). IsStartOf given now s) (sym begun.0) starts;
+      is_start = subst (λ (s : State). IsStart s) (sym begun.0) begins;
       new = new;
       length_is = counts.2;
       at = at;
@@ -75,12 +98,19 @@ is_opened rules now bytes count given used schedule start pool board passes can 
 
 -- board and passes are ready
 pub is_ready : (rules : Rules) (from : Measures) (now : ℕ) (bytes : List ℕ) (count : ℕ) (given : StationFacts)
-    (used : ℕ) (board : Locks) (passes : List Parts) → IsReadIn from now bytes given used
-    → IsOpened rules now given used bytes count board passes → IsReady rules from now bytes count board passes
-is_ready rules from now bytes count given used board passes reads opened =
+    (used : ℕ) (rulings : List OperatorRule) (board : Locks) (passes : List Parts)
+    → IsReadIn from now bytes given used → IsOpened rules now given used bytes count rulings board passes
+    → IsReady rules from now bytes count given rulings board passes
+is_ready rules from now bytes count given used rulings board passes reads opened =
     record {
-      its = record { given = given; start = board.station.start; pool = board.pool.start };
-      starts = record { used = used; stands = reads.stands; begins = opened.begins; start_is = opened.start_is };
+      starts = record {
+        used = used;
+        stands = reads.stands;
+        begins = opened.begins;
+        start_is = opened.start_is;
+        is_start = opened.is_start;
+      };
+      alike = opened.alike;
       is_board = record { station = refl; pool = refl; new = opened.new; length_is = opened.length_is };
       at = opened.at;
       stations = opened.stations;

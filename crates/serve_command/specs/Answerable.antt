@@ -2,8 +2,8 @@
 use Rattle.std.specs.Prelude.{◌≡◌, ℕ, List, All}
 use Rattle.key_port.specs.Answers.{Rules}
 use Rattle.daemon_words.specs.declared.command.Measures.{Measures}
-use Rattle.exit_status.specs.declared.status.Refusal.{Refusal}
-use Rattle.exit_status.specs.declared.status.Refusal.TheVariants as refusal
+use Rattle.serve_command.specs.declared.refusal.ServeRefusal.{ServeRefusal}
+use Rattle.serve_command.specs.declared.refusal.ServeRefusal.TheVariants as refusal
 use Rattle.station_input.specs.declared.facts.StationFacts.{StationFacts}
 use Rattle.vote_maker.specs.Made.{Basis}
 use Rattle.station_commands.specs.Voting.{IsBasisOf}
@@ -29,5 +29,5 @@ pub record CanServe (rules : Rules) (from : Measures) (now : ℕ) (bytes : List 
 
 -- such an input is refused only where the verifier failed
 abbrev pub SuchAreNotRefused : Type 0
-SuchAreNotRefused = (rules : Rules) (from : Measures) (now : ℕ) (bytes : List ℕ) (why : Refusal)
+SuchAreNotRefused = (rules : Rules) (from : Measures) (now : ℕ) (bytes : List ℕ) (why : ServeRefusal)
     → CanServe rules from now bytes → RefusesToServe rules from now bytes why → why ≡ refusal.Verifier

@@ -1,3 +1,4 @@
+pub mod Told
 pub mod Starting
 pub mod Serving
 pub mod Answerable

@@ -1,21 +1,23 @@
 -- What the private functions of this crate say.
 use Rattle.std.specs.Prelude.{◌≡◌, ◌≤◌, ℕ, List, All, length}
 use Rattle.key_port.specs.Answers.{Rules}
-use Rattle.flag_rules.specs.Rules.{AreApart}
+use Rattle.flag_rules.specs.Rules.{AreApart, RuleAlike}
+use Rattle.flag_rules.specs.declared.operator.OperatorRule.{OperatorRule}
 use Rattle.daemon_words.specs.declared.command.Measures.{Measures}
-use Rattle.exit_status.specs.declared.status.Refusal.{Refusal}
-use Rattle.exit_status.specs.declared.stop.Stop.{Stop}
-use Rattle.exit_status.specs.declared.stop.Stop.TheVariants as stop
+use Rattle.daemon_words.specs.declared.stop.Stop.{Stop}
+use Rattle.daemon_words.specs.declared.stop.Stop.TheVariants as stop
+use Rattle.serve_command.specs.declared.refusal.ServeRefusal.{ServeRefusal}
 use Rattle.station_input.specs.declared.facts.StationFacts.{StationFacts}
 use Rattle.vote_pool.specs.Pools.{Pooled}
 use Rattle.vote_schedule.specs.Schedules.{IsSchedule, Schedule}
 use Rattle.vote_maker.specs.Made.{schedule_in}
+use Rattle.period_terms.specs.Histories.{IsStart}
 use Rattle.board_terms.specs.Boards.{IsAt, IsNew, Locks, Parts}
 use Rattle.serve_command.specs.Serving.{IsBoardOf}
 use Rattle.serve_command.specs.Starting.{CanBegin, IsStartOf, StandsIn, Starting, StartsAs}
 
 -- a call stopped for a reason of this kind, or there was no memory
-abbrev pub StopsFor : (Refusal → Type 0) → Stop → Type 0
+abbrev pub StopsFor : (ServeRefusal → Type 0) → Stop ServeRefusal → Type 0
 StopsFor Refuses stop.Memory = Unit {0}
 StopsFor Refuses (stop.Refused why) = Refuses why
 
@@ -32,24 +34,31 @@ pub record CanBeginBy (rules : Rules) (now : ℕ) (given : StationFacts) (used :
   pub schedule_is : schedule ≡ schedule_in given
   pub times : IsSchedule schedule
 
--- Board and passes are of an authority that can begin by what its station is given, and all passes of the board are
--- there.
+-- Rulings, board and passes are of an authority that can begin by what its station is given, and all passes of the board
+-- are there.
 pub record IsOpened (rules : Rules) (now : ℕ) (given : StationFacts) (used : ℕ) (bytes : List ℕ) (count : ℕ)
-    (board : Locks) (passes : List Parts) : Type 0 where
+    (rulings : List OperatorRule) (board : Locks) (passes : List Parts) : Type 0 where
+  pub alike : RuleAlike given.rules rulings
   pub begins : CanBegin rules now given used bytes board.pool.start
   pub start_is : IsStartOf given now board.station.start
+  pub is_start : IsStart board.station.start
   pub new : All (IsNew board) passes
   pub length_is : length passes ≡ count
   pub at : All (IsAt board) passes
   pub stations : board.station.passes ≤ length passes
   pub pools : board.pool.passes ≤ length passes
 
--- Board and passes are of an authority that starts as the input has it, and all passes of the board are there.
-pub record IsReady (rules : Rules) (from : Measures) (now : ℕ) (bytes : List ℕ) (count : ℕ) (board : Locks)
-    (passes : List Parts) : Type 0 where
-  pub its : Starting
-  pub starts : StartsAs rules from now bytes its
-  pub is_board : IsBoardOf its count board passes
+-- what an authority of this station starts with, whose board this is
+abbrev pub starting : StationFacts → Locks → Starting
+starting given board = record { given = given; start = board.station.start; pool = board.pool.start }
+
+-- Station, rulings, board and passes are of an authority that starts as the input has it, and all passes of the board are
+-- there.
+pub record IsReady (rules : Rules) (from : Measures) (now : ℕ) (bytes : List ℕ) (count : ℕ) (given : StationFacts)
+    (rulings : List OperatorRule) (board : Locks) (passes : List Parts) : Type 0 where
+  pub starts : StartsAs rules from now bytes (starting given board)
+  pub alike : RuleAlike given.rules rulings
+  pub is_board : IsBoardOf (starting given board) count board passes
   pub at : All (IsAt board) passes
   pub stations : board.station.passes ≤ length passes
   pub pools : board.pool.passes ≤ length passes

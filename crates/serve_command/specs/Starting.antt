@@ -1,5 +1,5 @@
 -- What an authority starts with, of what its station is given, or why it does not.
-use Rattle.std.specs.Prelude.{◌≡◌, ◌≢◌, ◌⊎◌, ℕ, List, Ok, Err}
+use Rattle.std.specs.Prelude.{◌≡◌, ◌≢◌, ◌⊎◌, ℕ, List, None, Ok, Err}
 use Rattle.dir_values.specs.declared.digest.Fingerprint.{Fingerprint}
 use Rattle.key_port.specs.Answers.{Rules}
 use Rattle.authority_certs.specs.Checks.{Checks, IsCertified}
@@ -9,19 +9,25 @@ use Rattle.authority_certs.specs.declared.checking.CertAnswer.TheVariants as ans
 use Rattle.bandwidth_file.specs.declared.file.BandFile.{BandFile}
 use Rattle.daemon_words.specs.declared.command.Measures.{Measures}
 use Rattle.daemon_words.specs.declared.command.Measures.TheVariants as measures
-use Rattle.exit_status.specs.declared.status.Refusal.{Refusal}
-use Rattle.exit_status.specs.declared.stop.Stop.TheVariants as stop
+use Rattle.frame_terms.specs.declared.fault.FrameFault.{FrameFault}
+use Rattle.frame_terms.specs.declared.fault.ReadRefusal.TheVariants as read
 use Rattle.station_input.specs.Reading.{station_of}
 use Rattle.station_input.specs.declared.facts.StationFacts.{StationFacts}
 use Rattle.vote_pool.specs.Pools.{Pooled}
+use Rattle.vote_schedule.specs.Moments.{AnswersNext}
 use Rattle.vote_maker.specs.Made.{Basis, schedule_in}
 use Rattle.period_terms.specs.declared.state.State.{State}
+use Rattle.period_terms.specs.Histories.{IsStart}
 use Rattle.period_core.specs.Starting.{Starts}
 use Rattle.station_commands.specs.Descriptors.{RefusesDescriptors}
-use Rattle.station_commands.specs.Order.{HasWord, IsInOrder, roster_in}
-use Rattle.station_commands.specs.Told.{cert_refused}
-use Rattle.station_commands.specs.Voting.{HasNoPeriod, HasPool, IsBasisOf, IsFaulty}
+use Rattle.station_commands.specs.Order.{IsInOrder, IsOutOfOrder, roster_in}
+use Rattle.station_commands.specs.Voting.{HasPool, IsBasisOf}
+use Rattle.station_commands.specs.declared.refusal.OrderWord.{OrderWord}
+use Rattle.station_commands.specs.declared.refusal.PoolRefusal.{PoolRefusal}
 use Rattle.bandwidth_commands.specs.WithFile.{BeginsWithFile, IsFaultyBehind, RefusesFile, station_behind}
+use Rattle.bandwidth_commands.specs.declared.refusal.BandwidthRefusal.{BandwidthRefusal}
+use Rattle.serve_command.specs.Told.{by_end, by_fault, by_file, by_order, by_pool, cert_refused}
+use Rattle.serve_command.specs.declared.refusal.ServeRefusal.{ServeRefusal}
 
 -- ---- what a station is given
 
@@ -67,38 +73,42 @@ pub record StartsAs (rules : Rules) (from : Measures) (now : ℕ) (bytes : List 
   pub stands : StandsIn from now bytes its.given used
   pub begins : CanBegin rules now its.given used bytes its.pool
   pub start_is : IsStartOf its.given now its.start
+  pub is_start : IsStart its.start
 
 -- ---- why it does not start
 
 -- the input does not begin with what a station is given; or, where a bandwidth file has to stand in front, not with
 -- one that counts at the moment, or not with both
-abbrev pub IsFaultyIn : Measures → ℕ → List ℕ → Refusal → Type 0
-IsFaultyIn measures.Station now bytes why = IsFaulty bytes (Err why)
+abbrev pub IsFaultyIn : Measures → ℕ → List ℕ → ServeRefusal → Type 0
+IsFaultyIn measures.Station now bytes why =
+    (fault : FrameFault) × (why ≡ by_fault fault) × (station_of bytes ≡ Err (read.Frame fault))
 IsFaultyIn measures.File now bytes why =
-    RefusesFile bytes now why
+    ((own : BandwidthRefusal) × (why ≡ by_file own) × RefusesFile bytes now own)
     ⊎ ((file : BandFile) × (start : ℕ) × BeginsWithFile bytes now file start
-    × IsFaultyBehind file start bytes (Err why))
+    × ((fault : FrameFault) × (why ≡ by_fault fault) × IsFaultyBehind file start bytes fault))
 
 -- The certificate does not hold then, or the verifier failed when it was asked, and this is told of it.
-pub record RefusesCertificate (rules : Rules) (at : ℕ) (certificate : Cert) (why : Refusal) : Type 0 where
+pub record RefusesCertificate (rules : Rules) (at : ℕ) (certificate : Cert) (why : ServeRefusal) : Type 0 where
   pub found : CertAnswer
   pub fails : found ≢ answer.Checked
   pub checks : Checks rules at certificate found
-  pub told : stop.Refused why ≡ cert_refused found
+  pub told : why ≡ cert_refused found
 
 -- why a station that is given this starts no authority at a moment, with the descriptors from a place on, by the
 -- first that applies: it is not in order; the descriptors are refused; there is no period any more; or the own
 -- certificate fails when the next period begins
-abbrev pub RefusesStation : Rules → ℕ → StationFacts → ℕ → List ℕ → Refusal → Type 0
+abbrev pub RefusesStation : Rules → ℕ → StationFacts → ℕ → List ℕ → ServeRefusal → Type 0
 RefusesStation rules now given used bytes why =
-    HasWord given why
-    ⊎ (IsInOrder given (schedule_in given) × RefusesDescriptors rules used bytes why)
-    ⊎ ((pool : Pooled) × HasPool rules given used bytes pool × HasNoPeriod (schedule_in given) now why)
+    ((word : OrderWord) × (why ≡ by_order word) × IsOutOfOrder given word)
+    ⊎ (IsInOrder given (schedule_in given)
+    × ((pool : PoolRefusal) × (why ≡ by_pool pool) × RefusesDescriptors rules used bytes pool))
+    ⊎ ((pool : Pooled) × HasPool rules given used bytes pool × (why ≡ by_end)
+    × AnswersNext (schedule_in given) 0 now None)
     ⊎ ((its : Basis) × IsBasisOf rules now given used bytes its
     × RefusesCertificate rules its.valid_after given.certificate why)
 
 -- why an input starts no authority at a moment: it does not begin with what a station is given; or that starts none
-abbrev pub RefusesToServe : Rules → Measures → ℕ → List ℕ → Refusal → Type 0
+abbrev pub RefusesToServe : Rules → Measures → ℕ → List ℕ → ServeRefusal → Type 0
 RefusesToServe rules from now bytes why =
     IsFaultyIn from now bytes why
     ⊎ ((given : StationFacts) × (used : ℕ) × StandsIn from now bytes given used

@@ -7,11 +7,11 @@ ghost use Rattle.serve_command.specs.Private.{IsOpened, IsReady, StopsFor};
 ghost use Rattle.serve_command.specs.Starting.{RefusesStation, RefusesToServe};
 
 use crate::beginning::beginning_of;
+use crate::refusal::ServeRefusal;
 use crate::starting::start;
 use crate::station::station_in;
 use bytes::Bytes;
-use daemon_words::Measures;
-use exit_status::{Refusal, Stop};
+use daemon_words::{Measures, Stop};
 use flag_rules::OperatorList;
 use key_port::Verifier;
 use serve_board::{Board, Pass};
@@ -39,18 +39,18 @@ fn open_board<V: Verifier>(
     now: u64,
     workers: u32,
     verifier: &mut V,
-) -> Result<(OperatorList, Board<V>, Vec<Pass<V>>), Stop>
+) -> Result<(OperatorList, Board<V>, Vec<Pass<V>>), Stop<ServeRefusal>>
     requires short { length bytes.now < 2 ^ 61 }
     requires within { used ≤ length bytes.now }
     requires apart { AreApart station.now.rules }
     requires some { 0 < workers }
     ensures opened { IfOk result (λ opened. IsOpened (rules V.may_accept V.may_refuse) now station.now used bytes.now
-        workers opened.1 opened.2.items) }
+        workers opened.0 opened.1 opened.2.items) }
     ensures stops { IfErr result (λ why.
         StopsFor (RefusesStation (rules V.may_accept V.may_refuse) now station.now used bytes.now) why) }
-    ensures fault { result ≡ Err (Stop.Refused Refusal.Verifier)
+    ensures fault { result ≡ Err (Stop.Refused ServeRefusal.Verifier)
         → Rose (V.faults verifier.old) (V.faults verifier.new) }
-    ensures told { V.faults verifier.old < V.faults verifier.new → result ≡ Err (Stop.Refused Refusal.Verifier) }
+    ensures told { V.faults verifier.old < V.faults verifier.new → result ≡ Err (Stop.Refused ServeRefusal.Verifier) }
 {
     let operator = OperatorList::new(station.rules.as_slice().to_vec(alloc)?);
     let (schedule, pool) = beginning_of(alloc, bytes, station, used, now, verifier)?;
@@ -71,16 +71,16 @@ pub(crate) fn prepare<V: Verifier>(
     now: u64,
     workers: u32,
     verifier: &mut V,
-) -> Result<Ready<V>, Stop>
+) -> Result<Ready<V>, Stop<ServeRefusal>>
     requires short { length bytes.now < 2 ^ 61 }
     requires some { 0 < workers }
     ensures ready { IfOk result (λ ready. IsReady (rules V.may_accept V.may_refuse) measures now bytes.now workers
-        ready.board ready.passes.items) }
+        ready.station ready.operator ready.board ready.passes.items) }
     ensures stops { IfErr result (λ why.
         StopsFor (RefusesToServe (rules V.may_accept V.may_refuse) measures now bytes.now) why) }
-    ensures fault { result ≡ Err (Stop.Refused Refusal.Verifier)
+    ensures fault { result ≡ Err (Stop.Refused ServeRefusal.Verifier)
         → Rose (V.faults verifier.old) (V.faults verifier.new) }
-    ensures told { V.faults verifier.old < V.faults verifier.new → result ≡ Err (Stop.Refused Refusal.Verifier) }
+    ensures told { V.faults verifier.old < V.faults verifier.new → result ≡ Err (Stop.Refused ServeRefusal.Verifier) }
 {
     let (station, used) = station_in(alloc, measures, now, bytes)?;
     let (operator, board, passes) = open_board(

@@ -1,17 +1,18 @@
 // The command that serves as an authority.
-ghost use Rattle.std.specs.Prelude.{◌≡◌, ◌≢◌, ◌≤◌, ◌<◌, ◌^◌, All, Err, IfErr, length};
+ghost use Rattle.std.specs.Prelude.{◌≡◌, ◌≤◌, ◌<◌, ◌^◌, All, Err, IfErr, length};
 ghost use Rattle.key_port.specs.Answers.{rules};
-ghost use Rattle.flag_rules.specs.Rules.{ruling_for};
+ghost use Rattle.flag_rules.specs.Rules.{list_allows, ruling_for};
 ghost use Rattle.board_terms.specs.Boards.{IsAt};
 ghost use Rattle.serve_work.specs.Serving.{AreAsMany, Serves};
-ghost use Rattle.serve_command.specs.Serving.{AsksOnce, HasWorkers, ServeAnswers, ServesNone};
+ghost use Rattle.serve_work.specs.Workers.{HasWorked};
+ghost use Rattle.serve_command.specs.Serving.{AsksClock, HasWorkers, ServeAnswers, ServesNone};
 
 use crate::ready::{Ready, prepare};
+use crate::refusal::ServeRefusal;
 use bytes::Bytes;
-use daemon_words::Serve;
+use daemon_words::{Serve, Stop};
 use dir_bytes::{Clock, Sink};
 use dir_http::{Gate, Link};
-use exit_status::{Refusal, Stop};
 use flag_rules::{Hook, RelayFacts, Ruling};
 use key_port::{Signer, Verifier};
 use serve_work::{Outside, Served, serve};
@@ -42,8 +43,10 @@ fn serve_ready<
         × (ready.board.pool.passes ≤ length ready.passes.items) }
     requires count { AreAsMany outside.old.gates.items outside.old.clocks.items outside.old.verifiers.items
         ready.passes.items }
-    ensures serves { Serves G.faults G.closed outside.old.gates.items outside.new.gates.items ready.board
-        ready.passes.items (K.written outside.old.sink) (K.written outside.new.sink) (K.faults outside.old.sink)
+    ensures serves { Serves G.faults G.closed outside.old.gates.items outside.new.gates.items
+        (rules V.may_accept V.may_refuse) ready.board (HasWorked (rules V.may_accept V.may_refuse) N.may_give N.steps
+        (list_allows ready.operator) ready.station C.last ready.board) ready.passes.items
+        (K.written outside.old.sink) (K.written outside.new.sink) (K.faults outside.old.sink)
         (K.faults outside.new.sink) result }
     ensures count { (length outside.new.gates.items ≡ length outside.old.gates.items)
         × (length outside.new.clocks.items ≡ length outside.old.clocks.items)
@@ -84,11 +87,11 @@ fn serve_at<
     bytes: &Bytes,
     now: u64,
     outside: &mut Outside<S, K, E, C, V, N, G, L>,
-) -> Result<Served, Stop>
+) -> Result<Served, Stop<ServeRefusal>>
     requires short { length bytes.now < 2 ^ 61 }
     requires workers { HasWorkers outside.old }
-    ensures answer { ServeAnswers (rules V.may_accept V.may_refuse) G.faults G.closed wanted.now.bandwidths now
-        bytes.now outside.old.gates.items outside.new.gates.items (K.written outside.old.sink)
+    ensures answer { ServeAnswers (rules V.may_accept V.may_refuse) N.may_give N.steps C.last G.faults G.closed
+        wanted.now.bandwidths now bytes.now outside.old.gates.items outside.new.gates.items (K.written outside.old.sink)
         (K.written outside.new.sink) (K.faults outside.old.sink) (K.faults outside.new.sink) result }
     ensures refused { IfErr result (λ why. ServesNone V.faults outside.old outside.new why) }
     ensures clocks { IfErr result (λ why. outside.new.clocks.items ≡ outside.old.clocks.items) }
@@ -134,15 +137,15 @@ pub fn serve_station<
     wanted: &Serve,
     bytes: &Bytes,
     outside: &mut Outside<S, K, E, C, V, N, G, L>,
-) -> Result<Served, Stop>
+) -> Result<Served, Stop<ServeRefusal>>
     requires short { length bytes.now < 2 ^ 61 }
     requires workers { HasWorkers outside.old }
-    ensures answer { AsksOnce C.asks C.last outside.old.clocks.items outside.new.clocks.items
-        (λ now. ServeAnswers (rules V.may_accept V.may_refuse) G.faults G.closed wanted.now.bandwidths now bytes.now
+    ensures answer { AsksClock C.asks C.last outside.old.clocks.items outside.new.clocks.items
+        (λ now. ServeAnswers (rules V.may_accept V.may_refuse) N.may_give N.steps C.last G.faults G.closed
+        wanted.now.bandwidths now bytes.now
         outside.old.gates.items outside.new.gates.items (K.written outside.old.sink) (K.written outside.new.sink)
         (K.faults outside.old.sink) (K.faults outside.new.sink)) result }
     ensures refused { IfErr result (λ why. ServesNone V.faults outside.old outside.new why) }
-    ensures never { (result ≢ Err (Stop.Refused Refusal.Signer)) × (result ≢ Err (Stop.Refused Refusal.Gate)) }
     ensures untouched { (outside.new.source ≡ outside.old.source) × (outside.new.errors ≡ outside.old.errors) }
     ensures count { (length outside.new.gates.items ≡ length outside.old.gates.items)
         × (length outside.new.clocks.items ≡ length outside.old.clocks.items)

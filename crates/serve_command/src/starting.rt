@@ -1,12 +1,13 @@
 // The authority as it starts.
-ghost use Rattle.std.specs.Prelude.{◌≡◌, ◌≢◌, IfErr, IfOk, None, Ok};
+ghost use Rattle.std.specs.Prelude.{◌≡◌, ◌≢◌, IfOk, None, Ok};
+ghost use Rattle.period_terms.specs.Histories.{IsStart};
 ghost use Rattle.period_terms.specs.Schedules.{next_valid_after};
 ghost use Rattle.vote_maker.specs.Made.{schedule_in};
 ghost use Rattle.station_commands.specs.Order.{IsInOrder, roster_in};
 ghost use Rattle.serve_command.specs.Starting.{IsStartOf};
 
+use dir_bytes::Memory;
 use dir_values::Roster;
-use exit_status::Stop;
 use key_port::Verifier;
 use period_core::{StartFault, Station};
 use station_commands::members_of;
@@ -15,10 +16,9 @@ use std::alloc::Global;
 use vote_schedule::Config;
 
 /// The roster of a station that is in order.
-fn roster_of(alloc: Global, station: &StationFacts) -> Result<Roster, Stop>
+fn roster_of(alloc: Global, station: &StationFacts) -> Result<Roster, Memory>
     requires { IsInOrder station.now (schedule_in station.now) }
-    ensures roster { IfOk result (λ roster. roster_in station.now ≡ Ok roster) }
-    ensures stops { IfErr result (λ why. why ≡ Stop.Memory) }
+    ensures { IfOk result (λ roster. roster_in station.now ≡ Ok roster) }
 {
     let members = members_of(alloc, station.authorities.as_slice())?;
     match Roster::new(members) {
@@ -36,17 +36,20 @@ pub(crate) fn start<V: Verifier>(
     station: &StationFacts,
     schedule: Config,
     now: u64,
-) -> Result<Station<V>, Stop>
+) -> Result<Station<V>, Memory>
     requires order { IsInOrder station.now (schedule_in station.now) }
     requires schedule { schedule ≡ schedule_in station.now }
     requires period { next_valid_after (schedule_in station.now) 0 now ≢ None }
     ensures started { IfOk result (λ started. IsStartOf station.now now started) }
-    ensures stops { IfErr result (λ why. why ≡ Stop.Memory) }
+    ensures start { IfOk result (λ started. IsStart started) }
 {
     let roster = roster_of(alloc, station)?;
+    // Both tell what their types keep.
+    let _ = roster.len();
+    let _ = schedule.interval();
     match Station::start(alloc, roster, station.identity, schedule, now) {
         Ok(started) => Ok(started),
-        Err(StartFault::Memory) => Err(Stop::Memory),
+        Err(StartFault::Memory) => Err(Memory),
         Err(StartFault::OwnNotInRoster | StartFault::EndOfTime) => unreachable!(),
     }
 }

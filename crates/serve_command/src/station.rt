@@ -1,27 +1,37 @@
 // What the station of an input is given.
-ghost use Rattle.std.specs.Prelude.{◌<◌, ◌^◌, IfErr, IfOk, length};
-ghost use Rattle.station_commands.specs.Told.{IsOfNoKeys};
+ghost use Rattle.std.specs.Prelude.{◌≢◌, ◌<◌, ◌^◌, Err, IfErr, IfOk, length};
 ghost use Rattle.serve_command.specs.Private.{IsReadIn, StopsFor};
 ghost use Rattle.serve_command.specs.Starting.{IsFaultyIn};
 
+use crate::refusal::ServeRefusal;
+use crate::told::{of_fault, of_file};
 use bandwidth_commands::{file_of, station_behind};
 use bytes::Bytes;
-use daemon_words::Measures;
-use exit_status::Stop;
+use daemon_words::{Measures, Stop};
 use station_commands::station_of;
 use station_input::StationFacts;
 use station_laws::relays_are_named_once;
 use std::alloc::Global;
 
 /// What a station is given behind the bandwidth file with which an input begins, and the place behind it.
-fn behind_file(alloc: Global, now: u64, bytes: &Bytes) -> Result<(StationFacts, usize), Stop>
+fn behind_file(
+    alloc: Global,
+    now: u64,
+    bytes: &Bytes,
+) -> Result<(StationFacts, usize), Stop<ServeRefusal>>
     requires { length bytes.now < 2 ^ 61 }
     ensures read { IfOk result (λ read. IsReadIn Measures.File now bytes.now read.0 read.1) }
     ensures stops { IfErr result (λ why. StopsFor (IsFaultyIn Measures.File now bytes.now) why) }
-    ensures others { IsOfNoKeys result }
+    ensures unasked { result ≢ Err (Stop.Refused ServeRefusal.Verifier) }
 {
-    let front = file_of(alloc, bytes, now)?;
-    station_behind(alloc, bytes, &front)
+    let front = match file_of(alloc, bytes, now) {
+        Ok(front) => front,
+        Err(why) => return Err(of_file(why)),
+    };
+    match station_behind(alloc, bytes, &front) {
+        Ok((station, used)) => Ok((station, used)),
+        Err(why) => Err(of_fault(why)),
+    }
 }
 
 /// What the station of an input is given at the moment `now`, by where its bandwidths come from, and the place behind
@@ -35,15 +45,18 @@ pub(crate) fn station_in(
     measures: Measures,
     now: u64,
     bytes: &Bytes,
-) -> Result<(StationFacts, usize), Stop>
+) -> Result<(StationFacts, usize), Stop<ServeRefusal>>
     requires { length bytes.now < 2 ^ 61 }
     ensures read { IfOk result (λ read. IsReadIn measures now bytes.now read.0 read.1) }
     ensures stops { IfErr result (λ why. StopsFor (IsFaultyIn measures now bytes.now) why) }
-    ensures others { IsOfNoKeys result }
+    ensures unasked { result ≢ Err (Stop.Refused ServeRefusal.Verifier) }
 {
     relays_are_named_once();
     match measures {
-        Measures::Station => station_of(alloc, bytes),
+        Measures::Station => match station_of(alloc, bytes) {
+            Ok((station, used)) => Ok((station, used)),
+            Err(why) => Err(of_fault(why)),
+        },
         Measures::File => behind_file(alloc, now, bytes),
     }
 }

@@ -10,14 +10,16 @@ use Rattle.bandwidth_file.specs.declared.file.BandFile.{BandFile}
 use Rattle.bandwidth_file.specs.declared.refusal.BandFault.{BandFault}
 use Rattle.bandwidth_laws.proofs.OneFile.{one_file}
 use Rattle.bandwidth_front.specs.Fronts.{IsFront, end_size, fault_before, front_fault}
-use Rattle.exit_status.specs.declared.bandwidth_refusal.BandwidthRefusal.TheVariants as bandwidth
-use Rattle.exit_status.specs.declared.station_refusal.StationRefusal.TheVariants as station
-use Rattle.exit_status.specs.declared.status.Refusal.{Refusal}
-use Rattle.exit_status.specs.declared.status.Refusal.TheVariants as refusal
+use Rattle.frame_terms.specs.declared.fault.FrameFault.{FrameFault}
+use Rattle.frame_terms.specs.declared.fault.ReadRefusal.TheVariants as doc
 use Rattle.station_input.specs.declared.facts.StationFacts.{StationFacts}
 use Rattle.station_commands.specs.Voting.{RefusesVote}
+use Rattle.station_commands.specs.declared.refusal.MakeVoteRefusal.{MakeVoteRefusal}
 use Rattle.bandwidth_commands.specs.WithFile.{AnswersBehind, IsFaultyBehind, RefusesFile, station_behind}
-use Rattle.station_command_laws.specs.Answerable.{CanMakeVoteWithFile, IsOfKeys, SuchFilesAreNotRefused}
+use Rattle.bandwidth_commands.specs.declared.refusal.BandwidthRefusal.{BandwidthRefusal}
+use Rattle.bandwidth_commands.specs.declared.refusal.BandwidthRefusal.TheVariants as bandwidth
+use Rattle.bandwidth_commands.specs.declared.refusal.FileVoteRefusal.{FileVoteRefusal}
+use Rattle.station_command_laws.specs.Answerable.{CanMakeVoteWithFile, IsOfKeysBehind, SuchFilesAreNotRefused}
 use Rattle.station_command_laws.proofs.Answers.{not_both, not_there}
 use Rattle.station_command_laws.proofs.NotRefused.{none_refused}
 use Rattle.station_command_laws.proofs.OneBasis.{given_in, used_in}
@@ -47,53 +49,39 @@ no_fault bytes file start fault front is =
     not_there (fault_before bytes (Some front.place)) fault front.file_is.sound
     (ap (λ (p : Option ℕ). fault_before bytes p) (sym front.ends) ∙ is)
 
-file_holds : (rules : Rules) (now : ℕ) (bytes : List ℕ) (why : Refusal) → CanMakeVoteWithFile rules now bytes
-    → RefusesFile bytes now why → IsOfKeys why
-file_holds rules now bytes (refusal.Document why) can refuses = absurd refuses
-file_holds rules now bytes (refusal.Votes why) can refuses = absurd refuses
-file_holds rules now bytes (refusal.Station why) can refuses = absurd refuses
-file_holds rules now bytes (refusal.Report why) can refuses = absurd refuses
-file_holds rules now bytes refusal.Verifier can refuses = absurd refuses
-file_holds rules now bytes refusal.Signer can refuses = absurd refuses
-file_holds rules now bytes refusal.Gate can refuses = absurd refuses
-file_holds rules now bytes (refusal.Bandwidth (bandwidth.Fault fault)) can refuses =
-    absurd (no_fault bytes can.file can.start fault can.begins.front refuses)
-file_holds rules now bytes (refusal.Bandwidth (bandwidth.Old timestamp)) can refuses =
+file_holds : (rules : Rules) (now : ℕ) (bytes : List ℕ) (why : BandwidthRefusal) → CanMakeVoteWithFile rules now bytes
+    → RefusesFile bytes now why → ⊥
+file_holds rules now bytes (bandwidth.Fault fault) can refuses =
+    no_fault bytes can.file can.start fault can.begins.front refuses
+file_holds rules now bytes (bandwidth.Old timestamp) can refuses =
     let same = one_front bytes can.file refuses.file can.start refuses.start can.begins.front refuses.front in
-    absurd (can.begins.young (subst (λ (f : BandFile). IsOld f now) same refuses.old))
+    can.begins.young (subst (λ (f : BandFile). IsOld f now) same refuses.old)
 
 -- nor has what stands behind it
-pub not_faulty_behind : (bytes : List ℕ) (file : BandFile) (start : ℕ) (given : StationFacts) (used : ℕ) (why : Refusal)
-    → station_behind file start bytes ≡ Ok (given, used) → IsFaultyBehind file start bytes (Err why) → IsOfKeys why
-not_faulty_behind bytes file start given used (refusal.Document why) read is = absurd is
-not_faulty_behind bytes file start given used (refusal.Votes why) read is = absurd is
-not_faulty_behind bytes file start given used (refusal.Station (station.Fault fault)) read is =
-    absurd (not_both (station_behind file start bytes) (given, used) _ read is)
-not_faulty_behind bytes file start given used (refusal.Station (station.Word why)) read is = absurd is
-not_faulty_behind bytes file start given used (refusal.Station (station.Descriptor k why)) read is = absurd is
-not_faulty_behind bytes file start given used (refusal.Station (station.OwnCert why)) read is = absurd is
-not_faulty_behind bytes file start given used (refusal.Station station.MadeVote) read is = absurd is
-not_faulty_behind bytes file start given used (refusal.Report why) read is = absurd is
-not_faulty_behind bytes file start given used refusal.Verifier read is = absurd is
-not_faulty_behind bytes file start given used (refusal.Bandwidth why) read is = absurd is
-not_faulty_behind bytes file start given used refusal.Signer read is = absurd is
-not_faulty_behind bytes file start given used refusal.Gate read is = absurd is
+pub not_faulty_behind : (bytes : List ℕ) (file : BandFile) (start : ℕ) (given : StationFacts) (used : ℕ)
+    (fault : FrameFault) → station_behind file start bytes ≡ Ok (given, used) → IsFaultyBehind file start bytes fault → ⊥
+not_faulty_behind bytes file start given used fault reads is =
+    not_both (station_behind file start bytes) (given, used) (doc.Frame fault) reads is
 
 module _ {N : Type 0} (gives : Relation) (steps : SignerSteps N) where
-  behind : (rules : Rules) (now : ℕ) (bytes : List ℕ) (old new : N) (why : Refusal)
+  behind : (rules : Rules) (now : ℕ) (bytes : List ℕ) (old new : N) (why : FileVoteRefusal)
       (can : CanMakeVoteWithFile rules now bytes)
-      → AnswersBehind rules gives steps now can.file can.start bytes (Err why) old new → IsOfKeys why
-  behind rules now bytes old new why can (inl faulty) =
-      not_faulty_behind bytes can.file can.start can.given can.used why can.read faulty
-  behind rules now bytes old new why can (inr (given, used, read, answer)) =
-      let whole = sym read ∙ can.read in
-      none_refused rules gives steps now can.given can.used bytes old new why can.can
-      (subst (λ (n : ℕ). RefusesVote rules gives steps now can.given n bytes why old new) (ap used_in whole)
-      (subst (λ (s : StationFacts). RefusesVote rules gives steps now s used bytes why old new) (ap (given_in given) whole)
-      answer))
+      → AnswersBehind rules gives steps now can.file can.start bytes (Err why) old new → IsOfKeysBehind why
+  behind rules now bytes old new why can (inl (fault, told, faulty)) =
+      absurd (not_faulty_behind bytes can.file can.start can.given can.used fault can.read faulty)
+  behind rules now bytes old new why can (inr (given, used, read, (own, told, answer))) =
+      let whole = sym read ∙ can.read in (
+        own,
+        told,
+        none_refused rules gives steps now can.given can.used bytes old new own can.can
+            (subst (λ (n : ℕ). RefusesVote rules gives steps now can.given n bytes own old new) (ap used_in whole)
+            (subst (λ (s : StationFacts). RefusesVote rules gives steps now s used bytes own old new)
+            (ap (given_in given) whole) answer)),
+      )
 
   pub files_not_refused : SuchFilesAreNotRefused gives steps
-  files_not_refused rules now bytes old new why can (inl of_file) = file_holds rules now bytes why can of_file
+  files_not_refused rules now bytes old new why can (inl (own, told, refuses)) =
+      absurd (file_holds rules now bytes own can refuses)
   files_not_refused rules now bytes old new why can (inr (file, start, begins, answer)) =
       let same = one_front bytes can.file file can.start start can.begins.front begins.front in
       let place = one_start bytes can.file file can.start start can.begins.front begins.front in

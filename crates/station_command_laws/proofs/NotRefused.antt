@@ -1,5 +1,5 @@
 -- An input that a vote can be made of is refused only where the verifier or the signer failed.
-use Rattle.std.proofs.Common.{◌≡◌, ◌⊎◌, ℕ, List, ◌++◌, length, Ok, Err, refl, sym, ap, subst, ◌∙◌, arith}
+use Rattle.std.proofs.Common.{◌≡◌, ◌⊎◌, ℕ, List, ◌++◌, length, None, Ok, Err, refl, sym, ap, subst, ◌∙◌, arith}
 use Rattle.std.proofs.Common.{inl, inr}
 use Rattle.std.specs.Prelude.{All, IsTrue}
 use Rattle.std.proofs.lemmas.Bool.{false≢true}
@@ -18,16 +18,13 @@ use Rattle.flag_rules.specs.declared.operator.OperatorRule.{OperatorRule}
 use Rattle.flag_rules.specs.declared.relay.RelayFacts.{RelayFacts}
 use Rattle.flag_rules.specs.declared.relay.RuledRelay.{RuledRelay}
 use Rattle.flag_rules.specs.declared.ruling.Ruling.{Ruling}
-use Rattle.exit_status.specs.declared.station_refusal.DescriptorWord.{DescriptorWord}
-use Rattle.exit_status.specs.declared.station_refusal.DescriptorWord.TheVariants as clause
-use Rattle.exit_status.specs.declared.station_refusal.StationRefusal.TheVariants as station
-use Rattle.exit_status.specs.declared.station_refusal.StationWord.TheVariants as word
-use Rattle.exit_status.specs.declared.status.Refusal.{Refusal}
-use Rattle.exit_status.specs.declared.status.Refusal.TheVariants as refusal
-use Rattle.exit_status.specs.declared.stop.Stop.TheVariants as stop
+use Rattle.frame_terms.specs.declared.fault.FrameFault.{FrameFault}
+use Rattle.frame_terms.specs.declared.fault.ReadRefusal.TheVariants as doc
+use Rattle.daemon_words.specs.declared.stop.Stop.TheVariants as stop
 use Rattle.station_input.specs.Reading.{station_of}
 use Rattle.station_input.specs.declared.facts.StationFacts.{StationFacts}
 use Rattle.vote_pool.specs.Pools.{Pooled}
+use Rattle.vote_schedule.specs.Moments.{AnswersNext}
 use Rattle.vote_schedule.specs.Schedules.{Schedule}
 use Rattle.vote_maker.specs.Made.{Basis, schedule_in}
 use Rattle.vote_maker.specs.Making.{RefusesToMake}
@@ -35,9 +32,16 @@ use Rattle.vote_maker.specs.declared.refusal.MakeRefusal.{MakeRefusal}
 use Rattle.vote_maker.specs.declared.refusal.MakeRefusal.TheVariants as make
 use Rattle.station_commands.specs.Descriptors.{IsPoolOf, RefusesDescriptors, clause_of, descriptor_from, finds_full}
 use Rattle.station_commands.specs.Descriptors.{no_pool}
-use Rattle.station_commands.specs.Order.{HasWord, IsInOrder, roster_in, schedule_given}
-use Rattle.station_commands.specs.Told.{make_refused}
-use Rattle.station_commands.specs.Voting.{HasNoPeriod, IsBasisOf, IsFaulty, MakesNone, RefusesVote}
+use Rattle.station_commands.specs.Order.{IsInOrder, IsOutOfOrder, roster_in, schedule_given}
+use Rattle.station_commands.specs.Told.{by_pool, make_refused}
+use Rattle.station_commands.specs.Voting.{IsBasisOf, MakesNone, RefusesVote}
+use Rattle.station_commands.specs.declared.refusal.DescriptorWord.{DescriptorWord}
+use Rattle.station_commands.specs.declared.refusal.DescriptorWord.TheVariants as clause
+use Rattle.station_commands.specs.declared.refusal.MakeVoteRefusal.{MakeVoteRefusal}
+use Rattle.station_commands.specs.declared.refusal.OrderWord.{OrderWord}
+use Rattle.station_commands.specs.declared.refusal.OrderWord.TheVariants as word
+use Rattle.station_commands.specs.declared.refusal.PoolRefusal.{PoolRefusal}
+use Rattle.station_commands.specs.declared.refusal.PoolRefusal.TheVariants as refusal
 use Rattle.station_command_laws.specs.Answerable.{CanMakeVote, CanVote, HoldsAt, IsNotRefused, IsOfKeys, IsShort, SuchAreNotRefused}
 use Rattle.station_command_laws.proofs.Answers.{not_both, one_value}
 use Rattle.station_command_laws.proofs.Chains.{goes_on, has_next, of_next, one_chain, one_there}
@@ -45,44 +49,19 @@ use Rattle.station_command_laws.proofs.OneBasis.{one_basis, one_station, one_use
 
 -- ---- the station
 
-pub not_faulty : (bytes : List ℕ) (given : StationFacts) (used : ℕ) (why : Refusal) → station_of bytes ≡ Ok (given, used)
-    → IsFaulty bytes (Err why) → IsOfKeys why
-not_faulty bytes given used (refusal.Document why) read is = absurd is
-not_faulty bytes given used (refusal.Votes why) read is = absurd is
-not_faulty bytes given used (refusal.Station (station.Fault fault)) read is =
-    absurd (not_both (station_of bytes) (given, used) _ read is)
-not_faulty bytes given used (refusal.Station (station.Word why)) read is = absurd is
-not_faulty bytes given used (refusal.Station (station.Descriptor k why)) read is = absurd is
-not_faulty bytes given used (refusal.Station (station.OwnCert why)) read is = absurd is
-not_faulty bytes given used (refusal.Station station.MadeVote) read is = absurd is
-not_faulty bytes given used refusal.Verifier read is = absurd is
-not_faulty bytes given used (refusal.Bandwidth why) read is = absurd is
-not_faulty bytes given used (refusal.Report why) read is = absurd is
-not_faulty bytes given used refusal.Signer read is = absurd is
-not_faulty bytes given used refusal.Gate read is = absurd is
+pub not_faulty : (bytes : List ℕ) (given : StationFacts) (used : ℕ) (fault : FrameFault)
+    → station_of bytes ≡ Ok (given, used) → station_of bytes ≡ Err (doc.Frame fault) → ⊥
+not_faulty bytes given used fault reads is = not_both (station_of bytes) (given, used) (doc.Frame fault) reads is
 
-pub in_order : (given : StationFacts) (schedule : Schedule) (why : Refusal) → IsInOrder given schedule → HasWord given why
-    → IsOfKeys why
-in_order given schedule (refusal.Document why) order has = absurd has
-in_order given schedule (refusal.Votes why) order has = absurd has
-in_order given schedule (refusal.Station (station.Fault fault)) order has = absurd has
-in_order given schedule (refusal.Station (station.Word word.Roster)) order has =
-    absurd (not_both (roster_in given) order.roster has.0 order.members has.1)
-in_order given schedule (refusal.Station (station.Word word.Schedule)) order has =
-    absurd (not_both (schedule_given given) schedule has.fault order.scheduled has.scheduled)
-in_order given schedule (refusal.Station (station.Word word.Own)) order has =
+pub in_order : (given : StationFacts) (schedule : Schedule) (why : OrderWord) → IsInOrder given schedule
+    → IsOutOfOrder given why → ⊥
+in_order given schedule word.Roster order has =
+    not_both (roster_in given) order.roster has.0 order.members has.1
+in_order given schedule word.Schedule order has =
+    not_both (schedule_given given) schedule has.fault order.scheduled has.scheduled
+in_order given schedule word.Own order has =
     let same = one_value (roster_in given) has.roster order.roster has.members order.members in
-    absurd (false≢true (sym has.own ∙ ap (λ (r : List Fingerprint). has_member r given.identity) same ∙ order.own))
-in_order given schedule (refusal.Station (station.Word word.Pool)) order has = absurd has
-in_order given schedule (refusal.Station (station.Word word.EndOfTime)) order has = absurd has
-in_order given schedule (refusal.Station (station.Descriptor k why)) order has = absurd has
-in_order given schedule (refusal.Station (station.OwnCert why)) order has = absurd has
-in_order given schedule (refusal.Station station.MadeVote) order has = absurd has
-in_order given schedule refusal.Verifier order has = absurd has
-in_order given schedule (refusal.Bandwidth why) order has = absurd has
-in_order given schedule (refusal.Report why) order has = absurd has
-in_order given schedule refusal.Signer order has = absurd has
-in_order given schedule refusal.Gate order has = absurd has
+    false≢true (sym has.own ∙ ap (λ (r : List Fingerprint). has_member r given.identity) same ∙ order.own)
 
 -- ---- the descriptors
 
@@ -92,26 +71,19 @@ one_holds rules d clause.Identity ok free refused = false≢true (sym refused �
 one_holds rules d clause.Signature ok free refused = false≢true (sym free.signed ∙ refused.1)
 one_holds rules d clause.Ed25519 ok free refused = false≢true (sym free.ed_signed ∙ refused.2)
 
-pub has_pool : (rules : Rules) (start : ℕ) (bytes : List ℕ) (pool : Pooled) (why : Refusal)
+pub has_pool : (rules : Rules) (start : ℕ) (bytes : List ℕ) (pool : Pooled) (why : PoolRefusal)
     (is : IsPoolOf rules start bytes pool) → All (IsNotRefused rules) is.descriptors
-    → RefusesDescriptors rules start bytes why → IsOfKeys why
-has_pool rules start bytes pool (refusal.Document why) is free refuses =
-    let x = refuses.1 in
+    → RefusesDescriptors rules start bytes why → why ≡ refusal.Verifier
+has_pool rules start bytes pool (refusal.Fault fault) is free x =
     let more = goes_on bytes start is.descriptors x.descriptors is.last x.last is.hold.stand is.ended x.hold.stand in
     let next = has_next bytes more.rest is.last x.last more.stands is.ended x.more in
     absurd (not_both (descriptor_from x.last bytes) (next.one, next.next) _ next.there x.fails)
-has_pool rules start bytes pool (refusal.Votes why) is free refuses = absurd refuses
-has_pool rules start bytes pool (refusal.Station (station.Fault fault)) is free refuses = absurd refuses
-has_pool rules start bytes pool (refusal.Station (station.Word word.Roster)) is free refuses = absurd refuses
-has_pool rules start bytes pool (refusal.Station (station.Word word.Schedule)) is free refuses = absurd refuses
-has_pool rules start bytes pool (refusal.Station (station.Word word.Own)) is free refuses = absurd refuses
-has_pool rules start bytes pool (refusal.Station (station.Word word.Pool)) is free refuses =
+has_pool rules start bytes pool refusal.Full is free refuses =
     let chain =
     one_chain bytes start is.descriptors refuses.descriptors is.last refuses.last is.hold.stand is.ended
     refuses.hold.stand refuses.ended in
     absurd (false≢true (sym is.room ∙ ap (finds_full no_pool) (sym chain) ∙ refuses.full))
-has_pool rules start bytes pool (refusal.Station (station.Word word.EndOfTime)) is free refuses = absurd refuses
-has_pool rules start bytes pool (refusal.Station (station.Descriptor k why)) is free refuses =
+has_pool rules start bytes pool (refusal.Descriptor k why) is free refuses =
     let more =
     goes_on bytes start is.descriptors refuses.descriptors is.last refuses.last is.hold.stand is.ended
     refuses.hold.stand in
@@ -127,37 +99,16 @@ has_pool rules start bytes pool (refusal.Station (station.Descriptor k why)) is 
     refuses.stands next.there in
     absurd (one_holds rules next.one why ok unrefused
     (subst (λ (d : Descriptor). RefusedBy rules d (clause_of why)) same refuses.fails))
-has_pool rules start bytes pool (refusal.Station (station.OwnCert why)) is free refuses = absurd refuses
-has_pool rules start bytes pool (refusal.Station station.MadeVote) is free refuses = absurd refuses
-has_pool rules start bytes pool refusal.Verifier is free refuses = inl refl
-has_pool rules start bytes pool (refusal.Bandwidth why) is free refuses = absurd refuses
-has_pool rules start bytes pool (refusal.Report why) is free refuses = absurd refuses
-has_pool rules start bytes pool refusal.Signer is free refuses = absurd refuses
-has_pool rules start bytes pool refusal.Gate is free refuses = absurd refuses
+has_pool rules start bytes pool refusal.Verifier is free refuses = refl
 
 -- ---- the period
 
-pub has_period : (rules : Rules) (now : ℕ) (given : StationFacts) (used : ℕ) (bytes : List ℕ) (its : Basis) (why : Refusal)
-    → IsBasisOf rules now given used bytes its → HasNoPeriod (schedule_in given) now why → IsOfKeys why
-has_period rules now given used bytes its (refusal.Document why) is none = absurd none
-has_period rules now given used bytes its (refusal.Votes why) is none = absurd none
-has_period rules now given used bytes its (refusal.Station (station.Fault fault)) is none = absurd none
-has_period rules now given used bytes its (refusal.Station (station.Word word.Roster)) is none = absurd none
-has_period rules now given used bytes its (refusal.Station (station.Word word.Schedule)) is none = absurd none
-has_period rules now given used bytes its (refusal.Station (station.Word word.Own)) is none = absurd none
-has_period rules now given used bytes its (refusal.Station (station.Word word.Pool)) is none = absurd none
-has_period rules now given used bytes its (refusal.Station (station.Word word.EndOfTime)) is none =
+pub has_period : (rules : Rules) (now : ℕ) (given : StationFacts) (used : ℕ) (bytes : List ℕ) (its : Basis)
+    → IsBasisOf rules now given used bytes its → AnswersNext (schedule_in given) 0 now None → ⊥
+has_period rules now given used bytes its is none =
     let past = none its.valid_after is.next in
     let life = is.life in
-    absurd (omega (arith, past, life))
-has_period rules now given used bytes its (refusal.Station (station.Descriptor k why)) is none = absurd none
-has_period rules now given used bytes its (refusal.Station (station.OwnCert why)) is none = absurd none
-has_period rules now given used bytes its (refusal.Station station.MadeVote) is none = absurd none
-has_period rules now given used bytes its refusal.Verifier is none = absurd none
-has_period rules now given used bytes its (refusal.Bandwidth why) is none = absurd none
-has_period rules now given used bytes its (refusal.Report why) is none = absurd none
-has_period rules now given used bytes its refusal.Signer is none = absurd none
-has_period rules now given used bytes its refusal.Gate is none = absurd none
+    omega (arith, past, life)
 
 -- ---- the vote
 
@@ -175,7 +126,7 @@ allowed_alike rules others relays rulings alike allowed = record {
 }
 
 module _ {N : Type 0} (rules : Rules) (gives : Relation) (steps : SignerSteps N) (its : Basis) (old new : N) where
-  makes_one : (rulings : List OperatorRule) (found : MakeRefusal) (why : Refusal)
+  makes_one : (rulings : List OperatorRule) (found : MakeRefusal) (why : MakeVoteRefusal)
       → HoldsAt rules its.valid_after its.station.certificate → IsShort its → RuleAlike its.station.rules rulings
       → stop.Refused why ≡ make_refused found
       → RefusesToMake rules gives steps (list_allows rulings) its found old new → IsOfKeys why
@@ -212,13 +163,15 @@ module _ {N : Type 0} (rules : Rules) (gives : Relation) (steps : SignerSteps N)
 module _ {N : Type 0} (rules : Rules) (gives : Relation) (steps : SignerSteps N) (now : ℕ) (given : StationFacts) (used : ℕ)
     (bytes : List ℕ) (old new : N) where
   -- why no vote is made of a station of which one can be
-  pub none_refused : (why : Refusal) → CanVote rules now given used bytes
+  pub none_refused : (why : MakeVoteRefusal) → CanVote rules now given used bytes
       → RefusesVote rules gives steps now given used bytes why old new → IsOfKeys why
-  none_refused why can (inl has_word) = in_order given (schedule_in given) why can.basis.has_pool.order has_word
-  none_refused why can (inr (inl (order, refuses))) =
-      has_pool rules used bytes can.basis.pool why can.basis.has_pool.pool_of can.none_refused refuses
-  none_refused why can (inr (inr (inl (pool, other, none)))) =
-      has_period rules now given used bytes can.its why can.basis none
+  none_refused why can (inl (word, told, has)) =
+      absurd (in_order given (schedule_in given) word can.basis.has_pool.order has)
+  none_refused why can (inr (inl (order, (pool, told, refuses)))) =
+      let of_verifier = has_pool rules used bytes can.basis.pool pool can.basis.has_pool.pool_of can.none_refused refuses in
+      inl (told ∙ ap by_pool of_verifier)
+  none_refused why can (inr (inr (inl (pool, other, told, none)))) =
+      absurd (has_period rules now given used bytes can.its can.basis none)
   none_refused why can (inr (inr (inr (its, basis, none)))) =
       let same = one_basis rules now given used bytes its can.its basis can.basis in
       let own = subst (λ (b : Basis). MakesNone rules gives steps b (stop.Refused why) old new) same none in
@@ -229,7 +182,8 @@ module _ {N : Type 0} (rules : Rules) (gives : Relation) (steps : SignerSteps N)
 
 module _ {N : Type 0} (gives : Relation) (steps : SignerSteps N) where
   pub not_refused : SuchAreNotRefused gives steps
-  not_refused rules now bytes old new why can (inl faulty) = not_faulty bytes can.given can.used why can.read faulty
+  not_refused rules now bytes old new why can (inl (fault, told, faulty)) =
+      absurd (not_faulty bytes can.given can.used fault can.read faulty)
   not_refused rules now bytes old new why can (inr (given, used, read, answer)) =
       let station = one_station bytes given can.given used can.used read can.read in
       let behind = one_used bytes given can.given used can.used read can.read in

@@ -13,11 +13,13 @@ use Rattle.station_input.specs.Reading.{station_of}
 use Rattle.station_input.specs.declared.facts.StationFacts.{StationFacts}
 use Rattle.vote_maker.specs.Made.{Basis, made, relays_in, with_signature}
 use Rattle.vote_maker.specs.Making.{vote_limit}
-use Rattle.exit_status.specs.declared.status.Refusal.{Refusal}
-use Rattle.exit_status.specs.declared.status.Refusal.TheVariants as refusal
 use Rattle.station_commands.specs.Voting.{IsBasisOf, MakeVoteAnswers}
+use Rattle.station_commands.specs.declared.refusal.MakeVoteRefusal.{MakeVoteRefusal}
+use Rattle.station_commands.specs.declared.refusal.MakeVoteRefusal.TheVariants as refusal
 use Rattle.bandwidth_file.specs.declared.file.BandFile.{BandFile}
+use Rattle.bandwidth_commands.specs.Told.{by_vote}
 use Rattle.bandwidth_commands.specs.WithFile.{BeginsWithFile, FileVoteAnswers, station_behind}
+use Rattle.bandwidth_commands.specs.declared.refusal.FileVoteRefusal.{FileVoteRefusal}
 
 -- No signature of the descriptor may be refused, and its Ed25519 certificate, if it has one, has not expired.
 pub record IsNotRefused (rules : Rules) (d : Descriptor) : Type 0 where
@@ -65,15 +67,20 @@ pub record CanMakeVoteWithFile (rules : Rules) (now : ℕ) (bytes : List ℕ) : 
   pub can : CanVote rules now given used bytes
 
 -- it is the verifier's or the signer's
-abbrev pub IsOfKeys : Refusal → Type 0
+abbrev pub IsOfKeys : MakeVoteRefusal → Type 0
 IsOfKeys why = (why ≡ refusal.Verifier) ⊎ (why ≡ refusal.Signer)
+
+-- so is one of an input with a bandwidth file in front
+abbrev pub IsOfKeysBehind : FileVoteRefusal → Type 0
+IsOfKeysBehind why = (own : MakeVoteRefusal) × (why ≡ by_vote own) × IsOfKeys own
 
 -- an input that a vote can be made of at a moment is refused only where the verifier or the signer failed
 abbrev pub SuchAreNotRefused : {N : Type 0} → Relation → SignerSteps N → Type 0
-SuchAreNotRefused {N} gives steps = (rules : Rules) (now : ℕ) (bytes : List ℕ) (old new : N) (why : Refusal)
+SuchAreNotRefused {N} gives steps = (rules : Rules) (now : ℕ) (bytes : List ℕ) (old new : N) (why : MakeVoteRefusal)
     → CanMakeVote rules now bytes → MakeVoteAnswers rules gives steps now bytes (Err why) old new → IsOfKeys why
 
 -- the same of an input with a bandwidth file in front
 abbrev pub SuchFilesAreNotRefused : {N : Type 0} → Relation → SignerSteps N → Type 0
-SuchFilesAreNotRefused {N} gives steps = (rules : Rules) (now : ℕ) (bytes : List ℕ) (old new : N) (why : Refusal)
-    → CanMakeVoteWithFile rules now bytes → FileVoteAnswers rules gives steps now bytes (Err why) old new → IsOfKeys why
+SuchFilesAreNotRefused {N} gives steps = (rules : Rules) (now : ℕ) (bytes : List ℕ) (old new : N) (why : FileVoteRefusal)
+    → CanMakeVoteWithFile rules now bytes → FileVoteAnswers rules gives steps now bytes (Err why) old new
+    → IsOfKeysBehind why

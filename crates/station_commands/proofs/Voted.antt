@@ -1,5 +1,5 @@
 -- The vote that is made of what a station is given, call by call.
-use Rattle.std.proofs.Common.{◌≡◌, ℕ, ◌≤◌, List, Result, Ok, Err, refl, sym, subst}
+use Rattle.std.proofs.Common.{◌≡◌, ℕ, ◌≤◌, List, Option, Some, None, Result, Ok, Err, refl, sym, subst}
 use Rattle.std.proofs.lemmas.Bool.{false≢true}
 use Rattle.std.specs.Global.{Vec}
 use Rattle.std.specs.Prelude.{IfErr}
@@ -9,22 +9,22 @@ use Rattle.key_port.specs.Signing.{SignerSteps}
 use Rattle.authority_certs.specs.declared.checking.CertAnswer.TheVariants as answer
 use Rattle.flag_rules.specs.Rules.{RuleAlike, list_allows}
 use Rattle.flag_rules.specs.declared.operator.OperatorRule.{OperatorRule}
-use Rattle.exit_status.specs.Stops.{Answered}
-use Rattle.exit_status.specs.declared.status.Refusal.TheVariants as refusal
-use Rattle.exit_status.specs.declared.stop.Stop.{Stop}
-use Rattle.exit_status.specs.declared.stop.Stop.TheVariants as stop
+use Rattle.daemon_words.specs.Stops.{Answered}
+use Rattle.daemon_words.specs.declared.stop.Stop.{Stop}
+use Rattle.daemon_words.specs.declared.stop.Stop.TheVariants as stop
 use Rattle.station_input.specs.declared.facts.StationFacts.{StationFacts}
 use Rattle.vote_pool.specs.Pools.{Pooled}
-use Rattle.vote_schedule.specs.Moments.{valid_until}
+use Rattle.vote_schedule.specs.Moments.{AnswersNext, valid_until}
 use Rattle.vote_schedule.specs.Schedules.{Schedule}
 use Rattle.vote_maker.specs.Made.{Basis, basis, schedule_in}
 use Rattle.vote_maker.specs.Making.{IsMade, RefusesToMake}
 use Rattle.vote_maker.specs.declared.refusal.MakeRefusal.{MakeRefusal}
 use Rattle.vote_maker.specs.declared.refusal.MakeRefusal.TheVariants as make
-use Rattle.station_commands.specs.Descriptors.{GivesPool}
 use Rattle.station_commands.specs.Order.{IsInOrder}
 use Rattle.station_commands.specs.Told.{make_refused}
-use Rattle.station_commands.specs.Voting.{GivesPeriod, GivesVote, HasPool, IsBasisOf, IsBeforeSigner, IsOfStation}
+use Rattle.station_commands.specs.Voting.{GivesVote, HasPool, IsBasisOf, IsBeforeSigner, IsOfStation}
+use Rattle.station_commands.specs.declared.refusal.MakeVoteRefusal.{MakeVoteRefusal}
+use Rattle.station_commands.specs.declared.refusal.MakeVoteRefusal.TheVariants as refusal
 use Rattle.station_commands.proofs.Schedules.{schedule_is}
 use Rattle.station_commands.proofs.Stopping.{Ends, no_vote, unsigned, vote_not_of_station}
 
@@ -42,7 +42,7 @@ module _ {N : Type 0} (rules : Rules) (gives : Relation) (steps : SignerSteps N)
   }
 
   -- none was made
-  pub not_voted : (list others : List OperatorRule) (found : MakeRefusal) (why : Stop) → RuleAlike its.station.rules list
+  pub not_voted : (list others : List OperatorRule) (found : MakeRefusal) (why : Stop MakeVoteRefusal) → RuleAlike its.station.rules list
       → others ≡ list → RefusesToMake rules gives steps (list_allows others) its found old new
       → why ≡ make_refused found → GivesVote rules gives steps its (Err why) old new
   not_voted list others found stop.Memory alike is refuses told = tt
@@ -70,12 +70,12 @@ module _ {N : Type 0} (rules : Rules) (gives : Relation) (steps : SignerSteps N)
   failed_verifier rulings make.Memory refuses is = absurd (cc is)
 
   -- where the answer is known, the vote is as given, and what was asked before
-  pub unsigned_of : (result : Result (Vec ℕ) Stop) → GivesVote rules gives steps its result old new
+  pub unsigned_of : (result : Result (Vec ℕ) (Stop MakeVoteRefusal)) → GivesVote rules gives steps its result old new
       → IfErr result (λ why. IsBeforeSigner why → new ≡ old)
   unsigned_of (Ok text) is = tt
   unsigned_of (Err why) is = unsigned rules gives steps its old new why is
 
-  pub unasked_of : {V : Type 0} (before after : V) (result : Result (Vec ℕ) Stop)
+  pub unasked_of : {V : Type 0} (before after : V) (result : Result (Vec ℕ) (Stop MakeVoteRefusal))
       → GivesVote rules gives steps its result old new → IfErr result (λ why. IsOfStation why → after ≡ before)
   unasked_of before after (Ok text) is = tt
   unasked_of before after (Err why) is = λ of. absurd (vote_not_of_station rules gives steps its old new why is of)
@@ -100,24 +100,23 @@ pub in_order : (given : StationFacts) (schedule : Schedule) → IsInOrder given 
 in_order given schedule order =
     subst (λ (s : Schedule). IsInOrder given s) (schedule_is given schedule order.scheduled) order
 
--- there is no period at that moment
-pub at_moment : (schedule own : Schedule) (now : ℕ) (why : Stop) → schedule ≡ own → GivesPeriod schedule now (Err why)
-    → GivesPeriod own now (Err why)
-at_moment schedule own now why same is = subst (λ (s : Schedule). GivesPeriod s now (Err why)) same is
+-- the next period is that of the same schedule
+pub at_moment : (schedule own : Schedule) (now : ℕ) (next : Option ℕ) → schedule ≡ own → AnswersNext schedule 0 now next
+    → AnswersNext own 0 now next
+at_moment schedule own now next same is = subst (λ (s : Schedule). AnswersNext s 0 now next) same is
 
 -- the life of what is made ends within the moments
 pub within_moments : (schedule own : Schedule) (now valid_after : ℕ) → schedule ≡ own
-    → GivesPeriod schedule now (Ok valid_after) → valid_until own valid_after ≤ last_moment
-within_moments schedule own now valid_after same is =
-    (subst (λ (s : Schedule). GivesPeriod s now (Ok valid_after)) same is).1
+    → AnswersNext schedule 0 now (Some valid_after) → valid_until own valid_after ≤ last_moment
+within_moments schedule own now valid_after same is = (at_moment schedule own now (Some valid_after) same is).1
 
 -- this is what a vote is made of
 pub has_basis : (rules : Rules) (given : StationFacts) (used : ℕ) (bytes : List ℕ) (pool : Pooled) (schedule : Schedule)
     (now valid_after : ℕ) → schedule ≡ schedule_in given → HasPool rules given used bytes pool
-    → GivesPeriod schedule now (Ok valid_after)
+    → AnswersNext schedule 0 now (Some valid_after)
     → IsBasisOf rules now given used bytes (basis given pool.descriptors valid_after now)
 has_basis rules given used bytes pool schedule now valid_after same has next =
-    let there = subst (λ (s : Schedule). GivesPeriod s now (Ok valid_after)) same next in
+    let there = at_moment schedule (schedule_in given) now (Some valid_after) same next in
     record {
       pool = pool;
       has_pool = has;
@@ -130,16 +129,9 @@ has_basis rules given used bytes pool schedule now valid_after same has next =
 
 -- what is answered is the vote, or why there is none
 pub voted_at : {N : Type 0} (rules : Rules) (gives : Relation) (steps : SignerSteps N) (now : ℕ) (given : StationFacts)
-    (used : ℕ) (bytes : List ℕ) (old new : N) (its : Basis) (result : Result (Vec ℕ) Stop)
+    (used : ℕ) (bytes : List ℕ) (old new : N) (its : Basis) (result : Result (Vec ℕ) (Stop MakeVoteRefusal))
     → IsBasisOf rules now given used bytes its → GivesVote rules gives steps its result old new
     → Answered (Ends rules gives steps now given used bytes old new) result
 voted_at rules gives steps now given used bytes old new its (Ok text) has is = (its, has, is)
 voted_at rules gives steps now given used bytes old new its (Err why) has is =
     no_vote rules gives steps now given used bytes old new its why has is
-
--- ---- what is asked before
-
--- of descriptors no refusal is the signer's
-pub no_signer : (rules : Rules) (start : ℕ) (bytes : List ℕ) (why : Stop) → GivesPool rules start bytes (Err why)
-    → why ≡ stop.Refused refusal.Signer → ⊥
-no_signer rules start bytes why gives is = subst (λ (w : Stop). GivesPool rules start bytes (Err w)) is gives

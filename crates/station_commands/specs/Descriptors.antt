@@ -15,15 +15,12 @@ use Rattle.descriptor_doc.specs.declared.descriptor.Descriptor.{Descriptor}
 use Rattle.vote_pool.specs.Pools.{Pooled, answer_to, pool_after}
 use Rattle.vote_pool.specs.declared.answers.Keep.{Keep}
 use Rattle.vote_pool.specs.declared.answers.Keep.TheVariants as keep
-use Rattle.daemon_words.specs.declared.command.Kind.TheVariants as kind
-use Rattle.exit_status.specs.declared.station_refusal.DescriptorWord.{DescriptorWord}
-use Rattle.exit_status.specs.declared.station_refusal.DescriptorWord.TheVariants as fails
-use Rattle.exit_status.specs.declared.station_refusal.StationRefusal.TheVariants as station
-use Rattle.exit_status.specs.declared.station_refusal.StationWord.TheVariants as word
-use Rattle.exit_status.specs.declared.status.Refusal.{Refusal}
-use Rattle.exit_status.specs.declared.status.Refusal.TheVariants as refusal
-use Rattle.exit_status.specs.declared.stop.Stop.{Stop}
-use Rattle.exit_status.specs.declared.stop.Stop.TheVariants as stop
+use Rattle.daemon_words.specs.declared.stop.Stop.{Stop}
+use Rattle.daemon_words.specs.declared.stop.Stop.TheVariants as stop
+use Rattle.station_commands.specs.declared.refusal.DescriptorWord.{DescriptorWord}
+use Rattle.station_commands.specs.declared.refusal.DescriptorWord.TheVariants as fails
+use Rattle.station_commands.specs.declared.refusal.PoolRefusal.{PoolRefusal}
+use Rattle.station_commands.specs.declared.refusal.PoolRefusal.TheVariants as refusal
 
 -- more bytes than an input has
 abbrev pub no_limit : ℕ
@@ -153,18 +150,16 @@ clause_of fails.Ed25519 = descriptor.BadEdSignature
 
 -- why the descriptors of an input are refused: the first fault, or the first that does not hold; or that the verifier was
 -- asked of one; or, behind all of them, that the pool is full
-abbrev pub RefusesDescriptors : Rules → ℕ → List ℕ → Refusal → Type 0
-RefusesDescriptors rules start bytes (refusal.Document why) =
-    (why.kind ≡ kind.Descriptor) × IsNoDescriptor rules start bytes why.fault
-RefusesDescriptors rules start bytes (refusal.Station (station.Descriptor number why)) =
+abbrev pub RefusesDescriptors : Rules → ℕ → List ℕ → PoolRefusal → Type 0
+RefusesDescriptors rules start bytes (refusal.Fault fault) = IsNoDescriptor rules start bytes fault
+RefusesDescriptors rules start bytes (refusal.Descriptor number why) =
     IsFirstRefused rules start bytes number (clause_of why)
 RefusesDescriptors rules start bytes refusal.Verifier =
     (number : ℕ) × IsFirstRefused rules start bytes number descriptor.VerifierFault
-RefusesDescriptors rules start bytes (refusal.Station (station.Word word.Pool)) = FillsPool rules start bytes
-RefusesDescriptors rules start bytes _ = ⊥
+RefusesDescriptors rules start bytes refusal.Full = FillsPool rules start bytes
 
 -- the pool of the descriptors of an input, or why there is none, or there was no memory
-abbrev pub GivesPool : Rules → ℕ → List ℕ → Result Pooled Stop → Type 0
+abbrev pub GivesPool : Rules → ℕ → List ℕ → Result Pooled (Stop PoolRefusal) → Type 0
 GivesPool rules start bytes (Ok pool) = IsPoolOf rules start bytes pool
 GivesPool rules start bytes (Err stop.Memory) = Unit {0}
 GivesPool rules start bytes (Err (stop.Refused why)) = RefusesDescriptors rules start bytes why

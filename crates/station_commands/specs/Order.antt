@@ -3,13 +3,10 @@ use Rattle.std.specs.Prelude.{◌≡◌, true, false, List, map, Result, Ok, Err
 use Rattle.dir_values.specs.Rosters.{has_member, roster_of}
 use Rattle.dir_values.specs.declared.digest.Fingerprint.{Fingerprint}
 use Rattle.dir_values.specs.declared.roster.RosterFault.{RosterFault}
-use Rattle.exit_status.specs.declared.station_refusal.StationRefusal.TheVariants as station
-use Rattle.exit_status.specs.declared.station_refusal.StationWord.{StationWord}
-use Rattle.exit_status.specs.declared.station_refusal.StationWord.TheVariants as word
-use Rattle.exit_status.specs.declared.status.Refusal.{Refusal}
-use Rattle.exit_status.specs.declared.status.Refusal.TheVariants as refusal
-use Rattle.exit_status.specs.declared.stop.Stop.{Stop}
-use Rattle.exit_status.specs.declared.stop.Stop.TheVariants as stop
+use Rattle.daemon_words.specs.declared.stop.Stop.{Stop}
+use Rattle.daemon_words.specs.declared.stop.Stop.TheVariants as stop
+use Rattle.station_commands.specs.declared.refusal.OrderWord.{OrderWord}
+use Rattle.station_commands.specs.declared.refusal.OrderWord.TheVariants as word
 use Rattle.station_input.specs.declared.facts.Peer.{Peer}
 use Rattle.station_input.specs.declared.facts.StationFacts.{StationFacts}
 use Rattle.vote_schedule.specs.Schedules.{Schedule, schedule_of}
@@ -50,20 +47,13 @@ pub record IsNoMember (station : StationFacts) : Type 0 where
   pub own : has_member roster station.identity ≡ false
 
 -- what a station is given is not in order, for this reason, the first
-abbrev pub IsOutOfOrder : StationFacts → StationWord → Type 0
+abbrev pub IsOutOfOrder : StationFacts → OrderWord → Type 0
 IsOutOfOrder station word.Roster = (fault : RosterFault) × (roster_in station ≡ Err fault)
 IsOutOfOrder station word.Schedule = HasNoSchedule station
 IsOutOfOrder station word.Own = IsNoMember station
-IsOutOfOrder station word.Pool = ⊥
-IsOutOfOrder station word.EndOfTime = ⊥
-
--- what a station is given is refused for the reason that the refusal names
-abbrev pub HasWord : StationFacts → Refusal → Type 0
-HasWord given (refusal.Station (station.Word why)) = IsOutOfOrder given why
-HasWord given _ = ⊥
 
 -- the schedule of a station that is in order, or why it is not, or there was no memory
-abbrev pub GivesSchedule : StationFacts → Result Schedule Stop → Type 0
+abbrev pub GivesSchedule : StationFacts → Result Schedule (Stop OrderWord) → Type 0
 GivesSchedule given (Ok schedule) = IsInOrder given schedule
 GivesSchedule given (Err stop.Memory) = Unit {0}
-GivesSchedule given (Err (stop.Refused why)) = HasWord given why
+GivesSchedule given (Err (stop.Refused why)) = IsOutOfOrder given why

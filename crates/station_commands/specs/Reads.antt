@@ -8,12 +8,11 @@ use Rattle.descriptor_doc.specs.Checks.{IsVerified, RefusedBy}
 use Rattle.descriptor_doc.specs.declared.checking.DescriptorRefusal.{DescriptorRefusal}
 use Rattle.descriptor_doc.specs.declared.checking.DescriptorRefusal.TheVariants as descriptor
 use Rattle.descriptor_doc.specs.declared.descriptor.Descriptor.{Descriptor}
-use Rattle.daemon_words.specs.declared.command.Kind.TheVariants as kind
-use Rattle.exit_status.specs.declared.station_refusal.StationRefusal.TheVariants as station
-use Rattle.exit_status.specs.declared.status.Refusal.TheVariants as refusal
-use Rattle.exit_status.specs.declared.stop.Stop.{Stop}
-use Rattle.exit_status.specs.declared.stop.Stop.TheVariants as stop
+use Rattle.daemon_words.specs.declared.stop.Stop.{Stop}
+use Rattle.daemon_words.specs.declared.stop.Stop.TheVariants as stop
 use Rattle.station_commands.specs.Descriptors.{clause_of, descriptor_from}
+use Rattle.station_commands.specs.declared.refusal.PoolRefusal.{PoolRefusal}
+use Rattle.station_commands.specs.declared.refusal.PoolRefusal.TheVariants as refusal
 
 -- what reading from a place on answers: the descriptor that stands there, which ends behind the place and within the input; or
 -- the first fault, or want of memory
@@ -37,16 +36,16 @@ pub record IsVerifiedAt (rules : Rules) (place : ℕ) (bytes : List ℕ) (descri
   pub within : next ≤ length bytes
 
 -- why nothing is kept of what stands at a place: it is no descriptor, or one that does not hold
-abbrev pub StopsAt : Rules → ℕ → ℕ → List ℕ → Stop → Type 0
+abbrev pub StopsAt : Rules → ℕ → ℕ → List ℕ → Stop PoolRefusal → Type 0
 StopsAt rules place number bytes stop.Memory = Unit {0}
-StopsAt rules place number bytes (stop.Refused (refusal.Document why)) =
-    (why.kind ≡ kind.Descriptor) × (descriptor_from place bytes ≡ Err (read.Frame why.fault))
-StopsAt rules place number bytes (stop.Refused (refusal.Station (station.Descriptor k why))) =
+StopsAt rules place number bytes (stop.Refused (refusal.Fault fault)) =
+    descriptor_from place bytes ≡ Err (read.Frame fault)
+StopsAt rules place number bytes (stop.Refused (refusal.Descriptor k why)) =
     (k ≡ number) × IsRefusedAt rules place bytes (clause_of why)
 StopsAt rules place number bytes (stop.Refused refusal.Verifier) = IsRefusedAt rules place bytes descriptor.VerifierFault
-StopsAt rules place number bytes (stop.Refused _) = ⊥
+StopsAt rules place number bytes (stop.Refused refusal.Full) = ⊥
 
 -- what is kept of the descriptor that stands at a place and has this number, or why nothing is
-abbrev pub GivesEntry : Rules → ℕ → ℕ → List ℕ → Result (Descriptor × ℕ) Stop → Type 0
+abbrev pub GivesEntry : Rules → ℕ → ℕ → List ℕ → Result (Descriptor × ℕ) (Stop PoolRefusal) → Type 0
 GivesEntry rules place number bytes (Ok (descriptor, next)) = IsVerifiedAt rules place bytes descriptor next
 GivesEntry rules place number bytes (Err why) = StopsAt rules place number bytes why

@@ -7,12 +7,9 @@ use Rattle.key_port.specs.Signing.{SignerSteps}
 use Rattle.flag_rules.specs.Rules.{RuleAlike, list_allows}
 use Rattle.flag_rules.specs.declared.operator.OperatorRule.{OperatorRule}
 use Rattle.frame_terms.specs.declared.fault.ReadRefusal.TheVariants as read
-use Rattle.exit_status.specs.declared.station_refusal.StationRefusal.TheVariants as station
-use Rattle.exit_status.specs.declared.station_refusal.StationWord.TheVariants as word
-use Rattle.exit_status.specs.declared.status.Refusal.{Refusal}
-use Rattle.exit_status.specs.declared.status.Refusal.TheVariants as refusal
-use Rattle.exit_status.specs.declared.stop.Stop.{Stop}
-use Rattle.exit_status.specs.declared.stop.Stop.TheVariants as stop
+use Rattle.frame_terms.specs.declared.fault.FrameFault.{FrameFault}
+use Rattle.daemon_words.specs.declared.stop.Stop.{Stop}
+use Rattle.daemon_words.specs.declared.stop.Stop.TheVariants as stop
 use Rattle.station_input.specs.Reading.{station_of}
 use Rattle.station_input.specs.declared.facts.StationFacts.{StationFacts}
 use Rattle.vote_pool.specs.Pools.{Pooled}
@@ -22,8 +19,14 @@ use Rattle.vote_maker.specs.Made.{Basis, schedule_in}
 use Rattle.vote_maker.specs.Making.{IsMade, RefusesToMake}
 use Rattle.vote_maker.specs.declared.refusal.MakeRefusal.{MakeRefusal}
 use Rattle.station_commands.specs.Descriptors.{IsPoolOf, RefusesDescriptors}
-use Rattle.station_commands.specs.Order.{HasWord, IsInOrder}
-use Rattle.station_commands.specs.Told.{make_refused}
+use Rattle.station_commands.specs.Order.{IsInOrder, IsOutOfOrder}
+use Rattle.station_commands.specs.Told.{by_end, by_fault, by_order, by_pool, make_refused}
+use Rattle.station_commands.specs.declared.refusal.MakeVoteRefusal.{MakeVoteRefusal}
+use Rattle.station_commands.specs.declared.refusal.MakeVoteRefusal.TheVariants as refusal
+use Rattle.station_commands.specs.declared.refusal.OrderWord.{OrderWord}
+use Rattle.station_commands.specs.declared.refusal.PoolRefusal.{PoolRefusal}
+use Rattle.station_commands.specs.declared.refusal.StationRefusal.{StationRefusal}
+use Rattle.station_commands.specs.declared.refusal.StationRefusal.TheVariants as station
 
 -- ---- of what the vote is made
 
@@ -54,7 +57,7 @@ pub record IsVoteOf {N : Type 0} (rules : Rules) (gives : Relation) (steps : Sig
 
 -- None was made, and the command stops so.
 pub record MakesNone {N : Type 0} (rules : Rules) (gives : Relation) (steps : SignerSteps N) (its : Basis)
-    (why : Stop) (old new : N) : Type 0 where
+    (why : Stop MakeVoteRefusal) (old new : N) : Type 0 where
   pub rulings : List OperatorRule
   pub alike : RuleAlike its.station.rules rulings
   pub refusal : MakeRefusal
@@ -62,7 +65,8 @@ pub record MakesNone {N : Type 0} (rules : Rules) (gives : Relation) (steps : Si
   pub refused : RefusesToMake rules gives steps (list_allows rulings) its refusal old new
 
 -- the vote of its basis, or why there is none
-abbrev pub GivesVote : {N : Type 0} → Rules → Relation → SignerSteps N → Basis → Result (Vec ℕ) Stop → N → N → Type 0
+abbrev pub GivesVote : {N : Type 0} → Rules → Relation → SignerSteps N → Basis → Result (Vec ℕ) (Stop MakeVoteRefusal) → N → N
+    → Type 0
 GivesVote rules gives steps its (Ok text) old new = IsVoteOf rules gives steps its text.items old new
 GivesVote rules gives steps its (Err stop.Memory) old new = Unit {0}
 GivesVote rules gives steps its (Err (stop.Refused why)) old new =
@@ -70,26 +74,22 @@ GivesVote rules gives steps its (Err (stop.Refused why)) old new =
 
 -- ---- what is answered for a station
 
--- the schedule has no period any more
-abbrev pub HasNoPeriod : Schedule → ℕ → Refusal → Type 0
-HasNoPeriod schedule now (refusal.Station (station.Word word.EndOfTime)) =
-    AnswersNext schedule 0 now None
-HasNoPeriod schedule now _ = ⊥
-
 -- why no vote is made at a moment for a station that is given this, of the descriptors from a place on, by the first that
 -- applies: it is not in order; the descriptors are refused; there is no period any more; or no vote is made of its basis
-abbrev pub RefusesVote : {N : Type 0} → Rules → Relation → SignerSteps N → ℕ → StationFacts → ℕ → List ℕ → Refusal → N → N
-    → Type 0
+abbrev pub RefusesVote : {N : Type 0} → Rules → Relation → SignerSteps N → ℕ → StationFacts → ℕ → List ℕ
+    → MakeVoteRefusal → N → N → Type 0
 RefusesVote rules gives steps now given used bytes why old new =
-    HasWord given why
-    ⊎ (IsInOrder given (schedule_in given) × RefusesDescriptors rules used bytes why)
-    ⊎ ((pool : Pooled) × HasPool rules given used bytes pool × HasNoPeriod (schedule_in given) now why)
+    ((word : OrderWord) × (why ≡ by_order word) × IsOutOfOrder given word)
+    ⊎ (IsInOrder given (schedule_in given)
+    × ((pool : PoolRefusal) × (why ≡ by_pool pool) × RefusesDescriptors rules used bytes pool))
+    ⊎ ((pool : Pooled) × HasPool rules given used bytes pool × (why ≡ by_end)
+    × AnswersNext (schedule_in given) 0 now None)
     ⊎ ((its : Basis) × IsBasisOf rules now given used bytes its
     × MakesNone rules gives steps its (stop.Refused why) old new)
 
 -- what is answered for it: a signed vote, or a refusal
 abbrev pub VoteAnswers : {N : Type 0} → Rules → Relation → SignerSteps N → ℕ → StationFacts → ℕ → List ℕ
-    → Result (List ℕ) Refusal → N → N → Type 0
+    → Result (List ℕ) MakeVoteRefusal → N → N → Type 0
 VoteAnswers rules gives steps now given used bytes (Ok text) old new =
     (its : Basis) × IsBasisOf rules now given used bytes its × IsVoteOf rules gives steps its text old new
 VoteAnswers rules gives steps now given used bytes (Err why) old new =
@@ -97,15 +97,15 @@ VoteAnswers rules gives steps now given used bytes (Err why) old new =
 
 -- ---- the command
 
--- the input does not begin with what a station is given
-abbrev pub IsFaulty : List ℕ → Result (List ℕ) Refusal → Type 0
-IsFaulty bytes (Err (refusal.Station (station.Fault fault))) = station_of bytes ≡ Err (read.Frame fault)
-IsFaulty bytes _ = ⊥
+-- the answer is that the input does not begin with what a station is given
+abbrev pub IsFaulty : List ℕ → Result (List ℕ) MakeVoteRefusal → Type 0
+IsFaulty bytes answer =
+    (fault : FrameFault) × (answer ≡ Err (by_fault fault)) × (station_of bytes ≡ Err (read.Frame fault))
 
 -- what the command answers to an input at a moment: why it does not begin with what a station is given; or else what is
 -- answered for that station
 abbrev pub MakeVoteAnswers : {N : Type 0} → Rules → Relation → SignerSteps N → ℕ → List ℕ
-    → Result (List ℕ) Refusal → N → N → Type 0
+    → Result (List ℕ) MakeVoteRefusal → N → N → Type 0
 MakeVoteAnswers rules gives steps now bytes answer old new =
     IsFaulty bytes answer
     ⊎ ((given : StationFacts) × (used : ℕ) × (station_of bytes ≡ Ok (given, used))
@@ -114,33 +114,26 @@ MakeVoteAnswers rules gives steps now bytes answer old new =
 -- ---- what is asked
 
 -- what is refused before a descriptor is checked
-abbrev pub IsOfStation : Stop → Type 0
-IsOfStation (stop.Refused (refusal.Station (station.Fault fault))) = Unit {0}
-IsOfStation (stop.Refused (refusal.Station (station.Word word.Roster))) = Unit {0}
-IsOfStation (stop.Refused (refusal.Station (station.Word word.Schedule))) = Unit {0}
-IsOfStation (stop.Refused (refusal.Station (station.Word word.Own))) = Unit {0}
-IsOfStation (stop.Refused (refusal.Bandwidth why)) = Unit {0}
+abbrev pub IsBeforeDescriptors : StationRefusal → Type 0
+IsBeforeDescriptors (station.Fault fault) = Unit {0}
+IsBeforeDescriptors (station.Order why) = Unit {0}
+IsBeforeDescriptors _ = ⊥
+
+-- the same, of the command
+abbrev pub IsOfStation : Stop MakeVoteRefusal → Type 0
+IsOfStation (stop.Refused (refusal.Station why)) = IsBeforeDescriptors why
 IsOfStation _ = ⊥
 
 -- what is refused before the signer is asked
-abbrev pub IsBeforeSigner : Stop → Type 0
-IsBeforeSigner stop.Memory = ⊥
-IsBeforeSigner (stop.Refused refusal.Signer) = ⊥
-IsBeforeSigner (stop.Refused refusal.Gate) = ⊥
-IsBeforeSigner (stop.Refused (refusal.Station station.MadeVote)) = ⊥
-IsBeforeSigner (stop.Refused _) = Unit {0}
+abbrev pub IsBeforeSigner : Stop MakeVoteRefusal → Type 0
+IsBeforeSigner (stop.Refused (refusal.Station why)) = Unit {0}
+IsBeforeSigner (stop.Refused refusal.Verifier) = Unit {0}
+IsBeforeSigner _ = ⊥
 
 -- ---- what the private functions give
 
 -- what a station is given, and the place behind it, or its first fault, or there was no memory
-abbrev pub GivesStation : List ℕ → Result (StationFacts × ℕ) Stop → Type 0
+abbrev pub GivesStation : List ℕ → Result (StationFacts × ℕ) (Stop FrameFault) → Type 0
 GivesStation bytes (Ok (given, used)) = (station_of bytes ≡ Ok (given, used)) × (used ≤ length bytes)
 GivesStation bytes (Err stop.Memory) = Unit {0}
-GivesStation bytes (Err (stop.Refused why)) = IsFaulty bytes (Err why)
-
--- when the next consensus of a schedule becomes valid, or that there is none
-abbrev pub GivesPeriod : Schedule → ℕ → Result ℕ Stop → Type 0
-GivesPeriod schedule now (Ok valid_after) =
-    IsNext schedule 0 now valid_after × (valid_until schedule valid_after ≤ last_moment)
-GivesPeriod schedule now (Err stop.Memory) = ⊥
-GivesPeriod schedule now (Err (stop.Refused why)) = HasNoPeriod schedule now why
+GivesStation bytes (Err (stop.Refused fault)) = station_of bytes ≡ Err (read.Frame fault)

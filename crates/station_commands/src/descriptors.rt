@@ -6,12 +6,12 @@ ghost use Rattle.descriptor_doc.specs.Reading.{IsRead};
 ghost use Rattle.station_commands.specs.Descriptors as descriptors;
 ghost use Rattle.station_commands.specs.Reads as reads;
 
-use crate::told::{descriptor_refused, station_refused};
+use crate::refusal::PoolRefusal;
+use crate::told::descriptor_refused;
 use bytes::Bytes;
-use daemon_words::Kind;
+use daemon_words::Stop;
 use descriptor_doc::{Descriptor, check, read};
 use dirdoc_grammar::Items;
-use exit_status::{Refusal, StationWord, Stop, of_kind};
 use frame_terms::{FrameFault, ReadRefusal};
 use key_port::Verifier;
 use std::alloc::Global;
@@ -69,18 +69,22 @@ fn entry_at<V: Verifier>(
     place: usize,
     number: u64,
     verifier: &mut V,
-) -> Result<(PoolEntry<V>, usize), Stop>
+) -> Result<(PoolEntry<V>, usize), Stop<PoolRefusal>>
     requires within { place ≤ length bytes.now }
     requires short { length bytes.now < 2 ^ 61 }
     ensures gives { reads.GivesEntry (rules V.may_accept V.may_refuse) place number bytes.now result }
-    ensures fault { result ≡ Err (Stop.Refused Refusal.Verifier) → Rose (V.faults verifier.old) (V.faults verifier.new) }
+    ensures fault { result ≡ Err (Stop.Refused PoolRefusal.Verifier) → Rose (V.faults verifier.old) (V.faults verifier.new) }
     ensures faults { V.faults verifier.old ≤ V.faults verifier.new }
-    ensures told { V.faults verifier.old < V.faults verifier.new → result ≡ Err (Stop.Refused Refusal.Verifier) }
+    ensures told { V.faults verifier.old < V.faults verifier.new → result ≡ Err (Stop.Refused PoolRefusal.Verifier) }
 {
-    let (descriptor, after) = of_kind(Kind::Descriptor, read_at(alloc, bytes, place))?;
+    let (descriptor, after) = match read_at(alloc, bytes, place) {
+        Ok((descriptor, after)) => (descriptor, after),
+        Err(ReadRefusal::Frame(fault)) => return Err(Stop::Refused(PoolRefusal::Fault(fault))),
+        Err(ReadRefusal::Memory) => return Err(Stop::Memory),
+    };
     match check(descriptor, verifier) {
         Ok(checked) => Ok((prepare(alloc, checked)?, after)),
-        Err(refusal) => Err(descriptor_refused(number, refusal)),
+        Err(refusal) => Err(Stop::Refused(descriptor_refused(number, refusal))),
     }
 }
 
@@ -88,20 +92,20 @@ fn entry_at<V: Verifier>(
 ///
 /// # Errors
 /// `Refused` by the first that applies: the first fault of a descriptor, or the first that does not hold, with its number from
-/// 1, or `Verifier` where the verifier's count of faults rose; and behind all of them `Pool`, where one of them found the pool
+/// 1, or `Verifier` where the verifier's count of faults rose; and behind all of them `Full`, where one of them found the pool
 /// full. `Memory` is want of memory.
 pub fn pool_of<V: Verifier>(
     alloc: Global,
     bytes: &Bytes,
     start: usize,
     verifier: &mut V,
-) -> Result<Pool<V>, Stop>
+) -> Result<Pool<V>, Stop<PoolRefusal>>
     requires within { start ≤ length bytes.now }
     requires short { length bytes.now < 2 ^ 61 }
     ensures gives { descriptors.GivesPool (rules V.may_accept V.may_refuse) start bytes.now result }
-    ensures fault { result ≡ Err (Stop.Refused Refusal.Verifier) → Rose (V.faults verifier.old) (V.faults verifier.new) }
+    ensures fault { result ≡ Err (Stop.Refused PoolRefusal.Verifier) → Rose (V.faults verifier.old) (V.faults verifier.new) }
     ensures faults { V.faults verifier.old ≤ V.faults verifier.new }
-    ensures told { V.faults verifier.old < V.faults verifier.new → result ≡ Err (Stop.Refused Refusal.Verifier) }
+    ensures told { V.faults verifier.old < V.faults verifier.new → result ≡ Err (Stop.Refused PoolRefusal.Verifier) }
 {
     let mut pool = Pool::new(alloc)?;
     let mut place = start;
@@ -115,7 +119,7 @@ pub fn pool_of<V: Verifier>(
         place = after;
     }
     if full {
-        return Err(station_refused(StationWord::Pool));
+        return Err(Stop::Refused(PoolRefusal::Full));
     }
     Ok(pool)
 }

@@ -4,10 +4,14 @@
 mod descriptors;
 mod making;
 mod order;
+mod refusal;
 mod told;
 mod voting;
 
 pub use descriptors::{from_place, pool_of};
 pub use making::{make_vote, period_of, station_of, vote_from};
 pub use order::{members_of, schedule_of};
-pub use told::{cert_refused, station_refused};
+pub use refusal::{
+    CertWord, DescriptorWord, MakeVoteRefusal, OrderWord, PoolRefusal, StationRefusal,
+};
+pub use told::{cert_word, of_fault};

@@ -1,12 +1,11 @@
 // Whether what a station is given is in order: its roster, its schedule, and its own authority among the others.
 ghost use Rattle.std.specs.Prelude.{◌≡◌, IfOk};
 ghost use Rattle.station_commands.specs.Order as order;
-ghost use Rattle.station_commands.specs.Told.{IsOfNoKeys};
 
-use crate::told::station_refused;
+use crate::refusal::OrderWord;
+use daemon_words::Stop;
 use dir_bytes::Memory;
 use dir_values::{Fingerprint, Roster};
-use exit_status::{StationWord, Stop};
 use station_input::{Peer, StationFacts};
 use std::alloc::Global;
 use vote_schedule::Config;
@@ -27,20 +26,19 @@ pub fn members_of(alloc: Global, authorities: &[Peer]) -> Result<Vec<Fingerprint
 /// # Errors
 /// `Refused` by the first that applies: `Roster` where the authorities are none, more than 32, or one stands twice; `Schedule`
 /// where the three numbers are none; `Own` where the own authority is none of them. `Memory` is want of memory.
-pub fn schedule_of(alloc: Global, station: &StationFacts) -> Result<Config, Stop>
-    ensures gives { order.GivesSchedule station.now result }
-    ensures others { IsOfNoKeys result }
+pub fn schedule_of(alloc: Global, station: &StationFacts) -> Result<Config, Stop<OrderWord>>
+    ensures { order.GivesSchedule station.now result }
 {
     let members = members_of(alloc, station.authorities.as_slice())?;
     let Ok(roster) = Roster::new(members) else {
-        return Err(station_refused(StationWord::Roster));
+        return Err(Stop::Refused(OrderWord::Roster));
     };
     let schedule = Config::new(station.interval, station.vote_seconds, station.dist_seconds);
     let Ok(schedule) = schedule else {
-        return Err(station_refused(StationWord::Schedule));
+        return Err(Stop::Refused(OrderWord::Schedule));
     };
     if !roster.contains(&station.identity) {
-        return Err(station_refused(StationWord::Own));
+        return Err(Stop::Refused(OrderWord::Own));
     }
     Ok(schedule)
 }

@@ -2,66 +2,104 @@
 ghost use Rattle.std.specs.Prelude.{◌≡◌};
 ghost use Rattle.station_commands.specs.Told as told;
 
+use crate::refusal::{
+    CertWord, DescriptorWord, MakeVoteRefusal, OrderWord, PoolRefusal, StationRefusal,
+};
 use authority_certs::CertAnswer;
+use daemon_words::Stop;
 use descriptor_doc::DescriptorRefusal;
-use exit_status::{CertWord, DescriptorWord, Refusal, StationRefusal, StationWord, Stop};
+use frame_terms::FrameFault;
 use vote_maker::MakeRefusal;
 
-/// That what a station is given is refused for this reason.
-pub fn station_refused(word: StationWord) -> Stop
-    ensures { result ≡ told.station_refused word }
+/// That the station can make no vote.
+pub(crate) fn station_stop(why: StationRefusal) -> Stop<MakeVoteRefusal>
+    ensures { result ≡ told.station_stop why }
 {
-    Stop::Refused(Refusal::Station(StationRefusal::Word(word)))
+    Stop::Refused(MakeVoteRefusal::Station(why))
 }
 
-/// That the descriptor with this number is refused for this reason.
-fn descriptor_word(number: u64, word: DescriptorWord) -> Stop
-    ensures { result ≡ told.descriptor_word number word }
+/// That the input does not begin with what a station is given.
+pub fn of_fault(stop: Stop<FrameFault>) -> Stop<MakeVoteRefusal>
+    ensures { result ≡ told.of_fault stop }
 {
-    Stop::Refused(Refusal::Station(StationRefusal::Descriptor { number, word }))
-}
-
-/// That the descriptor with this number does not hold, or that the verifier failed at it.
-pub fn descriptor_refused(number: u64, refusal: DescriptorRefusal) -> Stop
-    ensures { result ≡ told.descriptor_refused number refusal }
-{
-    match refusal {
-        DescriptorRefusal::IdentityMismatch => descriptor_word(number, DescriptorWord::Identity),
-        DescriptorRefusal::BadSignature => descriptor_word(number, DescriptorWord::Signature),
-        DescriptorRefusal::BadEdSignature => descriptor_word(number, DescriptorWord::Ed25519),
-        DescriptorRefusal::VerifierFault => Stop::Refused(Refusal::Verifier),
+    match stop {
+        Stop::Refused(fault) => station_stop(StationRefusal::Fault(fault)),
+        Stop::Memory => Stop::Memory,
     }
 }
 
-/// That the own certificate fails a clause.
-fn cert_word(word: CertWord) -> Stop
-    ensures { result ≡ told.cert_word word }
+/// That what a station is given is out of order.
+pub(crate) fn of_order(stop: Stop<OrderWord>) -> Stop<MakeVoteRefusal>
+    ensures { result ≡ told.of_order stop }
 {
-    Stop::Refused(Refusal::Station(StationRefusal::OwnCert(word)))
+    match stop {
+        Stop::Refused(word) => station_stop(StationRefusal::Order(word)),
+        Stop::Memory => Stop::Memory,
+    }
+}
+
+/// That the descriptors make no pool.
+pub(crate) fn of_pool(stop: Stop<PoolRefusal>) -> Stop<MakeVoteRefusal>
+    ensures { result ≡ told.of_pool stop }
+{
+    match stop {
+        Stop::Refused(PoolRefusal::Fault(fault)) => station_stop(StationRefusal::NoDescriptor(
+            fault,
+        )),
+        Stop::Refused(PoolRefusal::Descriptor { number, word }) => {
+            station_stop(StationRefusal::Descriptor { number, word })
+        }
+        Stop::Refused(PoolRefusal::Full) => station_stop(StationRefusal::PoolFull),
+        Stop::Refused(PoolRefusal::Verifier) => Stop::Refused(MakeVoteRefusal::Verifier),
+        Stop::Memory => Stop::Memory,
+    }
+}
+
+/// That the descriptor with this number does not hold, or that the verifier failed at it.
+pub(crate) fn descriptor_refused(number: u64, refusal: DescriptorRefusal) -> PoolRefusal
+    ensures { result ≡ told.descriptor_refused number refusal }
+{
+    let word = match refusal {
+        DescriptorRefusal::IdentityMismatch => DescriptorWord::Identity,
+        DescriptorRefusal::BadSignature => DescriptorWord::Signature,
+        DescriptorRefusal::BadEdSignature => DescriptorWord::Ed25519,
+        DescriptorRefusal::VerifierFault => return PoolRefusal::Verifier,
+    };
+    PoolRefusal::Descriptor { number, word }
+}
+
+/// The word for the clause that a certificate fails; none where it holds, or the verifier failed.
+pub fn cert_word(answer: CertAnswer) -> Option<CertWord>
+    ensures { result ≡ told.cert_word answer }
+{
+    match answer {
+        CertAnswer::WrongFingerprint => Some(CertWord::Fingerprint),
+        CertAnswer::Expired { .. } => Some(CertWord::Expired),
+        CertAnswer::BadCertification => Some(CertWord::Certification),
+        CertAnswer::BadCrosscert => Some(CertWord::Crosscert),
+        CertAnswer::Checked | CertAnswer::VerifierFault => None,
+    }
 }
 
 /// That the own certificate does not hold; it is not asked of one that does.
-pub fn cert_refused(answer: CertAnswer) -> Stop
+fn cert_refused(answer: CertAnswer) -> MakeVoteRefusal
     ensures { result ≡ told.cert_refused answer }
 {
-    match answer {
-        CertAnswer::WrongFingerprint => cert_word(CertWord::Fingerprint),
-        CertAnswer::Expired { .. } => cert_word(CertWord::Expired),
-        CertAnswer::BadCertification => cert_word(CertWord::Certification),
-        CertAnswer::BadCrosscert => cert_word(CertWord::Crosscert),
-        CertAnswer::Checked | CertAnswer::VerifierFault => Stop::Refused(Refusal::Verifier),
+    match cert_word(answer) {
+        Some(word) => MakeVoteRefusal::Station(StationRefusal::OwnCert(word)),
+        None => MakeVoteRefusal::Verifier,
     }
 }
 
 /// Why no vote is made.
-pub fn make_refused(refusal: MakeRefusal) -> Stop
+pub(crate) fn make_refused(refusal: MakeRefusal) -> Stop<MakeVoteRefusal>
     ensures { result ≡ told.make_refused refusal }
 {
     match refusal {
-        MakeRefusal::OwnCert(answer) => cert_refused(answer),
-        MakeRefusal::SignerFault => Stop::Refused(Refusal::Signer),
-        MakeRefusal::VerifierFault => Stop::Refused(Refusal::Verifier),
-        MakeRefusal::TooLong { .. } => { Stop::Refused(Refusal::Station(StationRefusal::MadeVote)) }
+        MakeRefusal::OwnCert(answer) => Stop::Refused(cert_refused(answer)),
+        MakeRefusal::SignerFault => Stop::Refused(MakeVoteRefusal::Signer),
+        MakeRefusal::VerifierFault => Stop::Refused(MakeVoteRefusal::Verifier),
+        MakeRefusal::TooLong { .. } => Stop::Refused(MakeVoteRefusal::MadeVote),
         MakeRefusal::Memory => Stop::Memory,
     }
 }

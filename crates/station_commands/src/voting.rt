@@ -8,8 +8,9 @@ ghost use Rattle.vote_schedule.specs.Moments.{valid_until};
 ghost use Rattle.vote_schedule.specs.Schedules.{IsSchedule};
 ghost use Rattle.station_commands.specs.Voting.{GivesVote};
 
+use crate::refusal::MakeVoteRefusal;
 use crate::told::make_refused;
-use exit_status::{Refusal, Stop};
+use daemon_words::Stop;
 use flag_rules::{Hook, OperatorList, RelayFacts, Ruling};
 use key_port::{Signer, Verifier};
 use station_input::StationFacts;
@@ -30,16 +31,16 @@ pub fn vote_of<V: Verifier, N: Signer>(
     now: u64,
     verifier: &mut V,
     signer: &mut N,
-) -> Result<Vec<u8>, Stop>
+) -> Result<Vec<u8>, Stop<MakeVoteRefusal>>
     requires schedule { IsSchedule (schedule_in station.now) }
     requires moments { valid_until (schedule_in station.now) valid_after ≤ last_moment }
     requires apart { AreApart station.now.rules }
     ensures gives { GivesVote (rules V.may_accept V.may_refuse) N.may_give N.steps (basis station.now pool.now.descriptors valid_after now) result signer.old signer.new }
-    ensures verifier_fault { result ≡ Err (Stop.Refused Refusal.Verifier) → Rose (V.faults verifier.old) (V.faults verifier.new) }
-    ensures verifier_told { V.faults verifier.old < V.faults verifier.new → result ≡ Err (Stop.Refused Refusal.Verifier) }
+    ensures verifier_fault { result ≡ Err (Stop.Refused MakeVoteRefusal.Verifier) → Rose (V.faults verifier.old) (V.faults verifier.new) }
+    ensures verifier_told { V.faults verifier.old < V.faults verifier.new → result ≡ Err (Stop.Refused MakeVoteRefusal.Verifier) }
     ensures verifier_faults { V.faults verifier.old ≤ V.faults verifier.new }
-    ensures signer_fault { result ≡ Err (Stop.Refused Refusal.Signer) → Rose (N.faults signer.old) (N.faults signer.new) }
-    ensures signer_told { N.faults signer.old < N.faults signer.new → result ≡ Err (Stop.Refused Refusal.Signer) }
+    ensures signer_fault { result ≡ Err (Stop.Refused MakeVoteRefusal.Signer) → Rose (N.faults signer.old) (N.faults signer.new) }
+    ensures signer_told { N.faults signer.old < N.faults signer.new → result ≡ Err (Stop.Refused MakeVoteRefusal.Signer) }
 {
     let list = OperatorList::new(station.rules.as_slice().to_vec(alloc)?);
     let by_list = |facts: RelayFacts| -> Ruling

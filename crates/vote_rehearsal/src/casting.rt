@@ -32,7 +32,7 @@ fn vote_in(alloc: Global, text: Vec<u8>) -> Result<Option<Vote>, Memory>
         return Ok(None);
     }
     let bytes = Bytes::from_vec(text)?;
-    match read(alloc, &bytes, 0) {
+    match read(alloc, &bytes) {
         Ok((vote, _)) => Ok(Some(vote)),
         Err(ReadRefusal::Frame(_)) => Ok(None),
         Err(ReadRefusal::Memory) => Err(Memory),

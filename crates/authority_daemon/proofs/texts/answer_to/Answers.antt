@@ -1,4 +1,5 @@
 use Rattle.std.proofs.Common.{◌<◌, length, rules}
+use Rattle.daemon_words.specs.declared.command.Command.TheVariants as command
 use Rattle.authority_daemon.specs.Commands.{asks_clock, may}
 use Rattle.authority_daemon.proofs.Asking.{behind_stay, counted, first_is, none_asked, tells, vote_answered}
 use Rattle.authority_daemon.proofs.Ending.{on_true}
@@ -23,7 +24,7 @@ returns-in-MakeVote-clause-answer g c =
       others = behind_stay c.args.outside.now.verifiers.items c.vote.new.verifier;
       unasked = search rules;
       unchecked =
-          none_asked c.in-MakeVote.bandwidths c.args.command.now c.args.outside.now.verifiers.items c.index_mut-in-MakeVote.result.now
+          none_asked (command.MakeVote c.in-MakeVote.bandwidths) c.args.command.now c.args.outside.now.verifiers.items c.index_mut-in-MakeVote.result.now
           c.vote.new.verifier c.vote.result c.in-MakeVote.is verifiers
           c.index_mut-in-MakeVote.ensures.value c.vote.ensures.unasked;
       timed =

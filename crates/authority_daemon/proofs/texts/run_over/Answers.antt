@@ -1,7 +1,7 @@
 use Rattle.std.proofs.Common.{rules, refl, ◌≡◌, List, ℕ, Option, Some, None, ap, subst}
 use Rattle.std.specs.Io.KnownBytes.{Appends}
 use Rattle.std.specs.Prelude.{take}
-use Rattle.exit_status.specs.declared.stop.Stop.TheVariants as stop
+use Rattle.daemon_words.specs.declared.stop.Stop.TheVariants as stop
 use Rattle.authority_daemon.specs.Commands.{Answers, may}
 use Rattle.authority_daemon.specs.Runs.{first_count}
 use Rattle.authority_daemon.proofs.Ending.{as_refused, done, failed, gathered, has_ended, is_within, over_input, refused}

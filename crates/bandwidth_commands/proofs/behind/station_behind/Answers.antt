@@ -2,8 +2,8 @@ use Rattle.station_commands.proofs.Reading.{rest_is}
 use Rattle.bandwidth_commands.proofs.StationBehind.{stands_behind}
 use Rattle.bandwidth_commands.proofs.behind.station_behind.Goals as goal
 
-pub returns-in_ok-told-in-Ok-clause-gives : goal.returns-in_ok-told-in-Ok-clause-gives
-returns-in_ok-told-in-Ok-clause-gives c =
+pub returns-in_ok-told-in-Ok : goal.returns-in_ok-told-in-Ok
+returns-in_ok-told-in-Ok c =
     let bytes = c.args.bytes.now in
     let front = c.args.front.now in
     stands_behind front.file front.used bytes _ c.in-Ok.station c.in_ok-told-in-Ok.field-0 c.in-Ok.used

@@ -9,8 +9,8 @@ use Rattle.compute_command.proofs.Queues.{within, first, others, one_more, one_m
 use Rattle.compute_command.proofs.Faults.{no_fault}
 use Rattle.compute_command.proofs.Refusing.{stops_at}
 use Rattle.compute_command.specs.Accepting.{StopsAt}
-use Rattle.exit_status.specs.declared.status.Refusal.{Refusal}
-use Rattle.exit_status.specs.declared.stop.Stop.TheVariants as stop
+use Rattle.daemon_words.specs.declared.stop.Stop.TheVariants as stop
+use Rattle.compute_command.specs.declared.refusal.AcceptRefusal.{AcceptRefusal}
 use Rattle.compute_command.proofs.accepting.accept.Goals as goal
 
 pub returns-in-Err-clause-accepts : goal.returns-in-Err-clause-accepts
@@ -20,7 +20,7 @@ returns-in-Err-clause-accepts g c =
     let n = c.votes.before in
     let vote = c.remove-vote.result in
     let rules = rules g.V.Verifier.may_accept g.V.Verifier.may_refuse in
-    subst (λ (why : Refusal). StopsAt rules c.args.wanted.now all (stop.Refused why)) (sym c.refused.ensures)
+    subst (λ (why : AcceptRefusal). StopsAt rules c.args.wanted.now all (stop.Refused why)) (sym c.refused.ensures)
     (stops_at rules c.args.wanted.now all n vote c.in-Err.refusal (within all left n c.votes.invariant.rest (omega arith))
     (first all left n vote c.votes.invariant.rest c.remove-vote.ensures.value) c.votes.invariant.acceptable c.in-Err.ensures.refused)
 

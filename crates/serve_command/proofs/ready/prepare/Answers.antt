@@ -1,8 +1,8 @@
 use Rattle.std.proofs.Common.{◌≡◌, Err, ap}
 use Rattle.std.proofs.lemmas.Result.{err_from_is_err_and}
 use Rattle.key_port.specs.Answers.{rules as verifier_rules}
-use Rattle.exit_status.specs.declared.status.Refusal.TheVariants.{Verifier}
-use Rattle.exit_status.specs.declared.stop.Stop.TheVariants.{Refused}
+use Rattle.daemon_words.specs.declared.stop.Stop.TheVariants.{Refused}
+use Rattle.serve_command.specs.declared.refusal.ServeRefusal.TheVariants.{Verifier}
 use Rattle.serve_command.proofs.Starts.{is_ready}
 use Rattle.serve_command.proofs.Stopping.{no_start, no_station}
 use Rattle.serve_command.proofs.ready.prepare.Goals as goal
@@ -37,5 +37,5 @@ returns-clause-told g c = λ rose. absurd (cc (c.in_ok-operator.ensures.told ros
 pub returns-clause-ready : goal.returns-clause-ready
 returns-clause-ready g c =
     is_ready (verifier_rules g.V.Verifier.may_accept g.V.Verifier.may_refuse) c.args.measures c.args.now
-    c.args.bytes.now c.args.workers c.in_ok-station.station c.in_ok-station.used c.in_ok-operator.board
-    c.in_ok-operator.passes.items c.in_ok-station.ensures.read c.in_ok-operator.ensures.opened
+    c.args.bytes.now c.args.workers c.in_ok-station.station c.in_ok-station.used
+    c.in_ok-operator.operator c.in_ok-operator.board c.in_ok-operator.passes.items c.in_ok-station.ensures.read c.in_ok-operator.ensures.opened

@@ -1,13 +1,21 @@
 use Rattle.std.proofs.Common.{sym, subst}
-use Rattle.std.specs.Prelude.{IfOk}
 use Rattle.daemon_words.specs.declared.command.Measures.{Measures}
-use Rattle.serve_command.specs.Private.{IsReadIn}
-use Rattle.serve_command.proofs.Reading.{read_there}
+use Rattle.serve_command.specs.Private.{IsReadIn, StopsFor}
+use Rattle.serve_command.specs.Starting.{IsFaultyIn}
+use Rattle.serve_command.specs.Told.{of_fault}
+use Rattle.serve_command.proofs.Reading.{not_there, read_there}
 use Rattle.serve_command.proofs.station.station_in.Goals as goal
 
-pub returns-in-Station-clause-read : goal.returns-in-Station-clause-read
-returns-in-Station-clause-read c =
-    subst (λ (m : Measures). IfOk c.station_of.result (λ read. IsReadIn m c.args.now c.args.bytes.now read.0 read.1))
+pub returns-in-Ok-clause-read : goal.returns-in-Ok-clause-read
+returns-in-Ok-clause-read c =
+    subst (λ (m : Measures). IsReadIn m c.args.now c.args.bytes.now c.in-Ok.station c.in-Ok.used)
     (sym c.in-Station.is)
-    (read_there c.args.now c.args.bytes.now c.station_of.result c.relays_are_named_once.ensures
-    c.station_of.ensures.gives)
+    (read_there c.args.now c.args.bytes.now c.in-Ok.station c.in-Ok.used
+    c.relays_are_named_once.ensures c.in-Ok.ensures)
+
+pub returns-in-Err-clause-stops : goal.returns-in-Err-clause-stops
+returns-in-Err-clause-stops c =
+    rw c.of_fault.ensures
+    (subst (λ (m : Measures). StopsFor (IsFaultyIn m c.args.now c.args.bytes.now)
+    (of_fault c.in-Err.why)) (sym c.in-Station.is)
+    (not_there c.args.now c.args.bytes.now c.in-Err.why c.in-Err.ensures))

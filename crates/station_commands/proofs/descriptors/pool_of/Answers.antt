@@ -61,8 +61,7 @@ returns-then-full-2-clause-gives g c =
     let checks = verifier_rules g.V.Verifier.may_accept g.V.Verifier.may_refuse in
     let ended : ends_at c.descriptors.place c.args.bytes.now ≡ true = search rules in
     fills checks c.args.start c.args.bytes.now c.descriptors.place c.descriptors.number c.descriptors.pool
-    c.descriptors.full c.descriptors.invariant.kept ended c.if-full-2.true c.station_refused.result
-    c.station_refused.ensures
+    c.descriptors.full c.descriptors.invariant.kept ended c.if-full-2.true
 
 pub returns-clause-gives : goal.returns-clause-gives
 returns-clause-gives g c =

@@ -1,7 +1,7 @@
 use Rattle.std.proofs.Common.{◌∙◌, List, ℕ, Option, ap, subst, sym, true}
 use Rattle.std.specs.Option.{option_map}
 use Rattle.frame_terms.specs.declared.fault.FrameFault.{FrameFault}
-use Rattle.moved_documents.specs.Moving.{moved_fault}
+use Rattle.vote_doc.specs.Behind.{fault_behind}
 use Rattle.compute_command.specs.Beyonds.{EndsBeyond, ReadsFront}
 use Rattle.compute_command.proofs.Beyonds.{finished, fits_told, short_view}
 use Rattle.compute_command.proofs.beyond.Beyond.finish.Goals as goal
@@ -21,4 +21,4 @@ returns c =
     subst (λ (l : List ℕ). EndsBeyond c.args.start l c.further.result) (c.deref.ensures.value ∙ c.self.view_is)
     (finished c.args.start bytes i.cursor c.take.new.self c.take.result c.further.result
     (subst (λ (l : List ℕ). ReadsFront l i.cursor) (sym c.deref.ensures.value) c.self.invariant) c.take.ensures.takes
-    (c.further.ensures ∙ ap (λ (o : Option FrameFault). option_map (moved_fault c.args.start) o) c.fault_of.ensures))
+    (c.further.ensures ∙ ap (λ (o : Option FrameFault). option_map (fault_behind c.args.start) o) c.fault_of.ensures))

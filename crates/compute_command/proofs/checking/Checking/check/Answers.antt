@@ -1,11 +1,9 @@
-use Rattle.std.proofs.Common.{◌≡◌, ◌∙◌, ◌+◌, Some, ap, refl, subst, sym}
+use Rattle.std.proofs.Common.{◌≡◌, ◌∙◌, ◌+◌, Some, ap, refl, sym}
 use Rattle.key_port.specs.Answers.{rules}
-use Rattle.vote_terms.specs.Votes.{ReadVote, rank_of}
-use Rattle.vote_terms.specs.Acceptable.{IsAcceptable}
+use Rattle.vote_terms.specs.Votes.{ReadVote}
 use Rattle.vote_terms.specs.Held.{placed}
-use Rattle.vote_doc.specs.Checks.{RefusedBy}
 use Rattle.vote_doc.specs.Holdings.{Holding}
-use Rattle.exit_status.specs.declared.status.Refusal.{Refusal}
+use Rattle.compute_command.specs.declared.refusal.AcceptRefusal.{AcceptRefusal}
 use Rattle.compute_command.proofs.Checks.{first_refused, held_too, none_if, still_refused, tells_on, tells_refused}
 use Rattle.compute_command.proofs.Faults.{no_fault}
 use Rattle.compute_command.proofs.checking.Checking.check.Goals as goal
@@ -16,25 +14,18 @@ returns-then-is_some-clause-checked g c =
     still_refused (rules g.V.Verifier.may_accept g.V.Verifier.may_refuse) c.args.wanted.now votes c.args.vote
     c.args.self.now _ is c.requires.few refl (sym c.is_some.ensures ∙ c.if-is_some.true) refl refl
 
-pub into_held_with-requires : goal.into_held_with-requires
-into_held_with-requires g c =
-    c.into_parts-vote.ensures.whole
-    ∙ ap (λ (v : ReadVote). (rank_of v).whole) (sym (c.in-Ok.ensures.accepted.0 ∙ c.into_parts-vote.ensures.vote))
-
 pub returns-in-Ok-clause-checked : goal.returns-in-Ok-clause-checked
 returns-in-Ok-clause-checked g c =
     let its = rules g.V.Verifier.may_accept g.V.Verifier.may_refuse in
     let wanted = c.args.wanted.now in
     let old = c.args.self.now.kept in
     let put : ReadVote → Holding = λ v. record old { votes = placed old.votes v } in
-    let same = c.into_parts-vote.ensures.vote in
-    let held : c.into_held_with.result ≡ c.args.vote =
-    c.into_held_with.ensures.vote ∙ c.in-Ok.ensures.accepted.0 ∙ same in
+    let held : c.into_held.result ≡ c.args.vote = c.into_held.ensures.vote ∙ c.in-Ok.ensures.accepted.0 in
     λ votes is.
     held_too its wanted votes c.args.vote
     c.args.self.now _ is c.requires.few refl (sym c.is_some.ensures ∙ c.if-is_some.false) refl
     (c.place.ensures.votes ∙ ap put held)
-    (subst (λ (v : ReadVote). IsAcceptable its wanted.roster wanted.valid_after v) same c.in-Ok.ensures.accepted.1)
+    c.in-Ok.ensures.accepted.1
 
 pub returns-in-Ok-clause-faults : goal.returns-in-Ok-clause-faults
 returns-in-Ok-clause-faults g c =
@@ -48,9 +39,8 @@ returns-in-Err-clause-checked g c =
     λ votes is.
     first_refused its wanted votes c.args.vote
     c.args.self.now _ is c.requires.few refl c.in-Err.refusal (sym c.is_some.ensures ∙ c.if-is_some.false)
-    (ap (λ (r : Refusal). Some r) c.refused.ensures) refl
-    (subst (λ (v : ReadVote). RefusedBy its wanted.roster wanted.valid_after v c.in-Err.refusal) c.into_parts-vote.ensures.vote
-    c.in-Err.ensures.refused)
+    (ap (λ (r : AcceptRefusal). Some r) c.refused.ensures) refl
+    c.in-Err.ensures.refused
 
 pub returns-in-Err-clause-faults : goal.returns-in-Err-clause-faults
 returns-in-Err-clause-faults g c =
@@ -61,6 +51,5 @@ returns-in-Err-clause-faults g c =
     tells_refused its wanted c.args.vote
     (c.args.self.now.count + 1) before _ _ c.in-Err.refusal c.refused.result first c.refused.ensures
     (none_if first (sym c.is_some.ensures ∙ c.if-is_some.false))
-    (subst (λ (v : ReadVote). RefusedBy its wanted.roster wanted.valid_after v c.in-Err.refusal) c.into_parts-vote.ensures.vote
-    c.in-Err.ensures.refused)
+    c.in-Err.ensures.refused
     c.in-Err.ensures.faults c.in-Err.ensures.fault (λ lt. cc (c.in-Err.ensures.told lt)) tells

@@ -17,5 +17,5 @@ returns c =
     subst
     (λ (f : Flavour). ComesOf (λ fault. fault) (document_of (consensus_tables f) (length bytes) items) (consensus_of bytes))
     (sym c.flavour_of.ensures)
-    (comes_of (λ fault. fault) (with_consensus flavour) (consensus_in flavour) (λ kept n. refl) (λ fault. refl)
+    (comes_of (λ fault. fault) (with_consensus flavour) (λ kept _. consensus_in flavour kept) (λ kept n. refl) (λ fault. refl)
     (with_section flavour bytes) no_draft (document_of (consensus_tables flavour) (length bytes) items))

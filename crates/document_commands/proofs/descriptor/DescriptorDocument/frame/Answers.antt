@@ -11,5 +11,5 @@ use Rattle.document_commands.proofs.descriptor.DescriptorDocument.frame.Goals as
 pub returns : goal.returns
 returns c =
     let bytes = c.args.arg2.now in
-    comes_of (λ fault. fault) (with_descriptor bytes) (descriptor_in bytes) (λ kept n. refl) (λ fault. refl) kept_with none_kept
+    comes_of (λ fault. fault) (with_descriptor bytes) (λ kept _. descriptor_in bytes kept) (λ kept n. refl) (λ fault. refl) kept_with none_kept
     (document_of descriptor_tables (length bytes) (items_of max_descriptor bytes))

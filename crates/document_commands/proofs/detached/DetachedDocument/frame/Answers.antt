@@ -11,5 +11,5 @@ use Rattle.document_commands.proofs.detached.DetachedDocument.frame.Goals as goa
 pub returns : goal.returns
 returns c =
     let bytes = c.args.arg2.now in
-    comes_of (λ fault. fault) (with_detached bytes) (detached_in bytes) (λ kept n. refl) (λ fault. refl) kept_with none_kept
+    comes_of (λ fault. fault) (with_detached bytes) (λ kept _. detached_in bytes kept) (λ kept n. refl) (λ fault. refl) kept_with none_kept
     (document_of detached_tables (length bytes) (items_of max_detached bytes))

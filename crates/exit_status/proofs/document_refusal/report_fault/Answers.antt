@@ -1,4 +1,0 @@
-use Rattle.exit_status.proofs.document_refusal.report_fault.Goals as goal
-
-pub returns-in-Missing : goal.returns-in-Missing
-returns-in-Missing g c = rw (c.in-Missing.is, ← c.text.ensures) c.report_at.ensures
