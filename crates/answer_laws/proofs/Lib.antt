@@ -2,3 +2,5 @@ mod Standing
 pub mod ItemTexts
 pub mod VotesRead
 pub mod TextsAgain
+pub mod MadeBasis
+pub mod MadeVotes

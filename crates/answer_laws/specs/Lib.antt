@@ -1,3 +1,4 @@
 pub mod Inputs
 pub mod Texts
 pub mod Votes
+pub mod MadeVotes

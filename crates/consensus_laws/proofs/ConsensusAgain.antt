@@ -24,7 +24,7 @@ use Rattle.frame_laws.proofs.Sections.{entries_in, second_place, section_is_read
 use Rattle.frame_laws.proofs.Words.{arguments_of_words, placed}
 use Rattle.frame_laws.proofs.WrittenItems.{start_of}
 use Rattle.frame_laws.proofs.WrittenRows.{ends_with_text, stand_written, text_of_entries}
-use Rattle.consensus_terms.specs.Signed.{in_order}
+use Rattle.consensus_terms.specs.Signed.{in_order, signed}
 use Rattle.consensus_terms.specs.Texts.{facts_text, version_words}
 use Rattle.consensus_terms.specs.declared.consensus.ConsensusFacts.{ConsensusFacts}
 use Rattle.consensus_terms.specs.declared.consensus.SignedConsensus.{SignedConsensus}
@@ -38,7 +38,8 @@ use Rattle.consensus_doc.specs.Drafts.{all_signatures, no_draft, signed_end, tex
 use Rattle.consensus_doc.specs.Reading.{consensus_in, consensus_of, flavour_of, flavour_of_item, max_consensus}
 use Rattle.consensus_doc.specs.Reading.{signed_range, with_consensus}
 use Rattle.consensus_doc.specs.Keeping.{Kept, with_draft}
-use Rattle.consensus_laws.specs.Again.{ConsensusesAreReadAgain, IsInRange, IsSignatureInRange, facts_as_read}
+use Rattle.consensus_laws.specs.Again.{ConsensusesAreReadAgain, ConsensusesInOrderAreTheSame}
+use Rattle.consensus_laws.specs.Again.{IsInRange, IsSignatureInRange, facts_as_read}
 use Rattle.consensus_laws.specs.Again.{known_signatures, signed_of}
 use Rattle.consensus_laws.specs.Items.{consensus_items, unsigned_items, words_item}
 use Rattle.consensus_laws.proofs.ConsensusItems.{version_are}
@@ -248,4 +249,20 @@ consensuses_again c are =
         signed = signed_ i;
       },
       length (sym text i),
+    ))
+
+-- What stands as it is written is read as what was written.
+pub same_again : ConsensusesInOrderAreTheSame
+same_again c are stands =
+    let text = facts_text c in
+    consensuses_again c are
+    ∙ (λ i. Ok (
+      record {
+        flavour = c.flavour;
+        facts = stands.facts i;
+        weights = c.weights;
+        signatures = (ap known_signatures stands.order ∙ stands.known) i;
+        signed = signed_of text (stands.order i);
+      },
+      length (signed text c.signatures),
     ))

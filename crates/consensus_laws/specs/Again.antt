@@ -152,6 +152,19 @@ ConsensusesAreReadAgain = (c : SignedConsensus) → IsInRange c
     → consensus_of (signed (facts_text c) c.signatures)
     ≡ Ok (as_read c, length (signed (facts_text c) c.signatures))
 
+-- The facts are such as the flavour has them, and the signatures stand in the order in which they are written, each of a
+-- known algorithm.
+pub record StandsAsWritten (c : SignedConsensus) : Type 0 where
+  pub facts : facts_as_read c.flavour c.facts ≡ c.facts
+  pub order : in_order c.signatures ≡ c.signatures
+  pub known : known_signatures c.signatures ≡ c.signatures
+
+-- What is read of such a consensus is what was written, with the range of its text that is signed.
+abbrev pub ConsensusesInOrderAreTheSame : Type 0
+ConsensusesInOrderAreTheSame = (c : SignedConsensus) → IsInRange c → StandsAsWritten c
+    → consensus_of (signed (facts_text c) c.signatures)
+    ≡ Ok (record c { signed = signed_of (facts_text c) c.signatures }, length (signed (facts_text c) c.signatures))
+
 -- The part of its text that is signed is the text without signatures through the one space behind the first
 -- `directory-signature`.
 abbrev pub SignedPartsStand : Type 0

@@ -5,5 +5,6 @@
 mod laws;
 
 pub use laws::{
-    computed_consensuses_are_read_again, consensuses_are_read_again, signed_parts_stand,
+    computed_consensuses_are_read_again, consensuses_are_read_again,
+    consensuses_in_order_are_the_same, signed_parts_stand,
 };

@@ -8,7 +8,7 @@ use Rattle.vote_terms.specs.declared.entry.EntryFacts.{EntryFacts}
 use Rattle.vote_maker.specs.Made.{Basis, made}
 use Rattle.flag_rules.specs.declared.ruling.Ruling.{Ruling}
 use Rattle.station_frame.specs.declared.said.MeasuredRelay.{MeasuredRelay}
-use Rattle.measured_bandwidths.specs.Told.{AreToldBy}
+use Rattle.measured_bandwidths.specs.Told.{AreToldBy, told_relays}
 
 -- what an entry says was measured of its relay
 abbrev pub measured_in : EntryFacts → Option ℕ
@@ -24,3 +24,14 @@ abbrev pub EntriesAreTold : Type 0
 EntriesAreTold =
     (file : List (Fingerprint × ℕ)) (before : List MeasuredRelay) (its : Basis) (rulings : List Ruling)
     → AreToldBy file before its.station.measured → All (IsToldBy file) (made its rulings).entries
+
+-- What was measured of relays is told by a file, where the file's bandwidths stand with it.
+abbrev pub ToldRelaysAreTold : Type 0
+ToldRelaysAreTold =
+    (file : List (Fingerprint × ℕ)) (before : List MeasuredRelay) → AreToldBy file before (told_relays file before)
+
+-- So the entries of a vote that is made of that are told by the file.
+abbrev pub ToldEntriesAreTold : Type 0
+ToldEntriesAreTold =
+    (file : List (Fingerprint × ℕ)) (before : List MeasuredRelay) (its : Basis) (rulings : List Ruling)
+    → its.station.measured ≡ told_relays file before → All (IsToldBy file) (made its rulings).entries

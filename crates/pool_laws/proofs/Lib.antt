@@ -1,0 +1,4 @@
+pub mod RankOrder
+pub mod Answers
+pub mod HeldNewest
+pub mod Members
