@@ -1,5 +1,0 @@
-use Rattle.period_lock.specs.Turns.{IsOf}
-use Rattle.period_checks.proofs.turns.note_all.Given as goal
-
-abbrev pub invariant-loop-what : goal.invariant-loop-what
-invariant-loop-what g l = IsOf l.shared l.pass

@@ -1,5 +1,0 @@
-use Rattle.exit_summary.specs.Policies.{AreNets}
-use Rattle.value_checks.proofs.policies.odd_ports.Given as goal
-
-abbrev pub invariant-loop-i : goal.invariant-loop-i
-invariant-loop-i l = AreNets l.items.items
