@@ -1,0 +1,232 @@
+#!/usr/bin/env python3
+"""A Tor network in a network namespace: authorities of dirauth, or among C tors, relays, and a client.
+
+    network.py ../../crates/dirauth/out/dirauth --ours 3 --tors 2 --relays 6 --periods 3
+
+makes a network namespace in which authorities, real relays and a client run, and goes through so many periods of five
+minutes. Of each it tells a line: how many votes and signatures each authority holds, what is published, and what a client
+did that was new. It ends with status 0 only where in each period every authority held all votes and published the same text
+of each flavour with a right signature of each, and where a client that came from nothing fetched a page through three
+relays. All that it started ends with it; nothing is left behind, but the folder that --folder names.
+
+With --measured a C tor measures the relays (contrib/measure), and between two periods each authority of ours is given a new
+station input and its daemon is started anew.
+
+It wants to be root, and Debian's tor, nginx, iproute2 and python3-cryptography. More than a third of all authorities must
+be ours, since C tors know later methods, which dirauth does not.
+"""
+import argparse
+import importlib.util
+import os
+import pathlib
+import shutil
+import signal
+import subprocess
+import sys
+import tempfile
+import time
+
+import client
+import nodes
+import periods
+import processes
+import renewal
+
+# The most of each kind.
+MOST_AUTHORITIES, MOST_RELAYS = 9, 20
+
+# The most periods: what the stations say of relays holds for 2,700 seconds.
+MOST_PERIODS = 7
+
+# How long all is given to start before votes are due, and how long the whole may take beside its periods, in seconds.
+READY, BESIDE = 45, 900
+
+# Which package has which program.
+PACKAGES = {"tor": "tor", "tor-gencert": "tor", "nginx": "nginx", "ip": "iproute2", "unshare": "util-linux"}
+
+# What runs a command in a namespace of its own, which ends with this process, however that ends.
+UNSHARE = ["setpriv", "--pdeathsig", "KILL", "unshare", "--net", "--mount", "--pid", "--fork", "--mount-proc", "--kill-child"]
+
+# The schedule of a tor that is asked which lines it votes.
+ASKED_SCHEDULE = (20, 4, 4)
+
+
+def make_namespace():
+    """Makes the addresses of the namespace in which this runs, and a /run of its own."""
+    nodes.run(["ip", "link", "set", "lo", "up"])
+    addresses = [nodes.AUTHORITY % number for number in range(1, MOST_AUTHORITIES + 1)]
+    addresses += [nodes.RELAY % number for number in range(1, MOST_RELAYS + 1)]
+    for address in [*addresses, nodes.CLIENT, nodes.WEB, nodes.ASKED, renewal.ADDRESS]:
+        nodes.run(["ip", "address", "add", f"{address}/32", "dev", "lo"])
+
+
+def lines_of_tor(started, folder, version):
+    """The lines of a vote that must be alike, as this machine's tor votes them: one alone is asked."""
+    node = nodes.make_authority(folder, "asked", nodes.ASKED, 0, False)
+    processes.start_tor(started, node, nodes.authority_torrc(folder, node, [node], version, ASKED_SCHEDULE))
+    path = "/tor/status-vote/next/authority"
+    vote = started.wait_for("the vote of a tor that is alone", lambda: processes.get(node.address, path))
+    started.stop("asked")
+    text = vote.decode("utf-8", "replace")
+    methods = [line for line in text.splitlines() if line.startswith("consensus-methods ")]
+    print(f"tor {version} votes {' '.join(methods)}", flush=True)
+    return nodes.shared_lines(text)
+
+
+def start_all(given, folder, started):
+    """Makes and starts all, and gives the authorities and relays."""
+    kinds = [True] * given.ours + [False] * given.tors
+    authorities = []
+    for number, is_ours in enumerate(kinds, 1):
+        authorities.append(nodes.make_authority(folder, f"auth{number}", nodes.AUTHORITY % number, number, is_ours))
+    relays = [nodes.make_relay(folder, number) for number in range(1, given.relays + 1)]
+    version = nodes.tor_version()
+    shared = lines_of_tor(started, folder, version)
+    ours = [each for each in authorities if each.is_ours]
+    processes.start_key_service(started, folder, ours)
+    if given.measured:
+        renewal.start(started, folder, version)
+    more = ["--measuring", f"{renewal.ADDRESS}:{renewal.DIR_PORT}"] if given.measured else []
+    for each in ours:
+        (each.folder / "station").write_text(nodes.station(each, authorities, relays, shared), "utf-8")
+        processes.start_daemon(started, given.dirauth, each)
+        processes.start_front(started, each, more)
+    for each in [each for each in authorities if not each.is_ours]:
+        processes.start_tor(started, each, nodes.authority_torrc(folder, each, authorities, version))
+    for each in ours:
+        started.wait_for(f"an answer of {each.name}", lambda each=each: answers(each))
+    for each in relays:
+        processes.start_tor(started, each, nodes.relay_torrc(folder, each, authorities))
+    client.start_web_server()
+    return authorities, relays
+
+
+def answers(node):
+    """Whether an authority's front answers."""
+    return processes.answer_of(node.address, "/") is not None
+
+
+def line_of(period, told):
+    """The line of a period."""
+    votes = " ".join(f"{name}:{held}" for name, held in period.votes.items())
+    signatures = " ".join(f"{name}:{held}" for name, held in period.signatures.items())
+    texts = "; ".join(f"{flavour} {text}" for flavour, text in period.published.items())
+    head = f"{'WRONG' if period.faults else 'ok'} {period.time()}"
+    return f"{head}: votes {votes}; signatures {signatures}; {texts}; {told}"
+
+
+def go_through(given, folder):
+    """Goes through the periods, and says whether all was right."""
+    started = processes.Processes(folder)
+    make_namespace()
+    authorities, relays = start_all(given, folder, started)
+    first = periods.first_valid_after(time.time(), READY)
+    told = f"{len(authorities)} authorities, {len(relays)} relays; the first consensus is due"
+    print(f"{told} in {first - time.time():.0f} seconds", flush=True)
+    holds = True
+    for number in range(given.periods):
+        period = periods.look_at(first + number * nodes.INTERVAL, authorities, folder)
+        started.must_live()
+        if number == 0:
+            start_anew(started, relays)
+        periods.sleep_until(period.valid_after + client.BEGINS_AT)
+        told, fault = client.new_clients(started, folder, authorities, relays, not given.measured)
+        period.faults += [fault] if fault else []
+        if given.measured:
+            period.faults += renew_all(given, started, authorities)
+        print(line_of(period, told), flush=True)
+        for each in period.faults:
+            print(f"    {each}", flush=True)
+        holds = holds and not period.faults
+    return holds
+
+
+def start_anew(started, relays):
+    """Starts the relays anew: what they asked for was not there yet, and they wait long before they ask again."""
+    for each in relays:
+        started.stop(each.name)
+        processes.start_tor(started, each)
+
+
+def renew_all(given, started, authorities):
+    """Renews what our authorities are given: what went wrong."""
+    told = [renewal.renew(started, given.dirauth, each) for each in authorities if each.is_ours]
+    return [each for each in told if each is not None]
+
+
+def inside(given):
+    """In the namespace: goes through the periods, and ends in time."""
+    os.nice(10)
+    signal.signal(signal.SIGINT, lambda *_: sys.exit(130))
+    signal.signal(signal.SIGALRM, lambda *_: sys.exit("network: it took too long"))
+    signal.alarm(given.periods * nodes.INTERVAL + BESIDE)
+    folder = given.folder
+    (folder / "resolv.conf").write_text("nameserver 127.0.0.1\n", "ascii")
+    (folder / "run").mkdir()
+    nodes.run(["mount", "--bind", str(folder / "run"), "/run"])
+    return 0 if go_through(given, folder) else 1
+
+
+def outside(given, words):
+    """Runs the same words in a namespace, and removes what is left. What runs there ends with its first process."""
+    made = pathlib.Path(tempfile.mkdtemp(prefix="network-")) if given.folder is None else given.folder
+    if given.folder is not None:
+        try:
+            nodes.make_folder(made)
+        except OSError as error:
+            raise SystemExit(f"network: {made}: {error.strerror}") from None
+    signal.signal(signal.SIGTERM, lambda *_: sys.exit(143))
+    again = [sys.executable, str(pathlib.Path(__file__).resolve()), *words, "--inside", "--folder", str(made.resolve())]
+    process = subprocess.Popen([*UNSHARE, *again])
+    try:
+        return process.wait()
+    except KeyboardInterrupt:
+        return 130
+    finally:
+        process.kill()
+        process.wait()
+        if given.folder is None:
+            shutil.rmtree(made, ignore_errors=True)
+
+
+def look_before(given):
+    """Looks whether all is there that is needed."""
+    if os.geteuid() != 0:
+        raise SystemExit("network: it wants to be root")
+    if not os.access(given.dirauth, os.X_OK) or given.dirauth.is_dir():
+        raise SystemExit(f"network: {given.dirauth} is no program")
+    for name, package in PACKAGES.items():
+        if shutil.which(name) is None:
+            raise SystemExit(f"network: there is no {name}: apt-get install {package}")
+    if importlib.util.find_spec("cryptography") is None:
+        raise SystemExit("network: there is no cryptography: apt-get install python3-cryptography")
+    if not 1 <= given.ours + given.tors <= MOST_AUTHORITIES or 3 * given.ours <= given.ours + given.tors:
+        raise SystemExit(f"network: 1 to {MOST_AUTHORITIES} authorities, more than a third of them ours")
+    if not 3 <= given.relays <= MOST_RELAYS or not 1 <= given.periods <= MOST_PERIODS:
+        raise SystemExit(f"network: 3 to {MOST_RELAYS} relays, 1 to {MOST_PERIODS} periods")
+
+
+def main():
+    """Goes through the periods in a namespace."""
+    parser = argparse.ArgumentParser(description=__doc__, formatter_class=argparse.RawDescriptionHelpFormatter)
+    parser.add_argument("dirauth", type=pathlib.Path, metavar="DIRAUTH", help="the program")
+    parser.add_argument("--ours", type=int, default=3, metavar="N", help="authorities of dirauth (default: %(default)s)")
+    parser.add_argument("--tors", type=int, default=0, metavar="N", help="authorities that are C tors (default: %(default)s)")
+    parser.add_argument("--relays", type=int, default=6, metavar="N", help="relays (default: %(default)s)")
+    parser.add_argument("--periods", type=int, default=3, metavar="N", help="how many periods (default: %(default)s)")
+    parser.add_argument("--measured", action="store_true", help="renew what is measured in each period")
+    parser.add_argument("--folder", type=pathlib.Path, metavar="FOLDER", help="a new folder in which all is kept")
+    parser.add_argument("--inside", action="store_true", help=argparse.SUPPRESS)
+    given = parser.parse_args()
+    if given.inside:
+        sys.exit(inside(given))
+    look_before(given)
+    words = [str(given.dirauth.resolve())]
+    for name in ("ours", "tors", "relays", "periods"):
+        words += [f"--{name}", str(getattr(given, name))]
+    words += ["--measured"] if given.measured else []
+    sys.exit(outside(given, words))
+
+
+if __name__ == "__main__":
+    main()

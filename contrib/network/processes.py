@@ -1,0 +1,124 @@
+"""Starting what a network consists of. All of it ends with the namespace in which it runs."""
+import http.client
+import pathlib
+import subprocess
+import sys
+import time
+
+import nodes
+
+CONTRIB = pathlib.Path(__file__).resolve().parent.parent
+
+# How long what was started may take until it answers, in seconds, and how often an authority is asked that does not answer.
+STARTS_WITHIN, TRIES = 60, 3
+
+
+class Processes:
+    """What was started, by name, with a log each."""
+
+    def __init__(self, folder):
+        self.folder = folder
+        self.started = {}
+        (folder / "logs").mkdir()
+
+    def start(self, name, words, stdin=None):
+        """Starts a program."""
+        with open(self.folder / "logs" / f"{name}.out", "ab") as log, open(stdin or "/dev/null", "rb") as given:
+            self.started[name] = subprocess.Popen(words, stdin=given, stdout=log, stderr=subprocess.STDOUT)
+
+    def stop(self, name):
+        """Ends one, and waits for it."""
+        process = self.started.pop(name)
+        process.terminate()
+        try:
+            process.wait(10)
+        except subprocess.TimeoutExpired:
+            process.kill()
+            process.wait()
+
+    def must_live(self):
+        """Ends all where one has ended."""
+        for name, process in self.started.items():
+            if process.poll() is not None:
+                lines = (self.folder / "logs" / f"{name}.out").read_text("utf-8", "replace").strip().splitlines()
+                told = lines[-1] if lines else "it told nothing"
+                raise SystemExit(f"network: {name} ended with status {process.returncode}: {told}")
+
+    def wait_for(self, what, holds):
+        """Waits until something holds."""
+        end = time.monotonic() + STARTS_WITHIN
+        while not (found := holds()):
+            self.must_live()
+            if time.monotonic() > end:
+                raise SystemExit(f"network: {what} did not come within {STARTS_WITHIN} seconds")
+            time.sleep(0.3)
+        return found
+
+
+def get(address, path):
+    """The document at a path of an authority, or None where it is not there; where nobody answers, it is asked again."""
+    for _ in range(TRIES):
+        answer = answer_of(address, path)
+        if answer is not None:
+            code, body = answer
+            if code == 200:
+                return body
+            if code == 404:
+                return None
+        time.sleep(1)
+    return None
+
+
+def answer_of(address, path):
+    """The code and the body of the answer of an authority, or None where there is none."""
+    connection = http.client.HTTPConnection(address, nodes.DIR_PORT, timeout=10)
+    try:
+        connection.request("GET", path, headers={"Accept-Encoding": "identity"})
+        response = connection.getresponse()
+        return response.status, response.read()
+    except (OSError, http.client.HTTPException):
+        return None
+    finally:
+        connection.close()
+
+
+def start_tor(processes, node, text=None):
+    """Starts a tor with a torrc, or with the one that it had."""
+    if text is not None:
+        (node.folder / "torrc").write_text(text, "utf-8")
+    processes.start(node.name, ["tor", "--quiet", "-f", str(node.folder / "torrc")])
+
+
+def start_key_service(processes, folder, authorities):
+    """Starts a key service with the signing keys of our authorities, at the path at which dirauth dials it."""
+    keys = nodes.make_folder(folder / "signing")
+    for each in authorities:
+        (keys / f"{each.name}.pem").write_bytes((each.folder / "keys" / "authority_signing_key").read_bytes())
+    service = CONTRIB / "key-service" / "key_service.py"
+    processes.start("keys", [sys.executable, str(service), "--keys", str(keys)])
+    processes.wait_for("the key service", pathlib.Path("/run/dirauth-keys").is_socket)
+
+
+def daemon_address(node):
+    """Where the daemon of an authority of ours listens."""
+    return f"127.0.0.1:{9100 + node.number}"
+
+
+def start_daemon(processes, dirauth, node):
+    """Starts the daemon of an authority of ours."""
+    words = [str(dirauth), "serve", "--listen", daemon_address(node)]
+    processes.start(f"{node.name}-daemon", words, node.folder / "station")
+
+
+def start_front(processes, node, more):
+    """Starts nginx and the front's program before a daemon; `more` is further words of the configuration."""
+    daemon, front = daemon_address(node), f"127.0.0.1:{9200 + node.number}"
+    programs = CONTRIB / "front"
+    store, nginx = nodes.make_folder(node.folder / "store"), nodes.make_folder(node.folder / "nginx")
+    words = [sys.executable, str(programs / "front.py"), "--listen", front, "--daemon", daemon, "--store", str(store)]
+    processes.start(f"{node.name}-front", words)
+    words = [sys.executable, str(programs / "configure.py"), "--listen", f"{node.address}:{nodes.DIR_PORT}"]
+    words += ["--daemon", daemon, "--front", front, "--station", str(node.folder / "station"), *more]
+    (nginx / "nginx.conf").write_text(nodes.run(words), "ascii")
+    words = ["nginx", "-p", str(nginx), "-c", str(nginx / "nginx.conf"), "-e", "stderr"]
+    processes.start(f"{node.name}-nginx", [*words, "-g", "user root;"])
