@@ -104,15 +104,27 @@ def sign_rsa(private, message):
     return pow(int.from_bytes(padded, "big"), numbers.d, modulus).to_bytes(size, "big")
 
 
+def private_key(path):
+    """The private key of a file."""
+    try:
+        return serialization.load_pem_private_key(path.read_bytes(), None)
+    except (OSError, ValueError, TypeError, UnsupportedAlgorithm) as error:
+        raise SystemExit(f"{path}: it is no private key without a password: {error}") from None
+
+
 class Keys:
     """The private keys of a folder, by the text of their public keys."""
 
     def __init__(self, folder):
         self.private = {}
-        for path in sorted(pathlib.Path(folder).iterdir()):
+        try:
+            paths = sorted(pathlib.Path(folder).iterdir())
+        except OSError as error:
+            raise SystemExit(f"{folder}: {error.strerror}") from None
+        for path in paths:
             if path.suffix != ".pem":
                 continue
-            key = serialization.load_pem_private_key(path.read_bytes(), None)
+            key = private_key(path)
             if not isinstance(key, (rsa.RSAPrivateKey, ed25519.Ed25519PrivateKey)):
                 raise SystemExit(f"{path}: neither an RSA nor an Ed25519 key")
             self.private[public_text(key.public_key())] = key
