@@ -125,7 +125,7 @@ fn flag<'a>(alloc: Global, name: &'a str) -> Arg<'a>
 }
 
 /// An option that must stand once, with a value.
-fn needed_option<'a>(alloc: Global, name: &'a str) -> Arg<'a>
+pub fn needed_option<'a>(alloc: Global, name: &'a str) -> Arg<'a>
     ensures rule { rule_of result ≡ command_line.needed_option name.entry.now }
     ensures local { result.global ≡ false }
 {

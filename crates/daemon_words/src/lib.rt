@@ -11,8 +11,10 @@ mod stop;
 mod values;
 
 pub use command::{Command, Compute, Flavours, Kind, Measures, Subject, command_of};
+pub use command_line::needed_option;
 pub use keys::{Keys, keys_of};
 pub use rehearsal::Rehearse;
 pub use report::Report;
-pub use serving::Serve;
+pub use serving::{Serve, is_address};
 pub use stop::{DocumentRefusal, Stop, of_kind};
+pub use values::read_roster;

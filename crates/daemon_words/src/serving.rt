@@ -46,7 +46,7 @@ fn serve_of(alloc: Global, address: &[u8], bandwidths: Measures) -> Result<Optio
 }
 
 /// Whether a text is an address.
-fn is_address(text: &[u8]) -> bool
+pub fn is_address(text: &[u8]) -> bool
     ensures { result ≡ words.is_address text.now }
 {
     let Some((first, _)) = text.split_first() else {

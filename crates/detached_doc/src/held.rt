@@ -3,7 +3,6 @@ ghost use Rattle.std.specs.Prelude.{◌≡◌, ◌∷◌, ◌++◌, [], IfOk, On
 ghost use Rattle.detached_doc.specs.Held as held;
 
 use crate::detached::{AdditionalDigest, Detached, DetachedLine};
-use crate::ordered::copy_line;
 use consensus_terms::{ConsensusFacts, SignatureLine};
 use dir_bytes::{Memory, Seq, Text};
 use dir_values::{Digest1, Digest2};
@@ -28,7 +27,7 @@ fn over_micro(alloc: Global, line: &SignatureLine) -> Result<DetachedLine, Memor
 {
     Ok(DetachedLine {
         flavour: Some(Text::copy_of(alloc, b"microdesc")?),
-        line: copy_line(alloc, line)?,
+        line: line.copy(alloc)?,
     })
 }
 
@@ -38,7 +37,7 @@ fn over_ns(alloc: Global, line: &SignatureLine) -> Result<DetachedLine, Memory>
 {
     Ok(DetachedLine {
         flavour: None,
-        line: copy_line(alloc, line)?,
+        line: line.copy(alloc)?,
     })
 }
 

@@ -4,7 +4,6 @@ ghost use Rattle.std.specs.Ordering.{is_lt};
 ghost use Rattle.detached_doc.specs.Order as order;
 
 use crate::detached::DetachedLine;
-use consensus_terms::SignatureLine;
 use dir_bytes::{Memory, Text};
 use std::alloc::Global;
 use std::cmp::Ordering;
@@ -19,25 +18,13 @@ fn copy_flavour(alloc: Global, flavour: &Option<Text>) -> Result<Option<Text>, M
     }
 }
 
-/// A copy of who signed, and of the signature.
-pub(crate) fn copy_line(alloc: Global, line: &SignatureLine) -> Result<SignatureLine, Memory>
-    ensures { IfOk result (λ copy. copy ≡ line.now) }
-{
-    Ok(SignatureLine {
-        algorithm: Text::copy_of(alloc, line.algorithm.as_bytes())?,
-        identity: line.identity,
-        key_digest: line.key_digest,
-        signature: Text::copy_of(alloc, line.signature.as_bytes())?,
-    })
-}
-
 /// A copy of a signature.
 fn copy_of(alloc: Global, line: &DetachedLine) -> Result<DetachedLine, Memory>
     ensures { IfOk result (λ copy. copy ≡ line.now) }
 {
     Ok(DetachedLine {
         flavour: copy_flavour(alloc, &line.flavour)?,
-        line: copy_line(alloc, &line.line)?,
+        line: line.line.copy(alloc)?,
     })
 }
 

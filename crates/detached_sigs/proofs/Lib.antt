@@ -1,2 +1,3 @@
 pub mod Signing
 pub mod Asking
+pub mod LeftOut

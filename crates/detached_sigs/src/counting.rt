@@ -46,8 +46,8 @@ fn is_signed_by<V: Verifier>(
 }
 
 /// Whether a key has a line whose signature over the digest is right: the verifier is asked of its lines, in their order, until it
-/// does not refuse one.
-fn signs<V: Verifier>(
+/// does not refuse one. Takes no memory.
+pub fn signs<V: Verifier>(
     digest: &[u8],
     key: &SignerKey,
     lines: &[SignatureLine],

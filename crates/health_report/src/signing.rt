@@ -31,18 +31,6 @@ fn key_of(alloc: Global, vote: &Vote) -> Result<SignerKey, Memory>
     })
 }
 
-/// A copy of a line.
-fn copy_of(alloc: Global, line: &SignatureLine) -> Result<SignatureLine, Memory>
-    ensures { IfOk result (λ copy. copy ≡ line.now) }
-{
-    Ok(SignatureLine {
-        algorithm: Text::copy_of(alloc, line.algorithm.as_bytes())?,
-        identity: line.identity,
-        key_digest: line.key_digest,
-        signature: Text::copy_of(alloc, line.signature.as_bytes())?,
-    })
-}
-
 /// Adds a copy of a line whose signature is over a SHA-1.
 fn push_sha1(
     alloc: Global,
@@ -54,7 +42,7 @@ fn push_sha1(
     if line.algorithm.as_bytes() != b"sha1".as_slice() {
         return Ok(());
     }
-    let copy = copy_of(alloc, line)?;
+    let copy = line.copy(alloc)?;
     found.push(copy)?;
     Ok(())
 }

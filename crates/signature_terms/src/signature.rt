@@ -48,18 +48,6 @@ impl<V: Verifier> Model for CheckedSig<V> {
         × (s.line.algorithm ≡ algorithm_of s.flavour) × (s.line.key_digest.0 ≡ sha1 s.key) };
 }
 
-/// A copy of a line.
-fn copy_of(alloc: Global, line: &SignatureLine) -> Result<SignatureLine, Memory>
-    ensures { IfOk result (λ copy. copy ≡ line.now) }
-{
-    Ok(SignatureLine {
-        algorithm: Text::copy_of(alloc, line.algorithm.as_bytes())?,
-        identity: line.identity,
-        key_digest: line.key_digest,
-        signature: Text::copy_of(alloc, line.signature.as_bytes())?,
-    })
-}
-
 impl<V: Verifier> CheckedSig<V> {
     /// A signature over this digest of a flavour that the verifier may accept by this key, whose digest the line names.
     ///
@@ -80,7 +68,7 @@ impl<V: Verifier> CheckedSig<V> {
         ensures { IfOk result (λ sig. sig ≡ offered valid_after flavour digest.now key.now line.now) }
     {
         Ok(CheckedSig {
-            line: copy_of(alloc, line)?,
+            line: line.copy(alloc)?,
             key: Text::copy_of(alloc, key)?,
             flavour,
             valid_after,
