@@ -1,6 +1,6 @@
 -- What comes of a body before its last byte.
-use Rattle.std.proofs.Common.{◌≡◌, ◌∙◌, ℕ, ◌-◌, List, [], ◌++◌, length, take, drop, Option, Some, None, Err}
-use Rattle.std.proofs.Common.{sym, ap, append-nil}
+use Rattle.std.proofs.Common.{◌≡◌, ◌∙◌, ℕ, ◌-◌, List, [], ◌++◌, length, take, drop, Option, Some, None, Ok, Err}
+use Rattle.std.proofs.Common.{sym, ap, append-nil, arith}
 use Rattle.std.specs.Io.KnownBytes.{Consumes}
 use Rattle.dir_http.specs.declared.fault.HttpFault.{HttpFault}
 use Rattle.dir_http.specs.declared.fault.HttpFault.TheVariants as fault
@@ -40,3 +40,16 @@ not_whole head given now old mid new bytes out fault.BadHead took count gives = 
 not_whole head given now old mid new bytes out fault.NoLength took count gives = absurd gives
 not_whole head given now old mid new bytes out (fault.TooLarge limit) took count gives = absurd gives
 not_whole head given now old mid new bytes out fault.Memory took count gives = absurd gives
+
+-- where the last byte was given, the pieces are the body
+pub whole_body : (head : Head) (given : ℕ) (old mid : Option (List ℕ)) (bytes : List ℕ)
+    → Consumes (body_ahead 0 head old) (body_ahead given head mid) bytes → length bytes ≡ given
+    → given ≡ head.length → ReadsBody head.length (body_ahead 0 head old) (Ok bytes)
+whole_body head given None mid bytes took count all = tt
+whole_body head given (Some old) None bytes took count all = absurd took
+whole_body head given (Some old) (Some left) bytes took count all =
+    let no_more : head.length - given ≡ 0 = omega (arith, all) in
+    let none : take (head.length - given) (drop given head.early.items ++ left) ≡ [] =
+    ap (λ (k : ℕ). take k (drop given head.early.items ++ left)) no_more in
+    let same = took ∙ ap (λ (l : List ℕ). bytes ++ l) none ∙ append-nil bytes in
+    (sym same, ap (λ (l : List ℕ). length l) same ∙ count ∙ all)

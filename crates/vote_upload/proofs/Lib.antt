@@ -1,3 +1,1 @@
 mod Arrivals
-mod BlankLines
-mod Bodies

@@ -1,3 +1,1 @@
-pub mod Uploads
-pub mod Bodies
 pub mod Reading

@@ -4,7 +4,7 @@ use Rattle.dir_http.specs.declared.fault.HttpFault.{HttpFault}
 use Rattle.dir_http.specs.declared.head.Head.{Head}
 use Rattle.dir_http.specs.Requests.{ReadsBody, body_ahead}
 use Rattle.vote_terms.specs.Votes.{ReadVote}
-use Rattle.vote_upload.specs.Uploads.{IsFound, IsVote}
+use Rattle.lone_vote.specs.Alone.{IsFound, IsVote}
 
 -- The body was read, and the vote was found that it is, if it is one.
 pub record FindsVote (head : Head) (left : Option (List ℕ)) (found : Option ReadVote) : Type 0 where

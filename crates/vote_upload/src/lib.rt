@@ -2,6 +2,5 @@
 #![tactic(auto)]
 
 mod reading;
-mod vote_body;
 
-pub use reading::{read_vote, vote_of};
+pub use reading::read_vote;

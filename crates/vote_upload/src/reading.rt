@@ -1,12 +1,11 @@
 // Reading an uploaded vote while its body arrives.
-ghost use Rattle.std.specs.Prelude.{◌≡◌, ◌≤◌, ◌<◌, ◌^◌, Err, MatchResult, length};
+ghost use Rattle.std.specs.Prelude.{◌≡◌, ◌≤◌, ◌<◌, ◌^◌, Err};
 ghost use Rattle.dir_bytes.specs.Causes.{Rose};
 ghost use Rattle.vote_upload.specs.Reading.{GivesVote};
-ghost use Rattle.vote_upload.specs.Uploads.{IsFound, IsVote};
 
-use crate::vote_body::VoteBody;
-use dir_bytes::{Memory, Source};
+use dir_bytes::Source;
 use dir_http::{BodyReader, Head, HttpFault};
+use lone_vote::LoneVote;
 use std::alloc::Global;
 use vote_doc::Vote;
 
@@ -27,26 +26,14 @@ pub fn read_vote<S: Source>(
     // A source that failed is told.
     ensures told { S.faults source.old < S.faults source.new → result ≡ Err HttpFault.ReadFault }
 {
-    let mut body = VoteBody::new(alloc)?;
+    let mut vote = LoneVote::new(alloc)?;
     let mut reader = BodyReader::new(head);
     let mut piece = [0u8; 65536];
     'pieces: loop {
         match reader.next(head, source, &mut piece) {
-            Ok(0) => return Ok(body.end()),
-            Ok(count) => body = body.take(&piece[..count])?,
+            Ok(0) => return Ok(vote.end()),
+            Ok(count) => vote = vote.take(&piece[..count])?,
             Err(fault) => return Err(fault),
         }
     }
-}
-
-/// The vote that a body is, if it is one, with nothing but blank lines behind it.
-///
-/// # Errors
-/// `Memory` is want of memory.
-pub fn vote_of(alloc: Global, body: &[u8]) -> Result<Option<Vote>, Memory>
-    requires { length body.now < 2 ^ 61 }
-    ensures { MatchResult result (IsFound (IsVote body.now)) (λ _. Unit {0}) }
-{
-    let vote = VoteBody::new(alloc)?.take(body)?;
-    Ok(vote.end())
 }

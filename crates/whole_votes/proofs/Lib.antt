@@ -1,1 +1,2 @@
+pub mod FedVotes
 pub mod WholeVotes

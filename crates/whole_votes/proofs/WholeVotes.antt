@@ -19,6 +19,7 @@ use Rattle.vote_doc.specs.Reading.{max_vote, vote_of, with_facts}
 use Rattle.vote_feed.specs.Feeding.{IsFaulty, end_of}
 use Rattle.vote_parts.specs.Own.{VoteDocument, says}
 use Rattle.vote_parts.proofs.VoteEnds.{vote_ends}
+use Rattle.whole_votes.proofs.FedVotes.{end_or}
 use Rattle.whole_votes.specs.Whole.{FaultyVotesStand, VotesMove, WholeVotesStand, WholeVotesStay}
 
 abbrev document_in : List ℕ → Result VoteDocument ReadRefusal
@@ -34,10 +35,6 @@ votes_same before bytes = ap (λ (l : List ℕ). behind (length before) (vote_of
 
 -- ---- in front of others
 
-abbrev used_or : ℕ → Result ℕ ReadRefusal → ℕ
-used_or other (Ok used) = used
-used_or other (Err refusal) = other
-
 pub whole_stay : WholeVotesStay
 whole_stay bytes more whole = by (document_in (bytes ++ more)) refl (whole more)
   where
@@ -46,7 +43,7 @@ whole_stay bytes more whole = by (document_in (bytes ++ more)) refl (whole more)
     by (Err refusal) is ends = absurd (cc ends)
     by (Ok document) is ends =
         let text = bytes ++ more in
-        let used : document.used ≡ length bytes = ap (used_or 0) ends in
+        let used : document.used ≡ length bytes = ap (end_or 0) ends in
         let own : take document.used text ≡ bytes = ap (λ (k : ℕ). take k text) used ∙ take-append_seam bytes more in
         let here : take document.used bytes ≡ bytes = take_all document.used bytes (omega (arith, used)) in
         let alone : document_in bytes ≡ Ok document =

@@ -1,13 +1,13 @@
 use Rattle.std.proofs.Common.{◌≡◌, ◌≤◌, ◌-◌, ℕ, List, length}
 use Rattle.std.specs.Io.KnownBytes.{Consumes}
 use Rattle.dir_http.specs.Requests.{body_ahead}
-use Rattle.vote_upload.specs.Bodies.{IsKnown}
+use Rattle.lone_vote.specs.Coming.{HasCome}
 use Rattle.vote_upload.proofs.reading.read_vote.Given as goal
 
 abbrev pub invariant-pieces : goal.invariant-pieces
 invariant-pieces g l = record {
   bytes : List ℕ;
-  known : IsKnown bytes l.body;
+  known : HasCome bytes l.vote;
   taken : Consumes (body_ahead 0 l.head (g.S.Source.left l.fn.source))
       (body_ahead l.reader.given l.head (g.S.Source.left l.source)) bytes;
   counted : length bytes ≡ l.reader.given;

@@ -1,4 +1,4 @@
--- What the body of an upload is: one document, and what may stand behind it.
+-- A document that stands alone: what bytes are, as one document, and what may stand behind it.
 use Rattle.std.specs.Prelude.{◌≡◌, ℕ, List, Option, Some, None, Result, Ok}
 use Rattle.frame_terms.specs.declared.fault.ReadRefusal.{ReadRefusal}
 use Rattle.vote_doc.specs.Reading.{vote_of}

@@ -1,5 +1,5 @@
-use Rattle.vote_upload.proofs.Bodies.{all_open, begins_whole, faulty_none}
-use Rattle.vote_upload.proofs.vote_body.read_on.Goals as goal
+use Rattle.lone_vote.proofs.KnownVotes.{all_open, begins_whole, faulty_none}
+use Rattle.lone_vote.proofs.coming.read_on.Goals as goal
 
 pub returns-in-All : goal.returns-in-All
 returns-in-All c =

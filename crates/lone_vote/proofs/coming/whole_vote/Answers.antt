@@ -1,5 +1,6 @@
-use Rattle.vote_upload.proofs.Bodies.{never_refused, vote_of_whole}
-use Rattle.vote_upload.proofs.vote_body.whole_vote.Goals as goal
+use Rattle.whole_votes.proofs.FedVotes.{never_refused}
+use Rattle.lone_vote.proofs.KnownVotes.{vote_of_whole}
+use Rattle.lone_vote.proofs.coming.whole_vote.Goals as goal
 
 pub unreachable-requires : goal.unreachable-requires
 unreachable-requires c =

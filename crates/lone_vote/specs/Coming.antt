@@ -1,13 +1,14 @@
--- What is known of the body of an upload, as a vote, while it arrives.
+-- What is known of bytes that arrive, as a vote alone.
 use Rattle.std.specs.Prelude.{◌≡◌, ℕ, List, ◌++◌, length, Ok}
 use Rattle.vote_doc.specs.Reading.{vote_of}
 use Rattle.vote_terms.specs.Votes.{ReadVote}
 use Rattle.vote_feed.specs.declared.blanks.Blank.{Blank}
 use Rattle.vote_feed.specs.Blanks.{blank_of}
 use Rattle.vote_feed.specs.Feeding.{IsOpen, IsWhole}
-use Rattle.vote_upload.specs.declared.vote_body.VoteBody.{VoteBody}
-use Rattle.vote_upload.specs.declared.vote_body.VoteBody.TheVariants.{Coming, Whole, Other}
-use Rattle.vote_upload.specs.Uploads.{IsVote, NoneIs}
+use Rattle.lone_vote.specs.declared.coming.Known.{Known}
+use Rattle.lone_vote.specs.declared.coming.Known.TheVariants.{Coming, Whole, Other}
+use Rattle.lone_vote.specs.declared.coming.LoneVote.{LoneVote}
+use Rattle.lone_vote.specs.Alone.{IsVote, NoneIs}
 
 -- this vote is read of the bytes, and all of them are its
 abbrev pub IsVoteOf : List ℕ → ReadVote → Type 0
@@ -22,8 +23,12 @@ pub record BeginsWith (bytes : List ℕ) (vote : ReadVote) (behind : Blank) : Ty
   pub is : IsVoteOf own vote
   pub blank : behind ≡ blank_of rest
 
--- what is known of a body of which these bytes have come
-abbrev pub IsKnown : List ℕ → VoteBody → Type 0
+-- what is known of these bytes, whatever follows
+abbrev pub IsKnown : List ℕ → Known → Type 0
 IsKnown bytes (Coming feeder) = (feeder ≡ bytes) × IsOpen bytes
 IsKnown bytes (Whole vote behind) = BeginsWith bytes vote behind
 IsKnown bytes Other = (more : List ℕ) → NoneIs (IsVote (bytes ++ more))
+
+-- these bytes have come of it
+abbrev pub HasCome : List ℕ → LoneVote → Type 0
+HasCome bytes lone = IsKnown bytes lone.known

@@ -1,10 +1,8 @@
--- What is known of the body of an upload, as a vote, whatever follows.
-use Rattle.std.proofs.Common.{◌≡◌, ◌∙◌, ℕ, ◌+◌, ◌<◌, ◌^◌, Bool, true, false, List, [], ◌++◌, length, take, drop}
-use Rattle.std.proofs.Common.{Result, Ok, Err, sym, ap, subst, append_assoc, append-nil}
+-- What is known of bytes that arrive, as a vote alone, whatever follows.
+use Rattle.std.proofs.Common.{◌≡◌, ◌∙◌, ℕ, ◌+◌, Bool, true, false, List, [], ◌++◌, length, take, drop}
+use Rattle.std.proofs.Common.{Ok, Err, sym, ap, subst, append_assoc, append-nil}
 use Rattle.std.proofs.lemmas.List.{take-append-drop}
 use Rattle.item_terms.specs.Lines.{lines}
-use Rattle.frame_terms.specs.declared.fault.FrameFault.{FrameFault}
-use Rattle.frame_terms.specs.declared.fault.ReadRefusal.{ReadRefusal}
 use Rattle.frame_terms.specs.declared.fault.ReadRefusal.TheVariants.{Frame}
 use Rattle.vote_terms.specs.Votes.{ReadVote}
 use Rattle.vote_doc.specs.Reading.{ReadsVote, vote_of}
@@ -12,40 +10,23 @@ use Rattle.vote_feed.specs.declared.blanks.Blank.{Blank}
 use Rattle.vote_feed.specs.Blanks.{blank_of}
 use Rattle.vote_feed.specs.declared.fed.Fed.{Fed}
 use Rattle.vote_feed.specs.declared.fed.Fed.TheVariants as fed
-use Rattle.vote_feed.specs.Feeding.{EndsSo, Feeds, IsOpen, IsWhole, are_blank_lines, end_of}
+use Rattle.vote_feed.specs.Feeding.{Feeds, IsOpen, IsWhole, are_blank_lines, end_of}
+use Rattle.whole_votes.proofs.FedVotes.{end_or, whole_read}
 use Rattle.whole_votes.proofs.WholeVotes.{whole_stay}
 use Rattle.ended_votes.proofs.EndedVotes.{open_are_none}
 use Rattle.blank_lines.specs.Blanks.{after_blanks}
-use Rattle.vote_upload.specs.Bodies.{BeginsWith, IsVoteOf}
-use Rattle.vote_upload.specs.Uploads.{IsVote, NoneIs}
-use Rattle.vote_upload.proofs.BlankLines.{lines_behind, no_other, none_other}
+use Rattle.lone_vote.specs.Coming.{BeginsWith, IsVoteOf}
+use Rattle.lone_vote.specs.Alone.{IsVote, NoneIs}
+use Rattle.lone_vote.proofs.BlankLines.{lines_behind, no_other, none_other}
 
 -- ---- a feeder's vote
-
-end_there : (bytes : List ℕ) (end : Result ℕ ReadRefusal) → EndsSo bytes end → end_of (vote_of bytes) ≡ end
-end_there bytes end ends = subst (λ (l : List ℕ). end_of (vote_of l) ≡ end) (append-nil bytes) (ends [])
-
-abbrev end_or : ℕ → Result ℕ ReadRefusal → ℕ
-end_or other (Ok end) = end
-end_or other (Err refusal) = other
 
 -- what is read of whole bytes is their vote
 pub vote_of_whole : (bytes : List ℕ) (vote : ReadVote) (end : ℕ) → IsWhole bytes → ReadsVote bytes (Ok (vote, end))
     → IsVoteOf bytes vote
 vote_of_whole bytes vote end whole reads =
-    let ends : end_of (Ok (vote, end)) ≡ Ok (length bytes) =
-    sym (ap end_of reads.0) ∙ end_there bytes (Ok (length bytes)) whole in
-    reads.0 ∙ ap (λ (k : ℕ). Ok (vote, k)) (ap (end_or 0) ends)
-
--- and no fault
-pub never_refused : (bytes : List ℕ) (result : Result (ReadVote × ℕ) ReadRefusal) (refusal : ReadRefusal)
-    (fault : FrameFault) → result ≡ Err refusal → refusal ≡ Frame fault → IsWhole bytes → ReadsVote bytes result → ⊥
-never_refused bytes result refusal fault is same whole reads =
-    let refused = subst (λ (r : Result (ReadVote × ℕ) ReadRefusal). ReadsVote bytes r)
-    (is ∙ ap (λ (e : ReadRefusal). Err e) same) reads in
-    let ends : Err (Frame fault) ≡ Ok (length bytes) =
-    sym (ap end_of refused) ∙ end_there bytes (Ok (length bytes)) whole in
-    cc ends
+    let read = whole_read bytes (vote, end) whole reads in
+    read.0 ∙ ap (λ (k : ℕ). Ok (vote, k)) read.1
 
 -- ---- a piece more
 
@@ -65,7 +46,7 @@ all_open old piece new given feeds is =
     let by = subst (λ (g : Fed). Feeds old piece new g) is feeds in
     (by.0, subst (λ (l : List ℕ). IsOpen l) by.0 by.1)
 
--- a body whose vote is faulty is none
+-- bytes whose vote is faulty are none
 pub faulty_none : (old piece new : List ℕ) (given : Fed) (taken : ℕ) → Feeds old piece new given
     → given ≡ fed.Fault taken → (more : List ℕ) → NoneIs (IsVote ((old ++ piece) ++ more))
 faulty_none old piece new given taken feeds is more vote stands =
@@ -75,7 +56,7 @@ faulty_none old piece new given taken feeds is more vote stands =
     ∙ by.2.refused (drop taken piece ++ more) in
     cc ends
 
--- a body whose vote ends in a piece begins with it
+-- bytes whose vote ends in a piece begin with it
 pub begins_whole : (old piece new : List ℕ) (given : Fed) (taken : ℕ) (vote : ReadVote) (behind : Blank)
     → Feeds old piece new given → given ≡ fed.Whole taken → IsVoteOf new vote → behind ≡ blank_of (drop taken piece)
     → BeginsWith (old ++ piece) vote behind
@@ -118,15 +99,15 @@ pub none_at_end : (bytes : List ℕ) → ((more : List ℕ) → NoneIs (IsVote (
 none_at_end bytes none vote stands =
     none [] vote (subst (λ (l : List ℕ). IsVote l vote) (sym (append-nil bytes)) stands)
 
--- a body of which nothing is known is no vote
+-- bytes of which nothing is known are no vote
 pub open_none : (bytes : List ℕ) → IsOpen bytes → NoneIs (IsVote bytes)
 open_none bytes open_ vote stands = open_are_none bytes vote stands.used open_ stands.reads
 
 module _ (bytes : List ℕ) (vote : ReadVote) (behind : Blank) (blank : Bool) (begins : BeginsWith bytes vote behind)
     (says : (rest : List ℕ) → behind ≡ blank_of rest → blank ≡ are_blank_lines rest) where
-  -- a body that begins with a vote is that vote where blank lines alone stand behind it
-  pub found_whole : length bytes < 2 ^ 61 → blank ≡ true → IsVote bytes vote
-  found_whole short is =
+  -- bytes that begin with a vote are that vote where blank lines alone stand behind it
+  pub found_whole : blank ≡ true → IsVote bytes vote
+  found_whole is =
       let own = begins.own in
       let rest = begins.rest in
       let all = sym (says rest begins.blank) ∙ is in

@@ -1,6 +1,6 @@
 use Rattle.std.proofs.Common.{◌-◌, ◌∙◌, [], ap, arith, drop, length, length-drop, take_all}
 use Rattle.vote_feed.specs.Blanks.{blank_of}
-use Rattle.vote_upload.proofs.vote_body.blank_behind.Goals as goal
+use Rattle.lone_vote.proofs.coming.blank_behind.Goals as goal
 
 pub returns : goal.returns
 returns c =

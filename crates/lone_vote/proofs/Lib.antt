@@ -1,0 +1,2 @@
+mod BlankLines
+mod KnownVotes
