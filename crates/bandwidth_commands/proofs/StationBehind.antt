@@ -1,5 +1,5 @@
 -- What stands behind the bandwidth file.
-use Rattle.std.proofs.Common.{◌≡◌, ℕ, ◌+◌, ◌≤◌, List, length, drop, Ok, Err, sym, ap, subst, ◌∙◌, arith}
+use Rattle.std.proofs.Common.{◌≡◌, ℕ, ◌+◌, ◌≤◌, ◌<◌, ◌^◌, List, length, drop, Ok, Err, sym, ap, subst, ◌∙◌, arith}
 use Rattle.std.proofs.lemmas.List.{length-drop}
 use Rattle.frame_terms.specs.declared.fault.ReadRefusal.{ReadRefusal}
 use Rattle.frame_terms.specs.declared.fault.ReadRefusal.TheVariants as read
@@ -8,6 +8,8 @@ use Rattle.bandwidth_file.specs.declared.file.BandFile.{BandFile}
 use Rattle.station_input.specs.Reading.{ReadsStation, station_of}
 use Rattle.station_input.specs.declared.facts.StationFacts.{StationFacts}
 use Rattle.station_laws.specs.Once.{RelaysAreNamedOnce}
+use Rattle.station_commands.specs.Descriptors.{FitsFrom}
+use Rattle.station_faults.proofs.InputFaults.{station_within}
 use Rattle.bandwidth_commands.specs.Private.{GivesStationBehind, fault_behind}
 use Rattle.bandwidth_commands.specs.WithFile.{told_from, told_station}
 
@@ -31,3 +33,11 @@ faulty_behind file start bytes rest read.Memory same is = tt
 faulty_behind file start bytes rest (read.Frame fault) same is =
     ap (told_from file start)
     (subst (λ (r : List ℕ). station_of r ≡ Err (read.Frame fault)) same is)
+
+-- its place in the input is a number of 64 bits
+pub fits_behind : (start : ℕ) (bytes rest : List ℕ) (refused : ReadRefusal) → rest ≡ drop start bytes
+    → start ≤ length bytes → length bytes < 2 ^ 61 → ReadsStation rest (Err refused) → FitsFrom start refused
+fits_behind start bytes rest (read.Frame fault) same within short is =
+    let size : length rest ≡ length (drop start bytes) = ap (λ (l : List ℕ). length l) same in
+    omega (arith, station_within rest fault is, size, length-drop start bytes, within, short)
+fits_behind start bytes rest read.Memory same within short is = tt

@@ -158,7 +158,7 @@ module _ (n : ℕ) (item : Item) (is : IsItemIn n item) where
 
   -- ---- limits
 
-  many_in : (of_limit : Limit) → FaultIn n (too_many of_limit item)
+  pub many_in : (of_limit : Limit) → FaultIn n (too_many of_limit item)
   many_in of_limit = by (nat_lt (limit_number of_limit) (length (arguments_of item)))
     where
       by : (t : Bool) → FaultIn {A = Unit {0}} n (if t then Err (record { place = item.place; reason = reason.TooMany of_limit }) else Ok tt)
@@ -263,7 +263,7 @@ module _ (n : ℕ) (across : Across) (place : ℕ) (within : place ≤ n) where
 
 -- ---- votes
 
-item_in : (bytes : List ℕ) (item : Item) → InPlace bytes item → IsItemIn (length bytes) item
+pub item_in : (bytes : List ℕ) (item : Item) → InPlace bytes item → IsItemIn (length bytes) item
 item_in bytes item there =
     let within = there.within in
     let some = there.in_order.some_bytes in

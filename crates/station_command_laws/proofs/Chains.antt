@@ -4,9 +4,10 @@ use Rattle.std.specs.Prelude.{All}
 use Rattle.std.proofs.lemmas.Bool.{false≢true}
 use Rattle.std.proofs.lemmas.List.{append-nil}
 use Rattle.std.proofs.lemmas.List.Elements.{All-head, All-tail}
+use Rattle.blank_lines.specs.Ends.{ends_at}
 use Rattle.frame_terms.specs.declared.fault.ReadRefusal.{ReadRefusal}
 use Rattle.descriptor_doc.specs.declared.descriptor.Descriptor.{Descriptor}
-use Rattle.station_commands.specs.Descriptors.{Stand, descriptor_from, ends_at}
+use Rattle.station_commands.specs.Descriptors.{Stand, descriptor_from}
 
 -- the place behind what was read, and what it is
 abbrev behind : Result (Descriptor × ℕ) ReadRefusal → ℕ

@@ -1,9 +1,8 @@
 -- An input with a bandwidth file in front that a vote can be made of is refused only where the verifier or the signer failed.
-use Rattle.std.proofs.Common.{◌≡◌, ℕ, ◌+◌, List, Option, Some, None, Result, Ok, Err, sym, ap, subst, ◌∙◌, inl, inr}
+use Rattle.std.proofs.Common.{◌≡◌, ℕ, ◌+◌, List, Option, Some, None, Ok, Err, sym, ap, subst, ◌∙◌, inl, inr}
 use Rattle.std.specs.Prelude.{take}
 use Rattle.key_port.specs.Answers.{Relation, Rules}
 use Rattle.key_port.specs.Signing.{SignerSteps}
-use Rattle.frame_terms.specs.declared.fault.ReadRefusal.{ReadRefusal}
 use Rattle.bandwidth_file.specs.Ages.{IsOld}
 use Rattle.bandwidth_file.specs.Files.{IsBandFile}
 use Rattle.bandwidth_file.specs.declared.file.BandFile.{BandFile}
@@ -14,7 +13,6 @@ use Rattle.frame_terms.specs.declared.fault.FrameFault.{FrameFault}
 use Rattle.frame_terms.specs.declared.fault.ReadRefusal.TheVariants as doc
 use Rattle.station_input.specs.declared.facts.StationFacts.{StationFacts}
 use Rattle.station_commands.specs.Voting.{RefusesVote}
-use Rattle.station_commands.specs.declared.refusal.MakeVoteRefusal.{MakeVoteRefusal}
 use Rattle.bandwidth_commands.specs.WithFile.{AnswersBehind, IsFaultyBehind, RefusesFile, station_behind}
 use Rattle.bandwidth_commands.specs.declared.refusal.BandwidthRefusal.{BandwidthRefusal}
 use Rattle.bandwidth_commands.specs.declared.refusal.BandwidthRefusal.TheVariants as bandwidth

@@ -1,5 +1,5 @@
 -- An input that a vote can be made of is refused only where the verifier or the signer failed.
-use Rattle.std.proofs.Common.{◌≡◌, ◌⊎◌, ℕ, List, ◌++◌, length, None, Ok, Err, refl, sym, ap, subst, ◌∙◌, arith}
+use Rattle.std.proofs.Common.{◌≡◌, ℕ, List, ◌++◌, length, None, Ok, Err, refl, sym, ap, subst, ◌∙◌, arith}
 use Rattle.std.proofs.Common.{inl, inr}
 use Rattle.std.specs.Prelude.{All, IsTrue}
 use Rattle.std.proofs.lemmas.Bool.{false≢true}
@@ -42,7 +42,7 @@ use Rattle.station_commands.specs.declared.refusal.OrderWord.{OrderWord}
 use Rattle.station_commands.specs.declared.refusal.OrderWord.TheVariants as word
 use Rattle.station_commands.specs.declared.refusal.PoolRefusal.{PoolRefusal}
 use Rattle.station_commands.specs.declared.refusal.PoolRefusal.TheVariants as refusal
-use Rattle.station_command_laws.specs.Answerable.{CanMakeVote, CanVote, HoldsAt, IsNotRefused, IsOfKeys, IsShort, SuchAreNotRefused}
+use Rattle.station_command_laws.specs.Answerable.{CanVote, HoldsAt, IsNotRefused, IsOfKeys, IsShort, SuchAreNotRefused}
 use Rattle.station_command_laws.proofs.Answers.{not_both, one_value}
 use Rattle.station_command_laws.proofs.Chains.{goes_on, has_next, of_next, one_chain, one_there}
 use Rattle.station_command_laws.proofs.OneBasis.{one_basis, one_station, one_used}

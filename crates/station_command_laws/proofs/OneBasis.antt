@@ -1,5 +1,5 @@
 -- A station has one basis at a moment, of the descriptors that it is given.
-use Rattle.std.proofs.Common.{◌≡◌, ℕ, List, Result, Ok, Err, sym, ap, subst, ◌∙◌, arith}
+use Rattle.std.proofs.Common.{◌≡◌, ℕ, List, Result, Ok, Err, sym, ap, ◌∙◌, arith}
 use Rattle.frame_terms.specs.declared.fault.ReadRefusal.{ReadRefusal}
 use Rattle.key_port.specs.Answers.{Rules}
 use Rattle.station_input.specs.Reading.{station_of}

@@ -1,6 +1,6 @@
 -- What is read at a place of the input.
-use Rattle.std.proofs.Common.{◌≡◌, ℕ, ◌+◌, ◌<◌, ◌≤◌, List, length, drop, take, Result, Ok, Err, refl, ap, sym, subst, ◌∙◌, arith}
-use Rattle.std.specs.Prelude.{◌-◌}
+use Rattle.std.proofs.Common.{◌≡◌, ℕ, ◌+◌, ◌<◌, ◌≤◌, List, length, drop, take, Ok, Err, refl, ap, sym, subst, ◌∙◌, arith}
+use Rattle.std.specs.Prelude.{◌-◌, ◌^◌}
 use Rattle.std.proofs.lemmas.List.{take_rest}
 use Rattle.std.proofs.lemmas.Grind.{common_steps}
 use Rattle.key_port.specs.Answers.{Rules}
@@ -12,8 +12,9 @@ use Rattle.descriptor_doc.specs.declared.checking.DescriptorRefusal.{DescriptorR
 use Rattle.descriptor_doc.specs.declared.checking.DescriptorRefusal.TheVariants as descriptor
 use Rattle.descriptor_doc.specs.declared.descriptor.Descriptor.{Descriptor}
 use Rattle.daemon_words.specs.declared.stop.Stop.TheVariants as stop
+use Rattle.station_faults.proofs.InputFaults.{descriptor_within}
 use Rattle.station_commands.specs.declared.refusal.PoolRefusal.TheVariants as refusal
-use Rattle.station_commands.specs.Descriptors.{descriptor_from, found_from, refusal_from}
+use Rattle.station_commands.specs.Descriptors.{FitsFrom, descriptor_from, found_from, refusal_from}
 use Rattle.station_commands.specs.Reads.{IsVerifiedAt, ReadsAt, StopsAt}
 use Rattle.station_commands.specs.Told.{descriptor_refused}
 
@@ -39,6 +40,14 @@ pub fails_there : (place : ℕ) (bytes rest : List ℕ) (why : ReadRefusal) → 
 fails_there place bytes rest (read.Frame fault) is reads =
     ap (found_from place) (ap descriptor_of (sym is) ∙ reads)
 fails_there place bytes rest read.Memory is reads = tt
+
+-- whose place in the input is a number of 64 bits
+pub fits_there : (place : ℕ) (bytes rest : List ℕ) (why : ReadRefusal) → rest ≡ drop place bytes → place ≤ length bytes
+    → length bytes < 2 ^ 61 → ReadsDescriptor rest (Err why) → FitsFrom place why
+fits_there place bytes rest (read.Frame fault) is within short reads =
+    let size : length rest ≡ length bytes - place = rw is (grind (arith, common_steps)) in
+    omega (arith, descriptor_within rest fault reads, size, within, short)
+fits_there place bytes rest read.Memory is within short reads = tt
 
 -- a descriptor that does not hold stops keeping
 pub stops_checking : (rules : Rules) (place number : ℕ) (bytes : List ℕ) (d : Descriptor) (next : ℕ)

@@ -4,11 +4,12 @@ use Rattle.std.proofs.Common.{arith}
 use Rattle.std.specs.Prelude.{◌||◌}
 use Rattle.std.proofs.lemmas.List.Elements.{All-append, All-cons, All-nil}
 use Rattle.std.proofs.lemmas.Grind.{common_steps}
+use Rattle.blank_lines.specs.Ends.{ends_at}
 use Rattle.key_port.specs.Answers.{Rules}
 use Rattle.descriptor_doc.specs.Checks.{IsVerified}
 use Rattle.descriptor_doc.specs.declared.descriptor.Descriptor.{Descriptor}
 use Rattle.vote_pool.specs.Pools.{Pooled, pool_after}
-use Rattle.station_commands.specs.Descriptors.{Hold, Stand, descriptor_from, ends_at, finds_full, is_full, no_pool, pool_with}
+use Rattle.station_commands.specs.Descriptors.{Hold, Stand, descriptor_from, finds_full, is_full, no_pool, pool_with}
 
 -- one more behind those that stand
 stands_more : (start : ℕ) (descriptors : List Descriptor) (last : ℕ) (bytes : List ℕ) (one : Descriptor) (next : ℕ)

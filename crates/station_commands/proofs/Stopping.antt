@@ -2,6 +2,7 @@
 use Rattle.std.proofs.Common.{◌≡◌, ℕ, ◌+◌, Bool, true, false, List, length, Result, Ok, Err, refl, sym, ap, subst, ◌∙◌}
 use Rattle.std.proofs.Common.{inl, inr, Option, Some, None}
 use Rattle.std.specs.Global.{Vec}
+use Rattle.blank_lines.specs.Ends.{ends_at}
 use Rattle.key_port.specs.Answers.{Relation, Rules}
 use Rattle.key_port.specs.Signing.{SignerSteps}
 use Rattle.authority_certs.specs.declared.checking.CertAnswer.{CertAnswer}
@@ -19,7 +20,7 @@ use Rattle.vote_maker.specs.Making.{RefusesToMake}
 use Rattle.flag_rules.specs.Rules.{list_allows}
 use Rattle.flag_rules.specs.declared.operator.OperatorRule.{OperatorRule}
 use Rattle.vote_schedule.specs.Moments.{AnswersNext}
-use Rattle.station_commands.specs.Descriptors.{FillsPool, GivesPool, ends_at}
+use Rattle.station_commands.specs.Descriptors.{FillsPool, GivesPool}
 use Rattle.station_commands.specs.Order.{GivesSchedule, IsInOrder}
 use Rattle.station_commands.specs.Reads.{StopsAt}
 use Rattle.station_commands.specs.Told.{by_end, by_word, cert_refused, cert_word, make_refused, of_fault, of_order, of_pool}

@@ -1,8 +1,7 @@
 -- The descriptors behind what a station is given, checked and kept one by one.
-use Rattle.std.specs.Prelude.{◌≡◌, ℕ, ◌+◌, ◌-◌, ◌^◌, min, Bool, true, false, ◌||◌, List, [], ◌∷◌, length, drop, All}
-use Rattle.std.specs.Prelude.{Option, None, Result, Ok, Err}
-use Rattle.item_terms.specs.Items.{Item, items_from}
-use Rattle.item_terms.specs.declared.fault.DocFault.{DocFault}
+use Rattle.std.specs.Prelude.{◌≡◌, ℕ, ◌+◌, ◌<◌, ◌^◌, Bool, true, false, ◌||◌, List, [], ◌∷◌, length, drop, All}
+use Rattle.std.specs.Prelude.{Result, Ok, Err}
+use Rattle.blank_lines.specs.Ends.{ends_at}
 use Rattle.frame_terms.specs.declared.fault.FrameFault.{FrameFault}
 use Rattle.frame_terms.specs.declared.fault.ReadRefusal.{ReadRefusal}
 use Rattle.frame_terms.specs.declared.fault.ReadRefusal.TheVariants as read
@@ -22,31 +21,16 @@ use Rattle.station_commands.specs.declared.refusal.DescriptorWord.TheVariants as
 use Rattle.station_commands.specs.declared.refusal.PoolRefusal.{PoolRefusal}
 use Rattle.station_commands.specs.declared.refusal.PoolRefusal.TheVariants as refusal
 
--- more bytes than an input has
-abbrev pub no_limit : ℕ
-no_limit = 2305843009213693952
-
--- ---- where the input ends
-
--- whether there is nothing
-abbrev pub is_nothing : List Item → Option DocFault → Bool
-is_nothing [] None = true
-is_nothing _ _ = false
-
--- whether only blank lines follow a place
-abbrev pub ends_at : ℕ → List ℕ → Bool
-ends_at place bytes = is_nothing (items_from place no_limit bytes).items (items_from place no_limit bytes).fault
-
 -- ---- a descriptor in the input
 
--- a place of what stands from a place on, as one of the input, as far as a number of 64 bits goes
-abbrev pub place_from : ℕ → ℕ → ℕ
-place_from place other = min (place + other) (2 ^ 64 - 1)
+-- the place in the input of a refusal of what stands from a place on is a number of 64 bits
+abbrev pub FitsFrom : ℕ → ReadRefusal → Type 0
+FitsFrom place (read.Frame fault) = place + fault.place < 2 ^ 64
+FitsFrom place read.Memory = Unit {0}
 
 -- a refusal of what stands from a place on, by its place in the input
 abbrev pub refusal_from : ℕ → ReadRefusal → ReadRefusal
-refusal_from place (read.Frame fault) =
-    read.Frame (record { place = place_from place fault.place; reason = fault.reason })
+refusal_from place (read.Frame fault) = read.Frame (record { place = place + fault.place; reason = fault.reason })
 refusal_from place read.Memory = read.Memory
 
 -- what was read from a place on, by its places in the input

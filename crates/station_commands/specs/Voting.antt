@@ -14,7 +14,6 @@ use Rattle.station_input.specs.Reading.{station_of}
 use Rattle.station_input.specs.declared.facts.StationFacts.{StationFacts}
 use Rattle.vote_pool.specs.Pools.{Pooled}
 use Rattle.vote_schedule.specs.Moments.{AnswersNext, IsNext, valid_until}
-use Rattle.vote_schedule.specs.Schedules.{Schedule}
 use Rattle.vote_maker.specs.Made.{Basis, schedule_in}
 use Rattle.vote_maker.specs.Making.{IsMade, RefusesToMake}
 use Rattle.vote_maker.specs.declared.refusal.MakeRefusal.{MakeRefusal}

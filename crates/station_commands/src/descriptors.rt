@@ -8,39 +8,22 @@ ghost use Rattle.station_commands.specs.Reads as reads;
 
 use crate::refusal::PoolRefusal;
 use crate::told::descriptor_refused;
+use blank_lines::{ends_at, fault_behind};
 use bytes::Bytes;
 use daemon_words::Stop;
 use descriptor_doc::{Descriptor, check, read};
-use dirdoc_grammar::Items;
-use frame_terms::{FrameFault, ReadRefusal};
+use frame_terms::ReadRefusal;
 use key_port::Verifier;
 use std::alloc::Global;
 use vote_pool::{Keep, Pool, PoolEntry, prepare};
 
-/// More bytes than an input has.
-const NO_LIMIT: u64 = 2_305_843_009_213_693_952;
-
-/// Whether only blank lines follow a place.
-fn ends_at(bytes: &Bytes, place: usize) -> bool
-    requires within { place ≤ length bytes.now }
-    requires short { length bytes.now < 2 ^ 61 }
-    ensures { result ≡ descriptors.ends_at place bytes.now }
-{
-    matches!(
-        Items::starting_at(bytes, place as u64, NO_LIMIT).next(),
-        Ok(None)
-    )
-}
-
 /// A refusal of what stands from a place on, by its place in the input.
 pub fn from_place(place: usize, refusal: ReadRefusal) -> ReadRefusal
+    requires { descriptors.FitsFrom place refusal }
     ensures { result ≡ descriptors.refusal_from place refusal }
 {
     match refusal {
-        ReadRefusal::Frame(fault) => ReadRefusal::Frame(FrameFault {
-            place: (place as u64).saturating_add(fault.place),
-            reason: fault.reason,
-        }),
+        ReadRefusal::Frame(fault) => ReadRefusal::Frame(fault_behind(place as u64, fault)),
         ReadRefusal::Memory => ReadRefusal::Memory,
     }
 }

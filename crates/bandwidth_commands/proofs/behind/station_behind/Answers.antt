@@ -1,5 +1,5 @@
 use Rattle.station_commands.proofs.Reading.{rest_is}
-use Rattle.bandwidth_commands.proofs.StationBehind.{stands_behind}
+use Rattle.bandwidth_commands.proofs.StationBehind.{fits_behind, stands_behind}
 use Rattle.bandwidth_commands.proofs.behind.station_behind.Goals as goal
 
 pub returns-in_ok-told-in-Ok : goal.returns-in_ok-told-in-Ok
@@ -9,3 +9,10 @@ returns-in_ok-told-in-Ok c =
     stands_behind front.file front.used bytes _ c.in-Ok.station c.in_ok-told-in-Ok.field-0 c.in-Ok.used
     (rest_is front.used bytes) c.requires.within c.relays_are_named_once.ensures c.in-Ok.ensures
     c.in_ok-told-in-Ok.ensures
+
+pub fault_behind-requires : goal.fault_behind-requires
+fault_behind-requires c =
+    let bytes = c.args.bytes.now in
+    let front = c.args.front.now in
+    fits_behind front.used bytes _ c.in-Err.refusal (rest_is front.used bytes) c.requires.within c.requires.short
+    c.in-Err.ensures

@@ -1,9 +1,16 @@
 use Rattle.std.proofs.Common.{Err, sym, subst, ◌∙◌}
 use Rattle.frame_terms.specs.declared.fault.ReadRefusal.{ReadRefusal}
 use Rattle.descriptor_parts.proofs.OfText.{some_bytes}
-use Rattle.station_commands.proofs.Reading.{fails_there, read_there, rest_is}
+use Rattle.station_commands.proofs.Reading.{fails_there, fits_there, read_there, rest_is}
 use Rattle.station_commands.specs.Reads.{ReadsAt}
 use Rattle.station_commands.proofs.descriptors.read_at.Goals as goal
+
+pub from_place-requires : goal.from_place-requires
+from_place-requires c =
+    let place = c.args.place in
+    let bytes = c.args.bytes.now in
+    let rest = c.in_ok-rest.ensures.ok ∙ rest_is place bytes in
+    fits_there place bytes c.in_ok-rest.rest c.in-Err.refusal rest c.requires.within c.requires.short c.in-Err.ensures
 
 pub returns-in-Ok-clause-reads : goal.returns-in-Ok-clause-reads
 returns-in-Ok-clause-reads c =

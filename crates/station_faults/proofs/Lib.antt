@@ -1,0 +1,4 @@
+pub mod Placed
+pub mod DescriptorPlaces
+pub mod StationPlaces
+pub mod InputFaults
