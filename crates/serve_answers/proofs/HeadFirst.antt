@@ -7,17 +7,18 @@ use Rattle.http_words.specs.declared.asked.Asked.{Asked}
 use Rattle.http_words.specs.declared.asked.Asked.TheVariants as asked
 use Rattle.http_words.specs.declared.replies.Reply.{Reply}
 use Rattle.http_words.specs.Paths.{asked_by}
+use Rattle.http_answers.specs.declared.outcome.Outcome.{Outcome}
+use Rattle.http_answers.specs.declared.outcome.Outcome.TheVariants.{Replied}
+use Rattle.http_answers.specs.Connections.{Handles}
 use Rattle.board_terms.specs.Boards.{Parts}
-use Rattle.serve_answers.specs.declared.outcome.Outcome.{Outcome}
-use Rattle.serve_answers.specs.declared.outcome.Outcome.TheVariants.{Replied}
-use Rattle.serve_answers.specs.Connections.{Handles, TakesBody}
+use Rattle.serve_answers.specs.Connections.{TakesBody}
 
 -- what comes of the body of a vote comes of its request
 pub vote_handled : (Does : Asked → List ℕ → List ℕ → Outcome → Type 0) (before then : Parts)
     (Takes : List ℕ → Reply → Type 0) (left mid : Option (List ℕ)) (head : Head) (answer : Reply)
     → ReadsHead left mid (Ok head) → asked_by head.method head.path ≡ asked.PostVote
     → ((body : List ℕ) → Takes body answer → Does asked.PostVote head.path body (Replied answer))
-    → TakesBody Takes head mid answer → Handles Does before then left (Replied answer)
+    → TakesBody Takes head mid answer → Handles Does (then ≡ before) left (Replied answer)
 vote_handled Does before then Takes left mid head answer at is does taken = record {
   read = Ok (record { method = head.method; path = head.path; body = taken.body });
   reads = whole_request left mid head (Ok taken.body) at taken.reads;

@@ -1,15 +1,10 @@
 -- The documents that an authority gives besides single votes and consensuses (dir-spec, "General-use HTTP URLs").
-use Rattle.std.specs.Prelude.{ℕ, List, [], ◌∷◌, Option, Some, None}
+use Rattle.std.specs.Prelude.{ℕ, List, [], Option, Some, None}
 use Rattle.std.specs.List.{find, flat_map}
 use Rattle.std.specs.Str.{bytes_eq}
 use Rattle.vote_terms.specs.Votes.{ReadVote}
 use Rattle.descriptor_doc.specs.declared.descriptor.Descriptor.{Descriptor}
 use Rattle.vote_pool.specs.Summaries.{micro_digest_of, micro_text_of}
-
--- a list of documents, unless it is empty
-abbrev pub unless_empty : List ℕ → Option (List ℕ)
-unless_empty [] = None
-unless_empty (byte ∷ bytes) = Some (byte ∷ bytes)
 
 -- the certificates of votes, in the bytes that stand in them
 abbrev pub certificates_of : List ReadVote → List ℕ

@@ -20,8 +20,8 @@ use Rattle.period_laws.specs.Publications.{WasPublished}
 use Rattle.signature_document.specs.Next.{next_signatures_of}
 use Rattle.board_terms.specs.Boards.{Locks, Parts, Sees, Looks}
 use Rattle.board_laws.specs.Going.{Goes}
-use Rattle.serve_answers.specs.Documents.{unless_empty, certificates_of, certificate_if, descriptors_of}
-use Rattle.serve_answers.specs.Documents.{descriptor_if, micros_with}
+use Rattle.http_answers.specs.Found.{unless_empty}
+use Rattle.serve_answers.specs.Documents.{certificates_of, certificate_if, descriptors_of, descriptor_if, micros_with}
 
 -- the flavour of a consensus
 abbrev pub flavour_of : Form → Flavour

@@ -1,7 +1,6 @@
 pub mod Documents
 pub mod Places
 pub mod Finding
-pub mod Outcomes
 pub mod Words
 pub mod Uploads
 pub mod Answers

@@ -3,7 +3,7 @@ use Rattle.std.specs.Prelude.{ℕ, List}
 use Rattle.descriptor_doc.specs.Reading.{descriptor_of}
 use Rattle.descriptor_doc.specs.declared.descriptor.Descriptor.{Descriptor}
 use Rattle.blank_lines.specs.Keywords.{before_extra}
-use Rattle.vote_upload.specs.Uploads.{Stands}
+use Rattle.lone_vote.specs.Alone.{Stands}
 
 -- the body is a descriptor, and then nothing but blank lines, up to an `extra-info` line if there is one
 abbrev pub IsDescriptor : List ℕ → Descriptor → Type 0

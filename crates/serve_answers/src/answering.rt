@@ -12,12 +12,12 @@ ghost use Rattle.serve_answers.specs.Handling.{Does, IsCausedHandled};
 ghost use Rattle.serve_answers.specs.Connections.{IsHandled, TakesAhead};
 
 use crate::handling::handle;
-use crate::outcome::Outcome;
 use crate::votes::take_vote;
 use bytes::Bytes;
 use dir_bytes::{Clock, Source};
 use dir_http::{Head, HttpFault, read_head, read_rest};
 use flag_rules::{Hook, RelayFacts, Rules, Ruling};
+use http_answers::Outcome;
 use http_words::{Asked, Reply, asked_by};
 use key_port::Verifier;
 use serve_board::{Board, Pass};

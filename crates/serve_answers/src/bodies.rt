@@ -1,6 +1,6 @@
 // What the body of an uploaded descriptor is.
 ghost use Rattle.std.specs.Prelude.{◌<◌, ◌^◌, MatchResult, length};
-ghost use Rattle.vote_upload.specs.Uploads.{IsFound};
+ghost use Rattle.lone_vote.specs.Alone.{IsFound};
 ghost use Rattle.serve_answers.specs.Uploads.{IsDescriptor};
 
 use blank_lines::before_extra;

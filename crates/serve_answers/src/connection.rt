@@ -6,68 +6,17 @@ ghost use Rattle.flag_rules.specs.Rules.{KeepsTo};
 ghost use Rattle.board_terms.specs.Boards.{IsAt};
 ghost use Rattle.board_laws.specs.Going.{Goes};
 ghost use Rattle.serve_answers.specs.Handling.{Does};
-ghost use Rattle.serve_answers.specs.Connections.{Serves, Tells, TriesShortage};
+ghost use Rattle.serve_answers.specs.Connections.{Serves};
 
 use crate::answering::{Handled, answer};
-use crate::outcome::Outcome;
 use dir_bytes::{Clock, Sink, Source};
-use dir_http::{Response, WriteRefusal, write_response};
 use flag_rules::{Hook, RelayFacts, Rules, Ruling};
+use http_answers::{ConnStatus, Outcome, tell, tell_shortage};
 use http_words::reply_to;
 use key_port::Verifier;
 use serve_board::{Board, Pass};
 use std::alloc::Global;
 use std::sync::Wait;
-
-/// What came of a connection.
-#[derive(Clone, Copy, Debug, PartialEq, Eq)]
-pub enum ConnStatus {
-    /// A response with this code was written whole.
-    Answered { code: u16 },
-    /// The source failed, and nothing was done.
-    ReadFault,
-    /// The sink failed behind so many bytes of the response.
-    WriteFault { sent: u64 },
-    /// There was no memory. The response 500 was tried.
-    Memory,
-}
-
-/// The code of the response that tells of want of memory.
-const SHORTAGE: u16 = 500;
-
-/// Tries to tell that there was no memory.
-fn tell_shortage<K: Sink>(alloc: Global, sink: &mut K) -> ConnStatus
-    ensures status { result ≡ ConnStatus.Memory }
-    ensures tries { TriesShortage (K.written sink.old) (K.written sink.new) }
-    ensures faults { K.faults sink.old ≤ K.faults sink.new }
-{
-    let response = Response {
-        code: SHORTAGE,
-        body: Vec::new(alloc),
-    };
-    let _ = write_response(alloc, sink, &response);
-    ConnStatus::Memory
-}
-
-/// Writes what came of a request as a response. Want of memory is tried to be told, and is no answer.
-fn tell<K: Sink>(alloc: Global, sink: &mut K, outcome: Outcome) -> ConnStatus
-    ensures tells { Tells (K.written sink.old) (K.written sink.new)
-        (K.faults sink.old) (K.faults sink.new) outcome result }
-    ensures faults { K.faults sink.old ≤ K.faults sink.new }
-{
-    let code = outcome.code();
-    if code == SHORTAGE {
-        return tell_shortage(alloc, sink);
-    }
-    let Ok(response) = outcome.response(alloc) else {
-        return tell_shortage(alloc, sink);
-    };
-    match write_response(alloc, sink, &response) {
-        Ok(()) => ConnStatus::Answered { code },
-        Err(WriteRefusal::WriteFault { sent }) => ConnStatus::WriteFault { sent },
-        Err(WriteRefusal::Memory) => tell_shortage(alloc, sink),
-    }
-}
 
 /// Serves one connection: reads its request, does what it asks for, and writes the response.
 pub fn serve_connection<

@@ -1,5 +1,5 @@
 // What is found of what is asked for.
-ghost use Rattle.std.specs.Prelude.{◌≡◌, drop};
+ghost use Rattle.std.specs.Prelude.{◌≡◌};
 ghost use Rattle.key_port.specs.Answers.{rules};
 ghost use Rattle.http_words.specs.DigestLists.{digest_list};
 ghost use Rattle.board_laws.specs.Going.{Goes};
@@ -14,6 +14,7 @@ use crate::relays::{AskAllDescriptors, AskDescriptor};
 use consensus_terms::Flavour;
 use dir_bytes::{Memory, Text};
 use dir_values::{Digest1, Fingerprint};
+use http_answers::behind;
 use http_words::{Asked, Form, read_digests};
 use key_port::Verifier;
 use period_terms::Name;
@@ -28,16 +29,6 @@ fn flavour_of(form: Form) -> Flavour
     match form {
         Form::Ns => Flavour::Ns,
         Form::Microdesc => Flavour::Microdesc,
-    }
-}
-
-/// What stands of a path from a place on.
-fn behind(path: &[u8], place: usize) -> &[u8]
-    ensures { result.now ≡ drop place path.now }
-{
-    match path.get(place..) {
-        Some(rest) => rest,
-        None => b"",
     }
 }
 

@@ -9,18 +9,18 @@ ghost use Rattle.serve_answers.specs.Handling.{Does, Finds, IsCausedOutcome};
 
 use crate::descriptors::take_descriptor;
 use crate::finding::find;
-use crate::outcome::Outcome;
 use crate::signatures::take_signatures;
 use crate::votes::take_vote;
 use bytes::Bytes;
 use dir_bytes::{Clock, Memory};
 use flag_rules::{Hook, RelayFacts, Rules, Ruling};
+use http_answers::Outcome;
 use http_words::{Asked, Reply};
 use key_port::Verifier;
+use lone_vote::lone_vote;
 use serve_board::{Board, Pass};
 use std::alloc::Global;
 use std::sync::Wait;
-use vote_upload::vote_of;
 
 /// The document that is asked for by a path, or that there is none.
 ///
@@ -84,7 +84,7 @@ pub fn handle<R: Wait, W: Rules, F: Fn(RelayFacts) -> Ruling, C: Clock, V: Verif
 {
     match asked {
         Asked::PostVote => {
-            let found = vote_of(alloc, body)?;
+            let found = lone_vote(alloc, body)?;
             Ok(Outcome::Replied(take_vote(rt, board, pass, clock, verifier, found)))
         }
         Asked::PostDescriptor => Ok(Outcome::Replied(take_descriptor(

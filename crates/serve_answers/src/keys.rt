@@ -1,11 +1,12 @@
 // The certificates of the held votes.
 ghost use Rattle.std.specs.Prelude.{◌≡◌, IfOk, MatchResult};
 ghost use Rattle.vote_terms.specs.Held.{vote_of};
+ghost use Rattle.http_answers.specs.Found as found;
 ghost use Rattle.serve_answers.specs.Documents as lists;
 
-use crate::found::unless_empty;
 use dir_bytes::{Memory, Text};
 use dir_values::Fingerprint;
+use http_answers::unless_empty;
 use key_port::Verifier;
 use period_core::Station;
 use serve_board::Question;
@@ -43,7 +44,7 @@ impl<V: Verifier> Question<Station<V>> for AskAllKeys {
     type Reply = Result<Option<Text>, Memory>;
 
     ghost finds = { λ before state reply then.
-        MatchResult reply (λ text. text ≡ lists.unless_empty (lists.certificates_of state.votes)) (λ _. Unit {0}) };
+        MatchResult reply (λ text. text ≡ found.unless_empty (lists.certificates_of state.votes)) (λ _. Unit {0}) };
 
     fn ask(&mut self, value: &Station<V>) -> Result<Option<Text>, Memory> {
         Ok(unless_empty(certificates(self.alloc, value.votes())?))
@@ -61,7 +62,7 @@ impl<V: Verifier> Question<Station<V>> for AskKeys {
     type Reply = Result<Option<Text>, Memory>;
 
     ghost finds = { λ before state reply then.
-        MatchResult reply (λ text. text ≡ lists.unless_empty (lists.certificate_if (vote_of state.votes before.authority))) (λ _. Unit {0}) };
+        MatchResult reply (λ text. text ≡ found.unless_empty (lists.certificate_if (vote_of state.votes before.authority))) (λ _. Unit {0}) };
 
     fn ask(&mut self, value: &Station<V>) -> Result<Option<Text>, Memory> {
         let bytes = certificate(self.alloc, value.votes(), &self.authority)?;

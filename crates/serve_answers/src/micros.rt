@@ -1,11 +1,12 @@
 // The microdescriptors of the pool.
 ghost use Rattle.std.specs.Prelude.{◌≡◌, ◌++◌, ◌<◌, All, IfOk, OnOk, MatchResult, length};
+ghost use Rattle.http_answers.specs.Found as found;
 ghost use Rattle.serve_answers.specs.Documents as lists;
 ghost use Rattle.serve_answers.specs.Places as lending;
 
-use crate::found::unless_empty;
 use crate::places::places;
 use dir_bytes::{Memory, Text};
+use http_answers::unless_empty;
 use key_port::Verifier;
 use serve_board::Question;
 use std::alloc::Global;
@@ -54,7 +55,7 @@ impl<V: Verifier> Question<Pool<V>> for AskMicros {
     type Reply = Result<Option<Text>, Memory>;
 
     ghost finds = { λ before pool reply then.
-        MatchResult reply (λ text. text ≡ lists.unless_empty (lists.micros_with pool.descriptors before.asked.items)) (λ _. Unit {0}) };
+        MatchResult reply (λ text. text ≡ found.unless_empty (lists.micros_with pool.descriptors before.asked.items)) (λ _. Unit {0}) };
 
     fn ask(&mut self, value: &Pool<V>) -> Result<Option<Text>, Memory> {
         Ok(unless_empty(micros(self.alloc, value, &self.asked)?))

@@ -1,11 +1,12 @@
 // The descriptors of the pool.
 ghost use Rattle.std.specs.Prelude.{◌≡◌, IfOk, MatchResult};
 ghost use Rattle.vote_pool.specs.Pools.{descriptor_for};
+ghost use Rattle.http_answers.specs.Found as found;
 ghost use Rattle.serve_answers.specs.Documents as lists;
 
-use crate::found::unless_empty;
 use dir_bytes::{Memory, Text};
 use dir_values::Fingerprint;
+use http_answers::unless_empty;
 use key_port::Verifier;
 use serve_board::Question;
 use std::alloc::Global;
@@ -49,7 +50,7 @@ impl<V: Verifier> Question<Pool<V>> for AskAllDescriptors {
     type Reply = Result<Option<Text>, Memory>;
 
     ghost finds = { λ before pool reply then.
-        MatchResult reply (λ text. text ≡ lists.unless_empty (lists.descriptors_of pool.descriptors)) (λ _. Unit {0}) };
+        MatchResult reply (λ text. text ≡ found.unless_empty (lists.descriptors_of pool.descriptors)) (λ _. Unit {0}) };
 
     fn ask(&mut self, value: &Pool<V>) -> Result<Option<Text>, Memory> {
         Ok(unless_empty(descriptors(self.alloc, value)?))
@@ -67,7 +68,7 @@ impl<V: Verifier> Question<Pool<V>> for AskDescriptor {
     type Reply = Result<Option<Text>, Memory>;
 
     ghost finds = { λ before pool reply then.
-        MatchResult reply (λ text. text ≡ lists.unless_empty (lists.descriptor_if (descriptor_for pool.descriptors before.relay))) (λ _. Unit {0}) };
+        MatchResult reply (λ text. text ≡ found.unless_empty (lists.descriptor_if (descriptor_for pool.descriptors before.relay))) (λ _. Unit {0}) };
 
     fn ask(&mut self, value: &Pool<V>) -> Result<Option<Text>, Memory> {
         Ok(unless_empty(descriptor(self.alloc, value, &self.relay)?))

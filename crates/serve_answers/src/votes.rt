@@ -2,7 +2,7 @@
 ghost use Rattle.std.specs.Prelude.{◌≤◌, ℕ, List};
 ghost use Rattle.key_port.specs.Answers.{rules};
 ghost use Rattle.board_terms.specs.Boards.{IsAt};
-ghost use Rattle.vote_upload.specs.Uploads.{IsFound, IsVote};
+ghost use Rattle.lone_vote.specs.Alone.{IsFound, IsVote};
 ghost use Rattle.serve_answers.specs.Answers.{TakesVote};
 
 use crate::words::{reply_to_offer, reply_to_vote};

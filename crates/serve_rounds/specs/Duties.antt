@@ -7,6 +7,7 @@ use Rattle.key_port.specs.Signing.{SignerSteps}
 use Rattle.flag_rules.specs.declared.relay.RelayFacts.{RelayFacts}
 use Rattle.flag_rules.specs.declared.ruling.Ruling.{Ruling}
 use Rattle.station_input.specs.declared.facts.StationFacts.{StationFacts}
+use Rattle.lone_vote.specs.Alone.{IsVote}
 use Rattle.vote_terms.specs.Acceptable.{IsVerified}
 use Rattle.vote_terms.specs.Votes.{ReadVote}
 use Rattle.signature_terms.specs.declared.view.PeriodView.{PeriodView}
@@ -51,10 +52,15 @@ pub record IsOwn {N : Type 0} (rules : Rules) (gives : Relation) (steps : Signer
   pub period : IsPeriodOf rules board from to valid_after
   pub own : IsOwnVote rules gives steps allows station board from to valid_after now vote
 
--- The entry is the offer as Fetched, at this moment, of a vote that holds.
+-- the vote is that of some text, with nothing but blank lines behind it
+abbrev pub StandsAlone : ReadVote → Type 0
+StandsAlone vote = (text : List ℕ) × IsVote text vote
+
+-- The entry is the offer as Fetched, at this moment, of a vote that holds, of a text with nothing else in it.
 pub record IsFetched (rules : Rules) (now : ℕ) (entry : Entry) : Type 0 where
   pub vote : ReadVote
   pub event : entry.event ≡ Offered vote Fetched now
+  pub alone : StandsAlone vote
   pub verified : IsVerified rules vote
 
 -- The entry is the offer of a signature that the verifier may accept, by the key that it names.

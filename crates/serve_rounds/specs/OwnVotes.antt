@@ -1,13 +1,12 @@
 -- The vote that an authority makes at a board (dir-spec, "Voting timeline").
-use Rattle.std.specs.Prelude.{◌≡◌, ℕ, Bool, true, List, Ok}
-use Rattle.blank_lines.specs.Ends.{ends_at}
+use Rattle.std.specs.Prelude.{◌≡◌, ℕ, Bool, List}
 use Rattle.key_port.specs.Answers.{Relation, Rules}
 use Rattle.key_port.specs.Signing.{SignerSteps}
 use Rattle.descriptor_doc.specs.declared.descriptor.Descriptor.{Descriptor}
 use Rattle.flag_rules.specs.declared.relay.RelayFacts.{RelayFacts}
 use Rattle.flag_rules.specs.declared.ruling.Ruling.{Ruling}
 use Rattle.station_input.specs.declared.facts.StationFacts.{StationFacts}
-use Rattle.vote_doc.specs.Reading.{vote_of}
+use Rattle.lone_vote.specs.Alone.{IsVote}
 use Rattle.vote_maker.specs.Made.{basis}
 use Rattle.vote_maker.specs.Making.{IsMade}
 use Rattle.vote_terms.specs.Acceptable.{IsVerified}
@@ -19,12 +18,6 @@ use Rattle.board_terms.specs.Boards.{Locks, Parts}
 use Rattle.board_terms.specs.Stocks.{stock_after, AreKept}
 use Rattle.period_lock.specs.Turns.{entries}
 use Rattle.serve_rounds.specs.Spans.{WasSeen}
-
--- The text is the vote, and then nothing but blank lines.
-pub record IsTextOfVote (text : List ℕ) (vote : ReadVote) : Type 0 where
-  pub used : ℕ
-  pub reads : vote_of text ≡ Ok (vote, used)
-  pub ends : ends_at used text ≡ true
 
 -- The board was in the period that begins then, at some time between.
 pub record IsPeriodOf (rules : Rules) (board : Locks) (from to : Parts) (valid_after : ℕ) : Type 0 where
@@ -49,9 +42,10 @@ module _ {N : Type 0} (rules : Rules) (gives : Relation) (steps : SignerSteps N)
     pub are_kept : AreKept rules board.pool.start (entries place)
     pub made : IsTextMade (stock_after board.pool.start (entries place)).descriptors valid_after now text
 
-  -- The vote is the one that the authority made so at that moment for that period, and it holds.
+  -- The vote is the one that the authority made so at that moment for that period, with nothing but blank lines behind it, and
+  -- it holds.
   pub record IsOwnVote (board : Locks) (from to : Parts) (valid_after now : ℕ) (vote : ReadVote) : Type 0 where
     pub text : List ℕ
     pub text_is : IsTextOfBoard board from to valid_after now text
-    pub is : IsTextOfVote text vote
+    pub is : IsVote text vote
     pub verified : IsVerified rules vote

@@ -4,10 +4,9 @@ ghost use Rattle.key_port.specs.Answers.{rules};
 ghost use Rattle.dir_values.specs.Digests.{fingerprint_text};
 ghost use Rattle.vote_terms.specs.Acceptable.{IsVerified};
 ghost use Rattle.board_terms.specs.Boards.{IsAt, Parts};
-ghost use Rattle.serve_rounds.specs.Duties.{IsFetched};
+ghost use Rattle.serve_rounds.specs.Duties.{IsFetched, StandsAlone};
 ghost use Rattle.serve_rounds.specs.Spans.{Adds, Anywhere};
 
-use crate::bodies::vote_in;
 use crate::peers::{address_of, body_of};
 use crate::round::Round;
 use crate::turns::is_held;
@@ -15,6 +14,7 @@ use dir_bytes::Memory;
 use dir_http::Link;
 use dir_values::Fingerprint;
 use key_port::Verifier;
+use lone_vote::lone_vote;
 use period_terms::Via;
 use serve_board::{Board, Pass};
 use station_input::StationFacts;
@@ -34,7 +34,8 @@ fn path_of(alloc: Global, authority: &Fingerprint) -> Result<Vec<u8>, Memory>
     Ok(path)
 }
 
-/// The vote of an authority that a peer gives, checked for the period. None where it gives none that is acceptable.
+/// The vote of an authority that a peer gives, with nothing but blank lines behind it, checked for the period. None where it
+/// gives none that is acceptable, or there is no memory.
 fn vote_of_peer<V: Verifier, L: Link>(
     alloc: Global,
     board: &Board<V>,
@@ -44,6 +45,7 @@ fn vote_of_peer<V: Verifier, L: Link>(
     verifier: &mut V,
     link: &mut L,
 ) -> Option<CheckedVote<V>>
+    ensures alone { IfSome result (λ vote. StandsAlone vote) }
     ensures verified { IfSome result (λ vote. IsVerified (rules V.may_accept V.may_refuse) vote) }
     ensures verifier { V.faults verifier.old ≤ V.faults verifier.new }
     ensures link { L.faults link.old ≤ L.faults link.new }
@@ -54,7 +56,7 @@ fn vote_of_peer<V: Verifier, L: Link>(
     let Some(body) = body_of(alloc, link, address, &path, VOTE_LIMIT) else {
         return None;
     };
-    let Some((vote, _)) = vote_in(alloc, body) else {
+    let Ok(Some(vote)) = lone_vote(alloc, &body) else {
         return None;
     };
     match check_vote(vote, board.roster(), valid_after, verifier) {

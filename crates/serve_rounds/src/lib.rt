@@ -3,7 +3,6 @@
 #![tactic(auto)]
 
 mod advancing;
-mod bodies;
 mod fetching;
 mod gathering;
 mod making;

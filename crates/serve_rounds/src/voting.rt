@@ -7,14 +7,13 @@ ghost use Rattle.serve_rounds.specs.Duties.{IsOwn};
 ghost use Rattle.serve_rounds.specs.OwnVotes.{IsOwnVote, IsPeriodOf};
 ghost use Rattle.serve_rounds.specs.Spans.{Adds, AddsNone, Since};
 
-use crate::bodies::vote_in;
 use crate::making::own_text;
 use crate::peers::post_to_peers;
 use crate::round::Round;
 use crate::ruling::Rulers;
-use bytes::Bytes;
 use dir_http::Link;
 use key_port::{Signer, Verifier};
+use lone_vote::lone_vote;
 use period_terms::{Offer, Via};
 use serve_board::{Board, Pass};
 use station_input::StationFacts;
@@ -22,7 +21,8 @@ use std::alloc::Global;
 use std::sync::Wait;
 use vote_doc::{CheckedVote, check_vote};
 
-/// The own vote, checked, and its bytes. None where none can be made, or what was made is refused.
+/// The own vote, checked, and its text, which is that vote with nothing but blank lines behind it. None where none can be
+/// made, what was made is refused, or there is no memory.
 fn own_vote<H: Wait, W: Rulers, V: Verifier, N: Signer>(
     rt: &H,
     alloc: Global,
@@ -34,7 +34,7 @@ fn own_vote<H: Wait, W: Rulers, V: Verifier, N: Signer>(
     now: u64,
     verifier: &mut V,
     signer: &mut N,
-) -> Option<(CheckedVote<V>, Bytes)>
+) -> Option<(CheckedVote<V>, Vec<u8>)>
     requires at { IsAt board.now pass.old }
     ensures own { IfSome result (λ found. IsOwnVote (rules V.may_accept V.may_refuse) N.may_give N.steps (W.allows
         ruler.now) station.now board.now pass.old pass.new valid_after now found.0) }
@@ -57,11 +57,11 @@ fn own_vote<H: Wait, W: Rulers, V: Verifier, N: Signer>(
     ) else {
         return None;
     };
-    let Some((vote, bytes)) = vote_in(alloc, text) else {
+    let Ok(Some(vote)) = lone_vote(alloc, &text) else {
         return None;
     };
     match check_vote(vote, board.roster(), valid_after, verifier) {
-        Ok(checked) => Some((checked, bytes)),
+        Ok(checked) => Some((checked, text)),
         Err(_) => None,
     }
 }
@@ -74,7 +74,7 @@ fn is_taken(answer: Offer) -> bool {
     )
 }
 
-/// Makes the own vote and offers it. Its bytes, where it was taken.
+/// Makes the own vote and offers it. Its text, where it was taken.
 fn offer_own<H: Wait, W: Rulers, V: Verifier, N: Signer>(
     rt: &H,
     alloc: Global,
@@ -86,7 +86,7 @@ fn offer_own<H: Wait, W: Rulers, V: Verifier, N: Signer>(
     now: u64,
     verifier: &mut V,
     signer: &mut N,
-) -> Option<Bytes>
+) -> Option<Vec<u8>>
     requires at { IsAt board.now pass.old }
     ensures adds { (from a : Parts) → Goes from pass.old
         → IsPeriodOf (rules V.may_accept V.may_refuse) board.now from pass.old valid_after
@@ -98,7 +98,7 @@ fn offer_own<H: Wait, W: Rulers, V: Verifier, N: Signer>(
     ensures verifier { V.faults verifier.old ≤ V.faults verifier.new }
     ensures signer { N.faults signer.old ≤ N.faults signer.new }
 {
-    let Some((vote, bytes)) = own_vote(
+    let Some((vote, text)) = own_vote(
         rt,
         alloc,
         board,
@@ -113,7 +113,7 @@ fn offer_own<H: Wait, W: Rulers, V: Verifier, N: Signer>(
         return None;
     };
     let answer = board.offer(rt, pass, vote, Via::Own, now);
-    if is_taken(answer) { Some(bytes) } else { None }
+    if is_taken(answer) { Some(text) } else { None }
 }
 
 /// Makes the own vote, offers it and brings it to each peer, once in a period. Where it is refused, or there is no memory, it is tried
@@ -147,7 +147,7 @@ pub(crate) fn vote_once<H: Wait, W: Rulers, V: Verifier, N: Signer, L: Link>(
         return;
     }
     let valid_after = round.valid_after;
-    let Some(bytes) = offer_own(
+    let Some(text) = offer_own(
         rt,
         alloc,
         board,
@@ -162,5 +162,5 @@ pub(crate) fn vote_once<H: Wait, W: Rulers, V: Verifier, N: Signer, L: Link>(
         return;
     };
     round.voted = true;
-    post_to_peers(alloc, station, link, b"/tor/post/vote", &bytes);
+    post_to_peers(alloc, station, link, b"/tor/post/vote", &text);
 }

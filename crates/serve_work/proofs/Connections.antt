@@ -34,15 +34,16 @@ use Rattle.board_terms.specs.Boards.{Locks, Parts, Looks, Sees}
 use Rattle.board_terms.specs.Stocks.{kept_if}
 use Rattle.board_laws.proofs.Going.{goes_looks, goes_sees}
 use Rattle.serve_answers.specs.Answers.{TakesDescriptor, TakesRuled, TakesVote}
-use Rattle.serve_answers.specs.Connections.{DoesFor, Handles, Serves}
+use Rattle.http_answers.specs.Connections.{DoesFor, Handles}
+use Rattle.serve_answers.specs.Connections.{Serves}
 use Rattle.serve_answers.specs.Finding.{AddsNothing, Finds, FindsAsked, FindsMicros, FindsNothing, Reads, ReadsCurrent}
 use Rattle.serve_answers.specs.Finding.{flavour_of}
 use Rattle.serve_answers.specs.Handling as handling
 use Rattle.serve_answers.specs.Handling.{Counted, Does, SignsEach, TakesSignatures}
-use Rattle.serve_answers.specs.declared.connection.ConnStatus.{ConnStatus}
-use Rattle.serve_answers.specs.declared.connection.ConnStatus.TheVariants as status
-use Rattle.serve_answers.specs.declared.outcome.Outcome.{Outcome}
-use Rattle.serve_answers.specs.declared.outcome.Outcome.TheVariants.{Found, Replied}
+use Rattle.http_answers.specs.declared.connection.ConnStatus.{ConnStatus}
+use Rattle.http_answers.specs.declared.connection.ConnStatus.TheVariants as status
+use Rattle.http_answers.specs.declared.outcome.Outcome.{Outcome}
+use Rattle.http_answers.specs.declared.outcome.Outcome.TheVariants.{Found, Replied}
 use Rattle.serve_rounds.specs.Duties.{IsGathered}
 use Rattle.serve_rounds.proofs.Adding.{entry_kind}
 use Rattle.serve_work.specs.Workers.{HasWorked, IsTakenIn, IsWork}
@@ -235,12 +236,12 @@ module _ {N C : Type 0} (rules : Rules) (gives : Relation) (steps : SignerSteps 
     does (asked.Micros place) path body outcome found = answer_of before then (asked.Micros place) path outcome found
     does asked.Unknown path body outcome found = answer_of before then asked.Unknown path outcome found
 
-    does_for : (read : Result ReadRequest HttpFault) (outcome : Outcome) → DoesFor Doing before then read outcome
+    does_for : (read : Result ReadRequest HttpFault) (outcome : Outcome) → DoesFor Doing (then ≡ before) read outcome
         → Done before then
     does_for (Ok request) outcome did = does (asked_by request.method request.path) request.path request.body outcome did
     does_for (Err fault) outcome (answer, told, why, same) = still before then same
 
-    handles : (left : Option (List ℕ)) (outcome : Outcome) → Handles Doing before then left outcome → Done before then
+    handles : (left : Option (List ℕ)) (outcome : Outcome) → Handles Doing (then ≡ before) left outcome → Done before then
     handles left outcome did = does_for did.read outcome did.does
 
     -- whatever comes of it

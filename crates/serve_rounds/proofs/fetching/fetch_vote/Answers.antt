@@ -28,5 +28,5 @@ returns-clause-adds g c = λ a adds.
     (adds_still (Anywhere P) (anywhere_lasts P) a c.args.pass.now c.is_held.new.pass adds c.is_held.ensures.none)
     (Offered vote Fetched c.args.now) (Vote c.offer.result)
     (entry_kind P (Offered vote Fetched c.args.now) (Vote c.offer.result)
-    (record { vote = vote; event = refl; verified = c.in-Some.ensures.verified }))
+    (record { vote = vote; event = refl; alone = c.in-Some.ensures.alone; verified = c.in-Some.ensures.verified }))
     c.offer.ensures.event

@@ -1,5 +1,6 @@
-use Rattle.std.proofs.Common.{sym, subst}
+use Rattle.std.proofs.Common.{List, ℕ, sym, subst}
 use Rattle.key_port.specs.Answers.{rules}
+use Rattle.lone_vote.specs.Alone.{IsFound, IsVote}
 use Rattle.serve_rounds.specs.OwnVotes.{IsOwnVote}
 use Rattle.serve_rounds.proofs.voting.own_vote.Goals as goal
 
@@ -11,6 +12,7 @@ returns-in-Ok-clause-own g c =
     (sym c.in-Ok.ensures.accepted.0) record {
       text = c.in-Some.text.items;
       text_is = c.in-Some.ensures.text;
-      is = c.in-Some-vote_in.ensures.vote;
+      is = subst (λ (b : List ℕ). IsVote b c.in-Ok-Some.vote) c.deref.ensures.value
+          (subst (IsFound (IsVote c.deref.result.now)) c.in-Ok-Some.field-0-is c.in-Ok-Some.ensures);
       verified = c.in-Ok.ensures.accepted.1.verified;
     }

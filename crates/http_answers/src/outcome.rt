@@ -1,8 +1,8 @@
 // What comes of a request.
 ghost use Rattle.std.specs.Prelude.{◌≡◌, IfOk, IsTrue};
 ghost use Rattle.dir_http.specs.Responses.{is_code};
-ghost use Rattle.serve_answers.specs.Outcomes as outcomes;
-ghost use Rattle.serve_answers.specs.Outcomes.{SaysOutcome};
+ghost use Rattle.http_answers.specs.Outcomes as outcomes;
+ghost use Rattle.http_answers.specs.Outcomes.{SaysOutcome};
 
 use dir_bytes::{Memory, Text};
 use dir_http::Response;

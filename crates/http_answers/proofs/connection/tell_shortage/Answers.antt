@@ -1,5 +1,5 @@
-use Rattle.serve_answers.proofs.Telling.{shortage_tried}
-use Rattle.serve_answers.proofs.connection.tell_shortage.Goals as goal
+use Rattle.http_answers.proofs.Telling.{shortage_tried}
+use Rattle.http_answers.proofs.connection.tell_shortage.Goals as goal
 
 pub returns-clause-tries : goal.returns-clause-tries
 returns-clause-tries g c =

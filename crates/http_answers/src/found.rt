@@ -1,11 +1,11 @@
 // A list of documents that may be empty.
 ghost use Rattle.std.specs.Prelude.{◌≡◌};
-ghost use Rattle.serve_answers.specs.Documents as lists;
+ghost use Rattle.http_answers.specs.Found as lists;
 
 use dir_bytes::Text;
 
 /// The documents, unless there are none.
-pub(crate) fn unless_empty(documents: Vec<u8>) -> Option<Text>
+pub fn unless_empty(documents: Vec<u8>) -> Option<Text>
     ensures { result ≡ lists.unless_empty documents.items }
 {
     if documents.is_empty() {
