@@ -37,10 +37,10 @@ no_room full count same is = omega (arith, leb-true most_votes count (sym same �
 pub is_full : (full : Bool) (count : ℕ) → full ≡ nat_le most_votes count → most_votes - count ≡ 0 → full ≡ true
 is_full full count same none = same ∙ le-leb most_votes count (omega (arith, none))
 
-length_taken : (taken : ℕ) (piece : List ℕ) → taken ≤ length piece → length (take taken piece) ≡ taken
+pub length_taken : (taken : ℕ) (piece : List ℕ) → taken ≤ length piece → length (take taken piece) ≡ taken
 length_taken taken piece within = length-take taken piece ∙ omega (arith, within)
 
-nothing_left : (done left : List ℕ) → length left ≡ 0 → done ++ left ≡ done
+pub nothing_left : (done left : List ℕ) → length left ≡ 0 → done ++ left ≡ done
 nothing_left done [] none = append-nil done
 nothing_left done (b ∷ left) none = absurd (omega (arith, none))
 
@@ -84,7 +84,7 @@ module _ (rules : Rules) (wanted : Compute) where
       (room_behind is.votes, is.behind, is.rest, behind_short bytes old count is short)
 
   -- no byte has come
-  pub none_arrived : (new : Arriving) (checking : Checking) → BeginsBehind 0 checking new → new.votes ≡ checking
+  unfoldable pub none_arrived : (new : Arriving) (checking : Checking) → BeginsBehind 0 checking new → new.votes ≡ checking
       → IsChecked rules wanted [] checking → IsArriving rules wanted [] new
   none_arrived new checking begins same checked = record {
     votes = [];
@@ -122,7 +122,7 @@ module _ (rules : Rules) (wanted : Compute) where
         omega (arith, ended.1, ended.0.within, short)
 
   -- no vote ended
-  pub no_vote_ends : (bytes piece : List ℕ) (old new : Arriving) (taken : ℕ) (is : IsArriving rules wanted bytes old)
+  unfoldable pub no_vote_ends : (bytes piece : List ℕ) (old new : Arriving) (taken : ℕ) (is : IsArriving rules wanted bytes old)
       → new.start ≡ old.start → new.votes ≡ old.votes
       → Turns old.start (room_behind is.votes) is.behind piece (turn.On new.rest taken)
       → TurnsTo rules wanted bytes piece new taken
@@ -142,7 +142,7 @@ module _ (rules : Rules) (wanted : Compute) where
   }
 
   -- a vote ended
-  pub vote_ends : (bytes piece : List ℕ) (old new : Arriving) (vote : ReadVote) (count start taken : ℕ)
+  unfoldable pub vote_ends : (bytes piece : List ℕ) (old new : Arriving) (vote : ReadVote) (count start taken : ℕ)
       (is : IsArriving rules wanted bytes old)
       → Turns old.start (room_behind is.votes) is.behind piece (turn.Vote vote count taken)
       → start ≡ old.start + count → OneMoreChecked rules wanted vote old.votes new.votes
@@ -175,7 +175,7 @@ module _ (rules : Rules) (wanted : Compute) where
       size_of : length (take taken piece) ≡ taken
       size_of = length_taken taken piece turns.0.within
 
-  pub vote_ended : (bytes piece : List ℕ) (old new : Arriving) (checking : Checking) (vote : ReadVote)
+  unfoldable pub vote_ended : (bytes piece : List ℕ) (old new : Arriving) (checking : Checking) (vote : ReadVote)
       (count start taken : ℕ) (is : IsArriving rules wanted bytes old)
       → Turns old.start (room_behind is.votes) is.behind piece (turn.Vote vote count taken)
       → start ≡ old.start + count → OneMoreChecked rules wanted vote old.votes checking

@@ -14,3 +14,5 @@ pub mod Turning
 pub mod Stages
 pub mod Arrivals
 pub mod Sources
+pub mod Asking
+pub mod SourceAsking

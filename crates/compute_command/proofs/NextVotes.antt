@@ -91,7 +91,7 @@ module _ (front : List ℕ) (votes : List ReadVote) (are : AreVotes front votes)
   room = room_behind votes
 
   -- the votes of the input, by what stands behind these
-  votes_then : (more : List ℕ) (next : Option Read) → length (front ++ more) < 2 ^ 61 → next_of room more ≡ next
+  pub votes_then : (more : List ℕ) (next : Option Read) → length (front ++ more) < 2 ^ 61 → next_of room more ≡ next
       → votes_of (front ++ more) ≡ with_front votes (votes_by (length front) room (front ++ more) next)
   votes_then more next short is =
       are more short

@@ -40,7 +40,7 @@ pub takes_most : (old mid new : Option (List ℕ)) (bytes piece : List ℕ) (mos
 takes_most old mid new bytes piece most taken more few =
     (bytes ++ piece, consumes_more old mid new bytes piece taken more, omega (arith, length-append bytes piece, few))
 
-keeps_taken : (old mid new : Option (List ℕ)) (bytes : List ℕ) → Consumes old mid bytes → Keeps mid new
+pub keeps_taken : (old mid new : Option (List ℕ)) (bytes : List ℕ) → Consumes old mid bytes → Keeps mid new
     → Consumes old new bytes
 keeps_taken None mid new bytes taken same = tt
 keeps_taken (Some all) None new bytes taken same = absurd taken

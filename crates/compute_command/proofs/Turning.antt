@@ -19,6 +19,7 @@ use Rattle.vote_feed.specs.declared.fed.Fed.{Fed}
 use Rattle.vote_feed.specs.declared.fed.Fed.TheVariants as fed
 use Rattle.vote_feed.specs.Feeding.{EndsSo, Feeds, IsFaulty, IsOpen, IsWhole, end_of}
 use Rattle.vote_feed.proofs.Votes.{nothing_known}
+use Rattle.whole_votes.proofs.FedVotes.{end_there}
 use Rattle.compute_command.specs.declared.rest.Stage.{Stage}
 use Rattle.compute_command.specs.declared.rest.Stage.TheVariants as stage
 use Rattle.compute_command.specs.declared.rest.Turn.{Turn}
@@ -37,34 +38,6 @@ use Rattle.compute_command.proofs.Rests.{vote_there}
 use Rattle.compute_command.proofs.TailEnds.{end_is_none, not_end}
 
 -- ---- a feeder's vote
-
-end_there : (bytes : List ℕ) (end : Result ℕ ReadRefusal) → EndsSo bytes end → end_of (vote_of bytes) ≡ end
-end_there bytes end ends =
-    subst (λ (l : List ℕ). end_of (vote_of l) ≡ end) (append-nil bytes) (ends [])
-
-abbrev end_or : ℕ → Result ℕ ReadRefusal → ℕ
-end_or other (Ok end) = end
-end_or other (Err refusal) = other
-
--- what is read of whole bytes is their vote
-pub vote_of_whole : (bytes : List ℕ) (read : ReadVote × ℕ) → IsWhole bytes → ReadsVote bytes (Ok read) → IsVoteOf bytes read
-vote_of_whole bytes (vote, end) whole reads =
-    let ends : end_of (Ok (vote, end)) ≡ Ok (length bytes) =
-    sym (ap end_of reads.0) ∙ end_there bytes (Ok (length bytes)) whole in
-    (reads.0, ap (end_or 0) ends)
-
--- and no fault
-whole_not_refused : (bytes : List ℕ) (fault : FrameFault) → IsWhole bytes → vote_of bytes ≡ Err (Frame fault) → ⊥
-whole_not_refused bytes fault whole is =
-    let ends : Err (Frame fault) ≡ Ok (length bytes) = sym (ap end_of is) ∙ end_there bytes (Ok (length bytes)) whole in
-    cc ends
-
-pub never_refused : (bytes : List ℕ) (result : Result (ReadVote × ℕ) ReadRefusal) (refusal : ReadRefusal)
-    (fault : FrameFault) → result ≡ Err refusal → refusal ≡ Frame fault → IsWhole bytes → ReadsVote bytes result → ⊥
-never_refused bytes result refusal fault is same whole reads =
-    whole_not_refused bytes fault whole
-    (subst (λ (r : Result (ReadVote × ℕ) ReadRefusal). ReadsVote bytes r) (is ∙ ap (λ (e : ReadRefusal). Err e) same)
-    reads)
 
 -- a fault that is read stands within the bytes
 pub fault_within : (bytes : List ℕ) (result : Result (ReadVote × ℕ) ReadRefusal) (refusal : ReadRefusal) (fault : FrameFault)

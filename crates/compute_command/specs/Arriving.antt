@@ -45,9 +45,10 @@ pub record BeginsBehind (start : ℕ) (checking : Checking) (new : Arriving) : T
   pub same : new.start ≡ start
   pub rest : IsRest start (most_votes - checking.count) [] new.rest
 
--- No byte has come, whatever the votes are checked for.
+-- No byte and no vote has come, whatever the votes are checked for.
 abbrev pub NoneArrived : Arriving → Type 0
-NoneArrived arriving = (rules : Rules) (wanted : Compute) → IsArriving rules wanted [] arriving
+NoneArrived arriving =
+    (rules : Rules) (wanted : Compute) → (is : IsArriving rules wanted [] arriving) × (is.votes ≡ [])
 
 -- What is kept of an input is kept of some bytes, so many fewer than an input may have.
 abbrev pub HasArrived : Rules → Compute → Arriving → ℕ → Type 0

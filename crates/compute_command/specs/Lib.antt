@@ -9,3 +9,4 @@ pub mod Beyonds
 pub mod Rests
 pub mod Checked
 pub mod Arriving
+pub mod Asked

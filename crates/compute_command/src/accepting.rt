@@ -4,6 +4,7 @@ ghost use Rattle.dir_bytes.specs.Causes.{Rose};
 ghost use Rattle.key_port.specs.Answers.{rules};
 ghost use Rattle.compute_command.specs.Accepting as words;
 ghost use Rattle.compute_command.specs.Accepting.{Accepts};
+ghost use Rattle.compute_command.specs.Asked.{AsksListed};
 
 use crate::refusal::AcceptRefusal;
 use daemon_words::{Compute, Stop};
@@ -59,6 +60,7 @@ pub fn accept<V: Verifier>(
     ensures fault { result ≡ Err (Stop.Refused AcceptRefusal.Verifier) → Rose (V.faults verifier.old) (V.faults verifier.new) }
     ensures faults { V.faults verifier.old ≤ V.faults verifier.new }
     ensures told { V.faults verifier.old < V.faults verifier.new → result ≡ Err (Stop.Refused AcceptRefusal.Verifier) }
+    ensures asked { AsksListed V.steps votes.items verifier.old verifier.new result }
 {
     let mut votes = votes;
     let mut accepted = Accepted::new(alloc, votes.len() as u32)?;

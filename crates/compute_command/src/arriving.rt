@@ -1,6 +1,7 @@
 // The votes of an input, which are checked as its bytes arrive.
-ghost use Rattle.std.specs.Prelude.{◌≡◌, ◌++◌, None, length, IfOk};
+ghost use Rattle.std.specs.Prelude.{◌≡◌, ◌++◌, None, length, take, IfOk};
 ghost use Rattle.key_port.specs.Answers.{rules};
+ghost use Rattle.compute_command.specs.Asked.{AskedBefore, AsksArrived};
 ghost use Rattle.compute_command.specs.Arriving.{BeginsBehind, EndsAll, HasArrived, IsArriving, NoneArrived};
 ghost use Rattle.compute_command.specs.Arriving.{TellsEnd, TurnsTo, WithMore};
 ghost use Rattle.compute_command.specs.Checked.{TellsOn};
@@ -66,6 +67,9 @@ impl Arriving {
             IfOk result (λ next. TurnsTo (rules V.may_accept V.may_refuse) wanted.now bytes piece.now next.0 next.1)) }
         ensures faults { IfOk result (λ next. TellsOn (V.faults verifier.old) (V.faults verifier.new)
             self.votes.first next.0.votes.first) }
+        ensures asked { AskedBefore V.steps (rules V.may_accept V.may_refuse) wanted.now self (length piece.now)
+            verifier.old (λ start bytes. IfOk result (λ next. AsksArrived V.steps (rules V.may_accept V.may_refuse)
+            wanted.now (bytes ++ take next.1 piece.now) next.0 start verifier.new)) }
     {
         let Arriving { start, rest, votes } = self;
         match rest.feed(alloc, start, piece)? {
@@ -99,6 +103,9 @@ impl Arriving {
             IfOk result (λ now. IsArriving (rules V.may_accept V.may_refuse) wanted.now (bytes ++ piece.now) now)) }
         ensures faults { IfOk result (λ now. TellsOn (V.faults verifier.old) (V.faults verifier.new)
             self.votes.first now.votes.first) }
+        ensures asked { AskedBefore V.steps (rules V.may_accept V.may_refuse) wanted.now self (length piece.now)
+            verifier.old (λ start bytes. IfOk result (λ now. AsksArrived V.steps (rules V.may_accept V.may_refuse)
+            wanted.now (bytes ++ piece.now) now start verifier.new)) }
     {
         let mut now = self;
         let mut left = piece;

@@ -1,6 +1,7 @@
 // Votes that are checked as they come, and those of them that are held.
 ghost use Rattle.std.specs.Prelude.{◌≡◌, ◌<◌, nat_le, None, IfOk};
 ghost use Rattle.key_port.specs.Answers.{rules};
+ghost use Rattle.compute_command.specs.Asked.{AsksOneMore};
 ghost use Rattle.compute_command.specs.Checked as terms;
 ghost use Rattle.compute_command.specs.Checked.{HasRoom, NoneCame, OneMoreChecked, TellsOn};
 ghost use Rattle.compute_command.specs.Votes.{most_votes};
@@ -55,6 +56,7 @@ impl Checking {
         requires room { HasRoom self.old.count self.old.kept }
         ensures checked { OneMoreChecked (rules V.may_accept V.may_refuse) wanted.now vote self.old self.new }
         ensures faults { TellsOn (V.faults verifier.old) (V.faults verifier.new) self.old.first self.new.first }
+        ensures asked { AsksOneMore V.steps vote self.old self.new verifier.old verifier.new }
     {
         self.count += 1;
         if self.first.is_some() {

@@ -3,6 +3,7 @@ ghost use Rattle.std.specs.Prelude.{◌≡◌, ◌≤◌, ◌<◌, ◌+◌, ◌^
 ghost use Rattle.dir_bytes.specs.Causes.{Rose};
 ghost use Rattle.dir_bytes.specs.Streams.{TakesAtMost};
 ghost use Rattle.key_port.specs.Answers.{rules};
+ghost use Rattle.compute_command.specs.Asked.{AsksFrom, AsksReading};
 ghost use Rattle.compute_command.specs.Arriving.{ComputesFrom, HasReadVotes, StopsReading};
 ghost use Rattle.compute_command.specs.Arriving.{TellsRead, TellsVerifier};
 
@@ -33,6 +34,7 @@ fn read_votes<S: Source, V: Verifier>(
     ensures fault { result ≡ Err Halt.ReadFault → Rose (S.faults source.old) (S.faults source.new) }
     ensures told { S.faults source.old < S.faults source.new → result ≡ Err Halt.ReadFault }
     ensures verifier { TellsRead (V.faults verifier.old) (V.faults verifier.new) result }
+    ensures asked { AsksReading V.steps (rules V.may_accept V.may_refuse) wanted.now (S.left source.old) (S.left source.new) verifier.old verifier.new result }
 {
     let mut arriving = Arriving::new(alloc)?;
     let mut piece = [0u8; 65536];
@@ -76,6 +78,8 @@ pub fn compute_from<S: Source, V: Verifier>(
     ensures told { S.faults source.old < S.faults source.new → result ≡ Err Halt.ReadFault }
     ensures verifier_fault { result ≡ Err (Halt.Stops (Stop.Refused ComputeRefusal.Verifier)) → Rose (V.faults verifier.old) (V.faults verifier.new) }
     ensures verifier_told { V.faults verifier.old < V.faults verifier.new → TellsVerifier result }
+    // The verifier was asked of the votes before the input's end or its first fault, up to the first that is refused, and of nothing else.
+    ensures asked { AsksFrom V.steps (rules V.may_accept V.may_refuse) wanted.now (S.left source.old) (S.left source.new) result verifier.old verifier.new }
 {
     let arriving = read_votes(alloc, wanted, source, limit, verifier)?;
     let accepted = arriving.end()?;

@@ -6,6 +6,7 @@ use Rattle.vote_terms.specs.Acceptable.{IsAcceptable}
 use Rattle.vote_doc.specs.Holdings.{Holding}
 use Rattle.vote_doc.proofs.Placing as placing
 use Rattle.compute_command.proofs.Queues.{within, first, others, one_more, one_more_held}
+use Rattle.compute_command.proofs.Asking.{accepted_more, refused_at}
 use Rattle.compute_command.proofs.Faults.{no_fault}
 use Rattle.compute_command.proofs.Refusing.{stops_at}
 use Rattle.compute_command.specs.Accepting.{StopsAt}
@@ -43,5 +44,18 @@ votes-preserved g c =
       held_is = one_more_held all n vote now c.place.new.self.votes lt is c.votes.invariant.held_is after;
       room = ap (λ (h : Holding). h.room) c.place.ensures.votes ∙ c.votes.invariant.room;
       few = omega (arith, ap (λ (l : List ReadVote). length l) after, placing.one_more now vote, c.votes.invariant.few);
+      asked = accepted_more g.V.Verifier.steps all n vote c.args.verifier.now c.votes.verifier c.check_vote.new.verifier lt
+          is c.votes.invariant.asked c.in-Ok.ensures.asked;
       faults = no_fault _ _ c.in-Ok.ensures.faults c.in-Ok.ensures.told ∙ c.votes.invariant.faults;
     }
+
+pub returns-in-Err-clause-asked : goal.returns-in-Err-clause-asked
+returns-in-Err-clause-asked g c =
+    let all = c.args.votes.items in
+    let left = c.votes.votes.items in
+    let n = c.votes.before in
+    let vote = c.remove-vote.result in
+    refused_at g.V.Verifier.steps all n vote c.in-Err.refusal c.refused.result c.args.verifier.now c.votes.verifier
+    c.check_vote.new.verifier (within all left n c.votes.invariant.rest (omega arith))
+    (first all left n vote c.votes.invariant.rest c.remove-vote.ensures.value) c.refused.ensures c.votes.invariant.asked
+    c.in-Err.ensures.refused_asked

@@ -3,6 +3,7 @@ use Rattle.std.specs.Prelude.{All}
 use Rattle.key_port.specs.Answers.{rules}
 use Rattle.vote_terms.specs.Held.{held}
 use Rattle.vote_terms.specs.Acceptable.{IsAcceptable}
+use Rattle.compute_command.specs.Asked.{AsksAccepted}
 use Rattle.compute_command.proofs.accepting.accept.Given as goal
 
 abbrev pub invariant-votes : goal.invariant-votes
@@ -13,6 +14,7 @@ invariant-votes g l = record {
   held_is : l.accepted.votes ≡ held (take l.before l.fn.votes.items);
   room : l.accepted.room ≡ length l.fn.votes.items;
   few : length l.accepted.votes ≤ l.before;
+  asked : AsksAccepted g.V.Verifier.steps (take l.before l.fn.votes.items) l.fn.verifier l.verifier;
   faults : g.V.Verifier.faults l.verifier ≡ g.V.Verifier.faults l.fn.verifier;
 }
 

@@ -2,6 +2,7 @@ use Rattle.std.proofs.Common.{◌≡◌, ◌+◌, ℕ, List, length}
 use Rattle.std.specs.Io.KnownBytes.{Consumes}
 use Rattle.key_port.specs.Answers.{rules}
 use Rattle.compute_command.specs.Arriving.{IsArriving}
+use Rattle.compute_command.specs.Asked.{AsksVotes}
 use Rattle.compute_command.specs.Checked.{TellsFirst}
 use Rattle.compute_command.proofs.from_source.read_votes.Given as goal
 
@@ -12,6 +13,7 @@ invariant-pieces g l = record {
   taken : Consumes (g.S.Source.left l.fn.source) (g.S.Source.left l.source) bytes;
   length : l.room + length bytes ≡ l.limit;
   faults : g.S.Source.faults l.source ≡ g.S.Source.faults l.fn.source;
+  asked : AsksVotes g.V.Verifier.steps arrives.votes l.arriving.votes.first l.fn.verifier l.verifier;
   verifier : TellsFirst (g.V.Verifier.faults l.fn.verifier) (g.V.Verifier.faults l.verifier) l.arriving.votes.first;
 }
 

@@ -1,4 +1,4 @@
-use Rattle.compute_command.proofs.Turning.{never_refused, vote_of_whole}
+use Rattle.whole_votes.proofs.FedVotes.{never_refused, whole_read}
 use Rattle.compute_command.proofs.rest.whole_vote.Goals as goal
 
 pub unreachable-requires : goal.unreachable-requires
@@ -7,4 +7,4 @@ unreachable-requires c =
     c.in-Err-Frame.field-0-is c.requires c.finish.ensures
 
 pub returns-in-Ok : goal.returns-in-Ok
-returns-in-Ok c = vote_of_whole c.args.feeder c.in-Ok.read c.requires c.in-Ok.ensures
+returns-in-Ok c = whole_read c.args.feeder c.in-Ok.read c.requires c.in-Ok.ensures

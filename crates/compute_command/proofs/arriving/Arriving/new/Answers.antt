@@ -1,4 +1,4 @@
-use Rattle.std.proofs.Common.{◌≡◌, Result, Ok, Err}
+use Rattle.std.proofs.Common.{◌≡◌, Result, Ok, Err, refl}
 use Rattle.std.specs.Prelude.{IfOk}
 use Rattle.compute_command.specs.declared.arriving.Arriving.{Arriving}
 use Rattle.compute_command.specs.declared.checking.Checking.{Checking}
@@ -9,8 +9,9 @@ use Rattle.compute_command.proofs.arriving.Arriving.new.Goals as goal
 
 none_if : {E : Type 0} (result : Result Arriving E) (checking : Checking) → IfOk result (λ new. BeginsBehind 0 checking new)
     → IfOk result (λ new. new.votes ≡ checking) → NoneCame checking → IfOk result NoneArrived
+unfolding none_arrived
 none_if (Ok new) checking begins same came =
-    λ rules wanted. none_arrived rules wanted new checking begins same (came rules wanted)
+    λ rules wanted. (none_arrived rules wanted new checking begins same (came rules wanted), refl)
 none_if (Err e) checking begins same came = tt
 
 pub returns-clause-none : goal.returns-clause-none

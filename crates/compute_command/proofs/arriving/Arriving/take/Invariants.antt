@@ -1,6 +1,7 @@
 use Rattle.std.proofs.Common.{◌≡◌, ℕ, List, ◌++◌, length}
 use Rattle.key_port.specs.Answers.{rules}
 use Rattle.compute_command.specs.Arriving.{IsArriving, WithMore}
+use Rattle.compute_command.specs.Asked.{AskedBefore, AsksArrived}
 use Rattle.compute_command.specs.Checked.{TellsOn}
 use Rattle.compute_command.proofs.arriving.Arriving.take.Given as goal
 
@@ -13,6 +14,8 @@ invariant-turns g l =
       arrives : WithMore its l.wanted l.fn.self (length l.fn.piece) (λ bytes. IsArriving its l.wanted (bytes ++ done) l.now);
       faults : TellsOn (g.V.Verifier.faults l.fn.verifier) (g.V.Verifier.faults l.verifier) l.fn.self.votes.first
           l.now.votes.first;
+      asked : AskedBefore g.V.Verifier.steps its l.wanted l.fn.self (length l.fn.piece) l.fn.verifier
+          (λ start bytes. AsksArrived g.V.Verifier.steps its l.wanted (bytes ++ done) l.now start l.verifier);
     }
 
 abbrev pub decreases-turns : goal.decreases-turns

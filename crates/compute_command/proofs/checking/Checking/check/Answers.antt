@@ -5,6 +5,7 @@ use Rattle.vote_terms.specs.Held.{placed}
 use Rattle.vote_doc.specs.Holdings.{Holding}
 use Rattle.compute_command.specs.declared.refusal.AcceptRefusal.{AcceptRefusal}
 use Rattle.compute_command.proofs.Checks.{first_refused, held_too, none_if, still_refused, tells_on, tells_refused}
+use Rattle.compute_command.proofs.Asking.{accepted_too, not_asked, refused_now}
 use Rattle.compute_command.proofs.Faults.{no_fault}
 use Rattle.compute_command.proofs.checking.Checking.check.Goals as goal
 
@@ -53,3 +54,22 @@ returns-in-Err-clause-faults g c =
     (none_if first (sym c.is_some.ensures ∙ c.if-is_some.false))
     c.in-Err.ensures.refused
     c.in-Err.ensures.faults c.in-Err.ensures.fault (λ lt. cc (c.in-Err.ensures.told lt)) tells
+
+pub returns-then-is_some-clause-asked : goal.returns-then-is_some-clause-asked
+returns-then-is_some-clause-asked g c =
+    λ votes start count asked.
+    not_asked g.V.Verifier.steps votes c.args.vote c.args.self.now.first start c.args.verifier.now
+    (sym c.is_some.ensures ∙ c.if-is_some.true) asked
+
+pub returns-in-Ok-clause-asked : goal.returns-in-Ok-clause-asked
+returns-in-Ok-clause-asked g c =
+    λ votes start count asked.
+    accepted_too g.V.Verifier.steps votes c.args.vote c.args.self.now.first start c.args.verifier.now
+    c.check_vote.new.verifier (sym c.is_some.ensures ∙ c.if-is_some.false) asked c.in-Ok.ensures.asked
+
+pub returns-in-Err-clause-asked : goal.returns-in-Err-clause-asked
+returns-in-Err-clause-asked g c =
+    λ votes start count asked.
+    refused_now g.V.Verifier.steps votes c.args.vote c.in-Err.refusal c.args.self.now.count c.refused.result
+    c.args.self.now.first start c.args.verifier.now c.check_vote.new.verifier count c.refused.ensures
+    (sym c.is_some.ensures ∙ c.if-is_some.false) asked c.in-Err.ensures.refused_asked
