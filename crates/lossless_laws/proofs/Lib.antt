@@ -1,0 +1,4 @@
+pub mod SoundObjects
+pub mod Calendar
+pub mod ListTexts
+pub mod MemberPlaces

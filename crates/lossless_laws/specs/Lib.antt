@@ -1,0 +1,4 @@
+pub mod Spelling
+pub mod Capping
+pub mod Listing
+pub mod Members

@@ -1,0 +1,26 @@
+// That nothing is lost of what is read of a document.
+ghost use Rattle.lossless_laws.specs.Listing.{ListsAreReadWhole};
+ghost use Rattle.lossless_laws.specs.Capping.{MomentsAreNotCapped};
+ghost use Rattle.lossless_laws.specs.Members.{MembersAreThere};
+ghost use Rattle.lossless_laws.specs.Spelling.{ObjectsSpellBytes};
+
+/// A law: the lines of each object of an item that is read spell bytes, which are those that are kept of it.
+pub fn objects_spell_bytes()
+    ensures { ObjectsSpellBytes }
+{}
+
+/// A law: each moment that the line of an item says is one of the calendar, so that the cap at its last moment cuts nothing off.
+pub fn moments_are_not_capped()
+    ensures { MomentsAreNotCapped }
+{}
+
+/// A law: each text that is read as a line of params, of versions of Tor or of versions of protocols lists what is kept of it.
+pub fn lists_are_read_whole()
+    ensures { ListsAreReadWhole }
+{}
+
+/// A law: a list has a member at each place that is less than its length, in ascending order, and a list with members has one at its low
+/// median, so that neither is ever the 0 of none (dir-spec, "Computing a consensus from a set of votes").
+pub fn members_are_there()
+    ensures { MembersAreThere }
+{}

@@ -1,0 +1,2 @@
+pub mod LaterItems
+pub mod UsedBytes
