@@ -1,9 +1,6 @@
-pub mod DetachedLines
+pub mod DetachedMeaning
+pub mod DetachedKinds
 pub mod DetachedOrder
-pub mod DetachedRows
-pub mod DetachedSaid
-pub mod ReadItems
-pub mod DigestsSay
-pub mod LinesSay
-pub mod DetachedSays
+pub mod DetachedFields
 pub mod DetachedAgain
+pub mod DetachedRange

@@ -1,4 +1,4 @@
-pub mod MicroRows
-pub mod MicroSaid
-pub mod MicroSays
+pub mod MicroKinds
+pub mod MicroFields
 pub mod MicroAgain
+pub mod MicroRange
