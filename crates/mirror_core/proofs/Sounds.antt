@@ -1,0 +1,58 @@
+-- What holds of a mirror after each call.
+use Rattle.std.proofs.Common.{◌≡◌, ℕ, List, length, Option, Some, refl, sym, subst}
+use Rattle.dir_values.specs.declared.digest.Fingerprint.{Fingerprint}
+use Rattle.key_port.specs.Answers.{Rules}
+use Rattle.authority_certs.specs.declared.cert.Cert.{Cert}
+use Rattle.consensus_terms.specs.declared.consensus.SignedConsensus.{SignedConsensus}
+use Rattle.detached_sigs.specs.declared.key.SignerKey.{SignerKey}
+use Rattle.micro_shelf.specs.Rows.{Rows, rows_of}
+use Rattle.micro_desc.specs.declared.micro.Micro.{Micro}
+use Rattle.mirror_terms.specs.Answers.{CertTally, IsSignedBy, TakesConsensus, TakesEach, no_certs_yet, no_micros_yet, with_micros}
+use Rattle.mirror_terms.specs.Sound.{IsSound}
+use Rattle.mirror_terms.specs.States.{HeldConsensus, KeptCert, Mirrored, named, named_by}
+use Rattle.mirror_laws.proofs.CertLaws.{AreSound, each_taken}
+use Rattle.mirror_laws.proofs.MirrorLaws.{AreRows, consensus_taken, each_micro}
+use Rattle.mirror_core.specs.Lending.{IsMajority}
+use Rattle.mirror_core.proofs.TakenConsensus.{taken}
+
+-- after microdescriptors
+pub micros_sound : (rules : Rules) (mirror : Mirrored) (micros : List (Micro × List ℕ)) (rows : Rows) → IsSound rules mirror
+    → rows ≡ (with_micros (no_micros_yet mirror.rows) micros).rows → IsSound rules (record mirror { rows = rows })
+micros_sound rules mirror micros rows sound is =
+    let are = each_micro (named_by mirror.held) (no_micros_yet mirror.rows) micros
+    (record { named = sound.named; have = sound.digests }) in
+    subst (λ (r : Rows). IsSound rules (record mirror { rows = r })) (sym is)
+    (record {
+      checked = sound.checked;
+      ascend = sound.ascend;
+      signed = sound.signed;
+      named = are.named;
+      digests = are.have;
+    })
+
+-- after certificates
+pub certs_sound : (rules : Rules) (mirror : Mirrored) (now : ℕ) (copies : List KeptCert) (certs : List (Cert × List ℕ)) (tally : CertTally)
+    → IsSound rules mirror → copies ≡ mirror.certs → TakesEach rules mirror.roster now (no_certs_yet copies) certs tally
+    → IsSound rules (record mirror { certs = tally.certs })
+certs_sound rules mirror now copies certs tally sound is takes =
+    let are : AreSound rules mirror.roster tally.certs =
+    each_taken rules mirror.roster now (no_certs_yet copies) tally certs
+    (subst (λ (l : List KeptCert). AreSound rules mirror.roster l) (sym is) (record { checked = sound.checked; ascend = sound.ascend })) takes in
+    record {
+      checked = are.checked;
+      ascend = are.ascend;
+      signed = sound.signed;
+      named = sound.named;
+      digests = sound.digests;
+    }
+
+-- after a consensus
+pub consensus_sound : (rules : Rules) (mirror : Mirrored) (bytes : List ℕ) (consensus : SignedConsensus) (signers : List SignerKey)
+    (count : ℕ) (held : HeldConsensus) (rows : Rows) → IsSound rules mirror → IsSignedBy rules mirror bytes consensus signers
+    → IsMajority count (length signers) (length mirror.roster)
+    → held ≡ record { bytes = bytes; consensus = consensus; signers = signers } → rows ≡ rows_of mirror.rows (named consensus)
+    → IsSound rules (record mirror { held = Some held; rows = rows })
+consensus_sound rules mirror bytes consensus signers count held rows sound signed majority held_is rows_are =
+    consensus_taken rules mirror (record mirror { held = Some held; rows = rows }) bytes count sound
+    (taken rules mirror (record mirror { held = Some held; rows = rows }) bytes consensus signers count held rows signed majority held_is
+    rows_are refl)

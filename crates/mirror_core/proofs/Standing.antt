@@ -1,0 +1,66 @@
+-- Documents that stand one behind the other.
+use Rattle.std.proofs.Common.{◌≡◌, ℕ, ◌+◌, ◌<◌, ◌≤◌, List, [], ◌∷◌, ◌++◌, length, drop, Result, Ok, Err, refl, sym, ap, subst, ◌∙◌, arith}
+use Rattle.std.proofs.lemmas.Grind.{common_steps}
+use Rattle.std.specs.Prelude.{Bool, true, false, nat_lt, Option, Some, None, slice_range}
+use Rattle.frame_terms.specs.declared.fault.FrameFault.{FrameFault}
+use Rattle.frame_terms.specs.declared.fault.ReadRefusal.{ReadRefusal}
+use Rattle.frame_terms.specs.declared.fault.ReadRefusal.TheVariants as read
+use Rattle.std.proofs.lemmas.Bool.{ltb-true, ltb-false}
+use Rattle.std.proofs.lemmas.List.{drop_all}
+use Rattle.item_terms.specs.Lines.{lines}
+use Rattle.blank_lines.specs.Blanks.{after_blanks, first_other}
+use Rattle.mirror_terms.specs.Inputs.{AreAll, FailsWith, Stand, StandsAt}
+use Rattle.mirror_core.specs.Reads.{FaultAt, IsThere, ReadsAt, RefusesAll}
+
+-- where a line that is not blank follows, bytes are left
+pub some_left : (bytes : List ℕ) (place begin : ℕ) → Some begin ≡ after_blanks place bytes → place < length bytes
+unfolding first_other
+some_left bytes place begin is = by (nat_lt place (length bytes)) refl
+  where
+    by : (b : Bool) → nat_lt place (length bytes) ≡ b → place < length bytes
+    by true e = ltb-true place (length bytes) e
+    by false e =
+        let none : drop place bytes ≡ [] = drop_all place bytes (ltb-false place (length bytes) e) in
+        let left : Some begin ≡ first_other place (lines []) = is ∙ ap (λ (l : List ℕ). first_other place (lines l)) none in
+        absurd (cc left)
+
+-- one document more, and at least one byte
+pub one_more : {X : Type 0} (xs ys : List X) (x : X) (place next : ℕ) → ys ≡ xs ++ x ∷ [] → length xs ≤ place → place < next
+    → length ys ≤ next
+one_more xs ys x place next is few further = rw is (grind (arith, common_steps))
+
+module _ {X : Type 0} (document_of : List ℕ → Result (X × ℕ) ReadRefusal) where
+  -- one more behind those that stand
+  pub stands_more : (bytes : List ℕ) (place : ℕ) (documents : List (X × List ℕ)) (last : ℕ) (one : X × List ℕ) (next : ℕ)
+      → Stand document_of bytes place documents last → StandsAt document_of bytes last one next
+      → Stand document_of bytes place (documents ++ one ∷ []) next
+  stands_more bytes place [] last one next is there =
+      (next, subst (λ (from : ℕ). StandsAt document_of bytes from one next) is there, refl)
+  stands_more bytes place (first ∷ documents) last one next is there =
+      (is.0, is.1, stands_more bytes is.0 documents last one next is.2 there)
+
+  -- the document that was read there, with its text
+  pub one_there : (bytes : List ℕ) (place begin next : ℕ) (document : X) (text : List ℕ)
+      → Some begin ≡ after_blanks place bytes → IsThere document_of bytes place document next
+      → text ≡ slice_range bytes begin next → StandsAt document_of bytes place (document, text) next
+  one_there bytes place begin next document text begins there is = record {
+    begin = begin;
+    used = there.used;
+    begins = sym begins;
+    reads = there.reads;
+    next_is = there.next_is;
+    text_is = is;
+  }
+
+  -- a fault behind some
+  pub fails_behind : (bytes : List ℕ) (documents : List (X × List ℕ)) (place : ℕ) (refusal : ReadRefusal)
+      → Stand document_of bytes 0 documents place → FaultAt document_of bytes place refusal → RefusesAll document_of bytes refusal
+  fails_behind bytes documents place (read.Frame fault) stand fails = record {
+    documents = documents;
+    last = place;
+    found = fails.0;
+    stand = stand;
+    fails = fails.1;
+    fault_is = fails.2;
+  }
+  fails_behind bytes documents place read.Memory stand fails = tt

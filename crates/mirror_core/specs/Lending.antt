@@ -1,0 +1,65 @@
+-- What the private functions of this crate say.
+use Rattle.std.specs.Prelude.{◌≡◌, ◌≤◌, ℕ, true, List, Option, Some, None, Ok, Err}
+use Rattle.consensus_terms.specs.declared.consensus.SignedConsensus.{SignedConsensus}
+use Rattle.consensus_terms.specs.declared.flavour.Flavour.TheVariants.{Ns}
+use Rattle.consensus_doc.specs.Reading.{consensus_of}
+use Rattle.frame_terms.specs.declared.fault.ReadRefusal.TheVariants as read
+use Rattle.mirror_terms.specs.declared.refusal.MirrorRefusal.{MirrorRefusal}
+use Rattle.mirror_terms.specs.declared.refusal.MirrorRefusal.TheVariants as refusal
+use Rattle.std.specs.Prelude.{filter, false}
+use Rattle.dir_values.specs.Digests.{identity_below}
+use Rattle.dir_values.specs.declared.digest.Fingerprint.{Fingerprint}
+use Rattle.count_terms.specs.Counts.{over}
+use Rattle.key_port.specs.Answers.{Rules}
+use Rattle.mirror_terms.specs.Answers.{ConsensusRefused}
+use Rattle.mirror_terms.specs.States.{KeptCert, Mirrored, named}
+
+-- what is kept of a consensus is what it says
+pub record IsKeptOf (consensus : SignedConsensus) (valid_after : ℕ) (digests : List (List ℕ)) : Type 0 where
+  pub valid_after_is : valid_after ≡ consensus.facts.valid_after
+  pub digests_are : digests ≡ named consensus
+
+-- why bytes are no microdesc consensus
+abbrev pub IsNoMicrodesc : List ℕ → MirrorRefusal → Type 0
+IsNoMicrodesc bytes (refusal.Document fault) = consensus_of bytes ≡ Err (read.Frame fault)
+IsNoMicrodesc bytes refusal.WrongFlavour =
+    (consensus : SignedConsensus) × (used : ℕ) × (consensus_of bytes ≡ Ok (consensus, used)) × (consensus.flavour ≡ Ns)
+IsNoMicrodesc bytes refusal.Memory = Unit {0}
+IsNoMicrodesc bytes (refusal.Older held) = ⊥
+IsNoMicrodesc bytes refusal.VerifierFault = ⊥
+IsNoMicrodesc bytes (refusal.TooFewSigners counted roster) = ⊥
+
+-- why a consensus is not newer
+abbrev pub IsNotNewer : Option ℕ → ℕ → MirrorRefusal → Type 0
+IsNotNewer held valid_after (refusal.Older than) = (held ≡ Some than) × (valid_after ≤ than)
+IsNotNewer held valid_after _ = ⊥
+
+-- why it is not known who signed
+abbrev pub IsNoSigning : MirrorRefusal → Type 0
+IsNoSigning refusal.VerifierFault = Unit {0}
+IsNoSigning refusal.Memory = Unit {0}
+IsNoSigning _ = ⊥
+
+-- the certificates of smaller fingerprints
+abbrev pub below : Fingerprint → List KeptCert → List KeptCert
+below authority certs = filter (λ (kept : KeptCert). identity_below kept.cert.fingerprint authority) certs
+
+-- and of greater ones
+abbrev pub above : Fingerprint → List KeptCert → List KeptCert
+above authority certs = filter (λ (kept : KeptCert). identity_below authority kept.cert.fingerprint) certs
+
+-- why a consensus is none that counts: it is no microdesc one, or not newer, or it is not known who signed it
+abbrev pub IsUnsigned : Rules → Mirrored → List ℕ → MirrorRefusal → Type 0
+IsUnsigned rules before bytes (refusal.TooFewSigners counted roster) = ⊥
+IsUnsigned rules before bytes why = ConsensusRefused rules before bytes why
+
+-- so many are more than half
+pub record IsMajority (count signers roster : ℕ) : Type 0 where
+  pub count_is : count ≡ signers
+  pub majority : over count roster ≡ true
+
+-- they are not
+abbrev pub IsMinority : ℕ → ℕ → MirrorRefusal → Type 0
+IsMinority signers members (refusal.TooFewSigners counted roster) =
+    (counted ≡ signers) × (roster ≡ members) × (over counted roster ≡ false)
+IsMinority signers members _ = ⊥

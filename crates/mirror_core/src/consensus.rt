@@ -1,0 +1,80 @@
+// A consensus that a mirror is given.
+ghost use Rattle.std.specs.Prelude.{◌≡◌, ◌<◌, ◌≤◌, ◌^◌, ◌++◌, true, length, map, IfOk, OnOk, IfErr, MatchResult};
+ghost use Rattle.count_terms.specs.Counts as counts;
+ghost use Rattle.mirror_terms.specs.Answers as answers;
+ghost use Rattle.mirror_terms.specs.Answers.{IsMicrodesc};
+ghost use Rattle.mirror_terms.specs.States as states;
+ghost use Rattle.std.specs.Option.{option_to_list};
+ghost use Rattle.mirror_core.specs.Lending.{IsNoMicrodesc, IsNotNewer};
+
+use crate::refusal::of_read;
+use consensus_terms::{Flavour, Routerline, SignedConsensus};
+use dir_bytes::Memory;
+use dir_values::Digest2;
+use mirror_terms::MirrorRefusal;
+use std::alloc::Global;
+
+/// The microdesc consensus that the bytes are.
+pub(crate) fn read_microdesc(alloc: Global, bytes: &[u8]) -> Result<SignedConsensus, MirrorRefusal>
+    requires { length bytes.now < 2 ^ 62 }
+    ensures { MatchResult result (IsMicrodesc bytes.now) (IsNoMicrodesc bytes.now) }
+{
+    match consensus_doc::read(alloc, bytes) {
+        Ok((consensus, _)) => match consensus.flavour {
+            Flavour::Microdesc => Ok(consensus),
+            Flavour::Ns => Err(MirrorRefusal::WrongFlavour),
+        },
+        Err(refusal) => Err(of_read(refusal)),
+    }
+}
+
+/// Whether a consensus that is valid from a moment comes after the one that is held.
+pub(crate) fn check_newer(held: Option<u64>, valid_after: u64) -> Result<(), MirrorRefusal>
+    ensures ok { OnOk result (answers.is_after held valid_after ≡ true) }
+    ensures err { IfErr result (IsNotNewer held valid_after) }
+{
+    match held {
+        Some(held) if valid_after <= held => Err(MirrorRefusal::Older { held }),
+        _ => Ok(()),
+    }
+}
+
+/// Whether so many are more than half.
+pub(crate) fn over(count: u32, of: u32) -> bool
+    ensures { result ≡ counts.over count of }
+{
+    2 * count as u64 > of as u64
+}
+
+/// Adds the digest of a relay's microdescriptor, where the consensus names it.
+fn push_named(digests: &mut Vec<[u8; 32]>, router: &Routerline) -> Result<(), Memory>
+    ensures { OnOk result (digests.new.items ≡ digests.old.items ++ option_to_list (states.micro_named router.now)) }
+{
+    if let Some(digest) = router.m {
+        digests.push(digest.0)?;
+    }
+    Ok(())
+}
+
+/// The digests of microdescriptors that a consensus names, in its order.
+pub(crate) fn named(alloc: Global, consensus: &SignedConsensus) -> Result<Vec<[u8; 32]>, Memory>
+    ensures { IfOk result (λ digests. digests.items ≡ states.named consensus.now) }
+{
+    let routers = consensus.facts.routers.as_slice();
+    let mut digests = Vec::new(alloc);
+    'routers: for router in routers {
+        push_named(&mut digests, router)?;
+    }
+    Ok(digests)
+}
+
+/// Digests by their bytes.
+pub(crate) fn digests_of(alloc: Global, found: &[[u8; 32]]) -> Result<Vec<Digest2>, Memory>
+    ensures { IfOk result (λ digests. map (λ digest. digest.0) digests.items ≡ found.now) }
+{
+    let mut digests = Vec::new(alloc);
+    'found: for bytes in found {
+        digests.push(Digest2(*bytes))?;
+    }
+    Ok(digests)
+}

@@ -1,0 +1,16 @@
+// What refusals of the crates below become.
+ghost use Rattle.std.specs.Prelude.{◌≡◌};
+ghost use Rattle.mirror_core.specs.Refusals as refusals;
+
+use frame_terms::ReadRefusal;
+use mirror_terms::MirrorRefusal;
+
+/// A document that was not read.
+pub(crate) fn of_read(refusal: ReadRefusal) -> MirrorRefusal
+    ensures { result ≡ refusals.of_read refusal }
+{
+    match refusal {
+        ReadRefusal::Frame(fault) => MirrorRefusal::Document(fault),
+        ReadRefusal::Memory => MirrorRefusal::Memory,
+    }
+}
