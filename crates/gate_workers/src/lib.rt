@@ -7,4 +7,4 @@ mod worker;
 
 pub use clerk::Clerk;
 pub use running::{Ran, run};
-pub use worker::{End, Worker};
+pub use worker::{End, Worker, serve_gate};

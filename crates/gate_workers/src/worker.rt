@@ -62,20 +62,28 @@ pub(crate) fn work<H: Wait, G: Gate, K: Clerk<G::In, G::Out>>(rt: &H, worker: &m
     ensures end { Ends (G.faults worker.old.gate) (G.faults worker.new.gate) (G.closed worker.new.gate) worker.new.end }
     ensures faults { G.faults worker.old.gate ≤ G.faults worker.new.gate }
 {
+    let end = serve_gate(rt, &mut worker.gate, &mut worker.clerk);
+    worker.end = end;
+}
+
+/// Serves the connections of a gate that listens until it is closed or fails, and says which. While none comes the clerk rests.
+pub fn serve_gate<H: Wait, G: Gate, K: Clerk<G::In, G::Out>>(
+    rt: &H,
+    gate: &mut G,
+    clerk: &mut K,
+) -> End
+    requires { K.may_work clerk.old }
+    ensures may_work { K.may_work clerk.new }
+    ensures comes { (before : K) → K.comes_to before clerk.old → K.comes_to before clerk.new }
+    ensures end { Ends (G.faults gate.old) (G.faults gate.new) (G.closed gate.new) result }
+    ensures faults { G.faults gate.old ≤ G.faults gate.new }
+{
     for _ in rt.forever() {
-        match worker.gate.next() {
-            GateAnswer::Connection(mut input, mut output) => {
-                worker.clerk.serve(&mut input, &mut output);
-            }
-            GateAnswer::Idle => worker.clerk.rest(),
-            GateAnswer::Closed => {
-                worker.end = End::Closed;
-                return;
-            }
-            GateAnswer::Fault => {
-                worker.end = End::Fault;
-                return;
-            }
+        match gate.next() {
+            GateAnswer::Connection(mut input, mut output) => clerk.serve(&mut input, &mut output),
+            GateAnswer::Idle => clerk.rest(),
+            GateAnswer::Closed => return End::Closed,
+            GateAnswer::Fault => return End::Fault,
         }
     }
     unreachable!()

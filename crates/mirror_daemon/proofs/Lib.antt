@@ -1,0 +1,3 @@
+pub mod Comings
+pub mod Rows
+pub mod Batches

@@ -1,0 +1,5 @@
+pub mod Paths
+pub mod Asking
+pub mod Lacking
+pub mod Keeping
+pub mod Runs

@@ -1,0 +1,3 @@
+pub mod Apps
+pub mod Options
+pub mod PeerLists
