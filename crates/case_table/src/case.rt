@@ -35,6 +35,8 @@ pub struct Outer {
 pub struct Case {
     /// Its name. None is the name of a case that has not begun.
     pub name: String,
+    /// Whether it runs a mirror, and not an authority's program.
+    pub mirror: bool,
     /// The words of the command line.
     pub words: Vec<String>,
     /// The input.
@@ -64,6 +66,7 @@ const ROOM: usize = 2_097_152;
 pub fn plain_case(alloc: Global, name: String) -> Result<Case, AllocError> {
     Ok(Case {
         name,
+        mirror: false,
         words: Vec::new(alloc),
         input: Vec::new(alloc),
         old: String::new(alloc),

@@ -1,4 +1,4 @@
-// The lines of a table that give a run its words and its input.
+// The lines of a table that say what is run, and give it its words and its input.
 use crate::case::Case;
 use crate::texts::{push_words, text_of};
 use anyhow::{Context, Result};
@@ -6,11 +6,12 @@ use std::alloc::Global;
 use std::fs;
 use std::str::from_utf8;
 
-/// Takes a line that gives words or input; whether it is one.
+/// Takes a line that says what is run, or gives words or input; whether it is one.
 pub fn take_input(rt: &HostRuntime, case: &mut Case, key: &str, rest: &str) -> Result<bool> {
     let alloc = rt.alloc();
     let input = &case.input;
     match key {
+        "mirror" => case.mirror = true,
         "words" => push_words(alloc, &mut case.words, rest)?,
         "file" => case.input.append(&mut fs::read(rt, rest)?)?,
         "text" => case.input.append(&mut text_of(alloc, rest)?.into_bytes())?,

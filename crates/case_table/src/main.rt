@@ -4,8 +4,10 @@
 mod case;
 mod differences;
 mod folder;
+mod forms;
 mod gates;
 mod input;
+mod mirrors;
 mod outside;
 mod runs;
 mod serving;

@@ -1,53 +1,19 @@
 // A run of a case.
 use crate::case::{Case, Outer};
 use crate::differences::{response_difference, text_difference};
+use crate::forms::{End, asked_text, clock, link, places, sink};
 use crate::gates::{Answer, CaseGate, gate};
+use crate::mirrors::end_of_mirror;
 use crate::worker::Worker;
 use authority_daemon::{Outside, run};
-use dir_bytes::{MemoryClock, MemorySink, MemorySource, Text};
-use dir_http::{Exchange, MemoryLink};
+use dir_bytes::{MemoryClock, MemorySource};
 use key_port::TestKeys;
 use std::alloc::{AllocError, Global};
-use std::sync::{OnceLock, Wait};
+use std::sync::Wait;
 use std::thread::Threads;
 
 /// How many workers there may be.
 const WORKERS: usize = 16;
-
-fn sink(
-    alloc: Global,
-    room: usize,
-    piece: u64,
-    failing: Vec<u64>,
-) -> Result<MemorySink, AllocError> {
-    let written = Vec::with_capacity(alloc, room)?;
-    Ok(MemorySink::new(written, piece.max(1), failing))
-}
-
-fn clock(moments: Vec<u64>) -> Result<MemoryClock, AllocError> {
-    let mut moments = moments;
-    if moments.is_empty() {
-        moments.push(0)?;
-    }
-    Ok(MemoryClock::new(moments))
-}
-
-fn link(alloc: Global, replies: Vec<Vec<u8>>, failing: Vec<u64>) -> Result<MemoryLink, AllocError> {
-    let mut texts = Vec::new(alloc);
-    for reply in replies {
-        texts.push(Text::new(reply))?;
-    }
-    Ok(MemoryLink::new(alloc, texts, failing))
-}
-
-// A place for the response of each connection.
-fn places(alloc: Global, count: usize) -> Result<Vec<Answer>, AllocError> {
-    let mut answers = Vec::new(alloc);
-    for _ in 0..count {
-        answers.push(OnceLock::new())?;
-    }
-    Ok(answers)
-}
 
 // What workers have, each a clock, a verifier and a gate.
 #[derive(Drop)]
@@ -75,27 +41,6 @@ fn staff_of<'a>(
         verifiers,
         gates,
     })
-}
-
-// What was asked over a link: of each exchange a line with the peer and the limit, and the request.
-fn asked_text(alloc: Global, exchanges: &[Exchange]) -> Result<Vec<u8>, AllocError> {
-    let mut text = Vec::new(alloc);
-    for exchange in exchanges {
-        let limit = format!(in alloc; " {}\n", exchange.limit)?;
-        text.extend_from_slice(exchange.peer.as_bytes())?;
-        text.extend_from_slice(limit.as_bytes())?;
-        text.extend_from_slice(exchange.request.as_bytes())?;
-    }
-    Ok(text)
-}
-
-// How a run ends: the number of its status, the line, the text, and what was asked.
-#[derive(Drop)]
-struct End {
-    status: u64,
-    line: Vec<u8>,
-    text: Vec<u8>,
-    asked: Vec<u8>,
 }
 
 // Runs words over an input and what stands outside. None where there are no workers, or too many.
@@ -167,6 +112,7 @@ pub fn difference<H: Threads + Wait + Sync>(
 ) -> Result<String, AllocError> {
     let Case {
         name: _,
+        mirror,
         words,
         input,
         old: _,
@@ -179,7 +125,12 @@ pub fn difference<H: Threads + Wait + Sync>(
         status,
     } = case;
     let answers = places(alloc, responses.len())?;
-    let Some(end) = end_of(rt, alloc, &words, input, outer, &answers)? else {
+    let end = if mirror {
+        end_of_mirror(rt, alloc, &words, outer, &answers)?
+    } else {
+        end_of(rt, alloc, &words, input, outer, &answers)?
+    };
+    let Some(end) = end else {
         return String::from_str(alloc, "another number of workers");
     };
     let said = String::from_utf8_lossy(alloc, &end.line)?;

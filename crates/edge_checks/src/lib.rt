@@ -1,6 +1,10 @@
-//! Requests, responses, gates and links, passes of a board, and how a run without memory ends: tests alone.
+//! Requests, responses, gates and links, passes of a board, votes that arrive, and how a run without memory ends: tests alone.
 #![tactic(auto)]
 
+#[cfg(test)]
+mod arriving;
+#[cfg(test)]
+mod arriving_votes;
 #[cfg(test)]
 mod boards;
 #[cfg(test)]
