@@ -1,12 +1,14 @@
 #!/bin/bash
 # Three authorities on loopback under the test scheme, from their start to the first consensus that they publish.
 #
-#     run.sh DIRAUTH FOLDER [COMMAND ...]
+#     [MIRROR=DIRMIRROR] run.sh DIRAUTH FOLDER [COMMAND ...]
 #
 # makes FOLDER, which must not be there yet, starts three of the program DIRAUTH on it, waits until each has published (six and a
 # half minutes at most, since a period has 300 seconds), fetches both flavours from each into FOLDER, and checks them with
 # test_network.py. COMMAND, where there is one, runs meanwhile with the three addresses as further words, and is waited for. With
-# RELAYS=N the authorities know N relays in place of 5.
+# RELAYS=N the authorities know N relays in place of 5. With MIRROR=DIRMIRROR that program runs beside them, asks all three, and has to
+# have what they published within a minute: the microdesc consensus, every microdescriptor that it names, and the certificates of its
+# signers (try/mirrored.py).
 # It ends with status 0 only where each authority published both flavours, all the same bytes with a right signature of each, where
 # none ended by itself, and where COMMAND succeeded. All that it started is ended behind it.
 set -u
@@ -51,7 +53,7 @@ wait_for() {
     local end=$((SECONDS + $1))
     until fetch "$2" "$3" "$4"; do
         for pid in "${pids[@]}"; do
-            kill -0 "$pid" 2> /dev/null || fail "an authority ended"
+            kill -0 "$pid" 2> /dev/null || fail "an authority or the mirror ended"
         done
         [ $SECONDS -lt $end ] || fail "no $3 from $2 within $1 seconds: $(cat "$folder/curl.err")"
         sleep 1
@@ -73,6 +75,16 @@ for i in 0 1 2; do
 done
 echo "three authorities listen at ${addresses[*]}"
 
+mirror_address=127.0.0.1:18090
+if [ -n "${MIRROR:-}" ]; then
+    roster=$(cut -d ' ' -f 2 "$folder/network" | paste -s -d ,)
+    peers=$(cut -d ' ' -f 3 "$folder/network" | paste -s -d ,)
+    "$MIRROR" --test-keys --authorities "$roster" --peers "$peers" --listen $mirror_address \
+        < /dev/null > "$folder/mirror.out" 2> "$folder/mirror.err" &
+    pids+=($!)
+    echo "a mirror of them listens at $mirror_address"
+fi
+
 if [ $# -gt 0 ]; then
     "$@" "${addresses[@]}" &
     command_pid=$!
@@ -84,10 +96,14 @@ for i in 0 1 2; do
 done
 python3 "$here/test_network.py" check "$folder" || fail "what the authorities publish is not as it must be"
 
+if [ -n "${MIRROR:-}" ]; then
+    python3 "$here/try/mirrored.py" --within 60 $mirror_address "${addresses[@]}" || fail "the mirror has not what was published"
+fi
+
 if [ -n "$command_pid" ]; then
     wait "$command_pid" || fail "$1 failed"
 fi
 for pid in "${pids[@]}"; do
-    kill -0 "$pid" 2> /dev/null || fail "an authority ended"
+    kill -0 "$pid" 2> /dev/null || fail "an authority or the mirror ended"
 done
 echo "published by all three"

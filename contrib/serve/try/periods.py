@@ -1,5 +1,5 @@
 #!/usr/bin/env python3
-"""Authorities with real keys, for some periods: what each publishes, and what it takes.
+"""Authorities with real keys, for some periods, and a mirror: what each publishes, and what it takes.
 
     python3 ../key-service/example_stations.py --authorities 3 FOLDER
     sed -i 's/^schedule .*/schedule 300 30 30/; s/^\\(authority .*\\) 192.0.2.\\(.\\):80$/\\1 127.0.0.1:1808\\2/' FOLDER/*.station
@@ -8,8 +8,10 @@
 starts DIRAUTH for each FOLDER/authN.station, with the key service that listens at /run/dirauth-keys, at the address that the
 stations have for it. A moment behind each valid-after it fetches both flavours from each authority, and looks whether all are the
 same bytes in front of the signatures, and whether each has one right RSA signature of each authority. It tells a line for each
-period and flavour, and at the end how much memory and time each authority took; status 0 only where all was right. Needs
-`python3-cryptography`. All that it started is ended behind it.
+period and flavour, and at the end how much memory and time each authority took; status 0 only where all was right. With
+`--mirror DIRMIRROR` that program runs beside them and asks all of them: within a minute behind each valid-after it has to have the
+new microdesc consensus, every microdescriptor that it names, and the certificates of its signers. Needs `python3-cryptography`. All
+that it started is ended behind it.
 """
 import argparse
 import base64
@@ -26,12 +28,19 @@ from datetime import datetime, timezone
 
 sys.path.insert(0, str(pathlib.Path(__file__).resolve().parent.parent.parent / "key-service"))
 from key_service import why_not_rsa  # pylint: disable=wrong-import-position
+from mirrored import named, wait_for  # pylint: disable=wrong-import-position
 
 # The flavours: the end of the path, and the digest that the signatures cover.
 FLAVOURS = {"consensus": "sha1", "consensus-microdesc": "sha256"}
 
 # How long behind the valid-after a consensus may be published.
 PUBLISHED_WITHIN = 10
+
+# How long behind it a mirror may have it.
+MIRRORED_WITHIN = 60
+
+# Where the mirror listens.
+MIRROR_ADDRESS = "127.0.0.1:18090"
 
 
 class Authority:
@@ -63,13 +72,31 @@ class Authority:
         except (urllib.error.URLError, OSError):
             return None
 
-    def taken(self):
-        """The most memory that it had, and the time of processors that it took."""
-        status = pathlib.Path(f"/proc/{self.process.pid}/status").read_text("ascii")
-        most = re.search(r"^VmHWM:\s*(.*)$", status, re.M).group(1)
-        fields = pathlib.Path(f"/proc/{self.process.pid}/stat").read_text("ascii").rpartition(")")[2].split()
-        ticks = int(fields[11]) + int(fields[12])
-        return f"{self.name}: {most} of memory at most, {ticks / os.sysconf('SC_CLK_TCK'):.1f} s of processors"
+
+class Mirror:
+    """A mirror of the authorities, and its process."""
+
+    def __init__(self, folder):
+        self.name = "mirror"
+        self.errors = folder / "mirror.err"
+        self.process = None
+
+    def start(self, dirmirror, authorities):
+        """Starts its process, which asks all authorities."""
+        roster = ",".join(each.fingerprint for each in authorities)
+        peers = ",".join(each.address for each in authorities)
+        words = ["--authorities", roster, "--peers", peers, "--listen", MIRROR_ADDRESS]
+        with open(self.errors, "wb") as errors:
+            self.process = subprocess.Popen([dirmirror, *words], stdin=subprocess.DEVNULL, stdout=errors, stderr=errors)
+
+
+def taken(program):
+    """The most memory that an authority or a mirror had, and the time of processors that it took."""
+    status = pathlib.Path(f"/proc/{program.process.pid}/status").read_text("ascii")
+    most = re.search(r"^VmHWM:\s*(.*)$", status, re.M).group(1)
+    fields = pathlib.Path(f"/proc/{program.process.pid}/stat").read_text("ascii").rpartition(")")[2].split()
+    ticks = int(fields[11]) + int(fields[12])
+    return f"{program.name}: {most} of memory at most, {ticks / os.sysconf('SC_CLK_TCK'):.1f} s of processors"
 
 
 def why_not_signed(flavour, text, authorities):
@@ -134,32 +161,53 @@ def look_at(authorities, moment):
     return holds
 
 
+def look_at_mirror(authorities, moment):
+    """Looks whether the mirror has what the authorities published for a moment, and says whether it has."""
+    texts = [each.path.with_suffix(".consensus-microdesc").read_bytes() for each in authorities]
+    _, why = wait_for(MIRROR_ADDRESS, texts, moment + MIRRORED_WITHIN - time.time())
+    began = f"{datetime.fromtimestamp(moment, timezone.utc):%H:%M:%S}"
+    print(
+        f"{'ok' if why is None else 'WRONG'} {began} mirror: {len(named(texts[0]))} microdescriptors named,"
+        f" {time.time() - moment:.1f} s behind the valid-after {why or ''}",
+        flush=True,
+    )
+    return why is None
+
+
 def main():
     """Starts, looks, and ends."""
     parser = argparse.ArgumentParser(description=__doc__, formatter_class=argparse.RawDescriptionHelpFormatter)
     parser.add_argument("dirauth", metavar="DIRAUTH")
     parser.add_argument("folder", metavar="FOLDER", type=pathlib.Path)
     parser.add_argument("--periods", type=int, default=5, metavar="N", help="how many (default: %(default)s)")
+    parser.add_argument("--mirror", metavar="DIRMIRROR", help="a mirror beside them")
     given = parser.parse_args()
     authorities = [Authority(path) for path in sorted(given.folder.glob("auth*.station"))]
+    programs = list(authorities)
     interval, vote, dist = authorities[0].schedule
     holds = True
     try:
         moment = -(-(time.time() + 1 + vote + dist) // interval) * interval
         for each in authorities:
             each.start(given.dirauth)
+        if given.mirror is not None:
+            programs.append(Mirror(given.folder))
+            programs[-1].start(given.mirror, authorities)
         for number in range(given.periods):
             at = moment + number * interval
             time.sleep(max(0.0, at + 0.2 - time.time()))
-            holds = look_at(authorities, at) and holds
-        for each in authorities:
+            published = look_at(authorities, at)
+            holds = published and holds
+            if published and given.mirror is not None:
+                holds = look_at_mirror(authorities, at) and holds
+        for each in programs:
             if each.process.poll() is None:
-                print(each.taken())
+                print(taken(each))
             else:
                 print(f"WRONG {each.name} ended with status {each.process.returncode}")
                 holds = False
     finally:
-        for each in authorities:
+        for each in programs:
             if each.process is not None:
                 each.process.kill()
                 each.process.wait()
