@@ -1,5 +1,5 @@
 pub mod Loops
-pub mod SignerSteps
+pub mod VoteKeys
 pub mod OpinionPlaces
 pub mod RelayWords
 pub mod Wholes

@@ -1,4 +1,3 @@
 pub mod Signers
 pub mod Lines
 pub mod Reports
-pub mod Private

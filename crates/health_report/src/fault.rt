@@ -2,7 +2,6 @@
 ghost use Rattle.std.specs.Prelude.{◌≡◌};
 ghost use Rattle.health_report.specs.declared.fault.ReportFault.TheVariants as fault;
 
-use detached_sigs::VerifierFault;
 use dir_bytes::Memory;
 use std::alloc::{AllocError, AllocFailed};
 
@@ -15,14 +14,6 @@ pub enum ReportFault {
     VerifierFault,
     /// There was no memory.
     Memory,
-}
-
-impl From<VerifierFault> for ReportFault {
-    ghost from_gives = { λ _ e. e ≡ fault.VerifierFault };
-
-    fn from(_: VerifierFault) -> ReportFault {
-        ReportFault::VerifierFault
-    }
 }
 
 impl From<AllocError> for ReportFault {

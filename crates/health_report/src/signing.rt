@@ -1,23 +1,20 @@
 // Which authorities signed a consensus.
-ghost use Rattle.std.specs.Prelude.{◌≡◌, ◌≢◌, ◌<◌, ◌≤◌, ◌++◌, [], ◌∷◌, Err, IfOk, OnOk, OnErr, IsErr, true, false, map};
+ghost use Rattle.std.specs.Prelude.{◌≡◌, ◌≢◌, ◌<◌, ◌≤◌, ◌++◌, [], ◌∷◌, Err, IfOk, OnOk, map};
 ghost use Rattle.dir_bytes.specs.Causes.{Rose};
 ghost use Rattle.key_port.specs.Answers.{rules};
 ghost use Rattle.vote_terms.specs.Held.{VotesAscend};
-ghost use Rattle.detached_sigs.specs.Signers.{AreSigners, has_good_line, has_bad_lines};
 ghost use Rattle.health_report.specs.Signers as signers;
 ghost use Rattle.health_report.specs.Signers.{SignedPart};
-ghost use Rattle.health_report.specs.Private.{Adds};
 
 use crate::fault::ReportFault;
 use consensus_terms::{SignatureLine, SignedConsensus};
-use detached_sigs::{SignerKey, VerifierFault, counted};
+use detached_sigs::{SignerKey, signers_among};
 use dir_bytes::{Memory, Text};
 use dir_values::Fingerprint;
 use frame_values::between;
 use key_port::Verifier;
 use sha1::Sha1;
 use std::alloc::Global;
-use std::slice::from_ref;
 use vote_doc::{Accepted, Vote};
 
 /// The authority of a vote, with the signing key of its certificate.
@@ -65,73 +62,15 @@ fn ascend(votes: &Accepted)
     let _ = votes.vote_of(&Fingerprint([0; 20]));
 }
 
-/// Whether a key has a line whose signature over the digest is right.
-#[tactic(auto, using(crate::proofs::SignerSteps::one_key))]
-fn signs<V: Verifier>(
-    digest: &[u8],
-    key: &SignerKey,
-    lines: &[SignatureLine],
-    verifier: &mut V,
-) -> Result<bool, VerifierFault>
-    ensures good { IfOk result (λ signs. signs ≡ true → has_good_line (rules V.may_accept V.may_refuse) digest.now lines.now key.now ≡ true) }
-    ensures bad { IfOk result (λ signs. signs ≡ false → has_bad_lines (rules V.may_accept V.may_refuse) digest.now lines.now key.now ≡ true) }
-    ensures fault { OnErr result (Rose (V.faults verifier.old) (V.faults verifier.new)) }
-    ensures faults { V.faults verifier.old ≤ V.faults verifier.new }
-    ensures told { V.faults verifier.old < V.faults verifier.new → IsErr result }
+/// The keys of the authorities whose votes are held, in the order of the votes.
+fn keys_of(alloc: Global, votes: &Accepted) -> Result<Vec<SignerKey>, Memory>
+    ensures { IfOk result (λ keys. keys.items ≡ map signers.key_of votes.now.votes) }
 {
-    let count = counted(digest, from_ref(key), lines, verifier)?;
-    if count == 0 { Ok(false) } else { Ok(true) }
-}
-
-/// Puts a key behind the signers before it, where it has a line whose signature over the digest is right.
-fn add_signer<V: Verifier>(
-    digest: &[u8],
-    key: SignerKey,
-    lines: &[SignatureLine],
-    found: &mut Vec<SignerKey>,
-    verifier: &mut V,
-) -> Result<(), ReportFault>
-    ensures adds { OnOk result (Adds (rules V.may_accept V.may_refuse) digest.now lines.now key found.old.items found.new.items) }
-    ensures fault { result ≡ Err ReportFault.VerifierFault → Rose (V.faults verifier.old) (V.faults verifier.new) }
-    ensures faults { V.faults verifier.old ≤ V.faults verifier.new }
-    ensures told { V.faults verifier.old < V.faults verifier.new → result ≡ Err ReportFault.VerifierFault }
-    ensures flavour { result ≢ Err ReportFault.WrongFlavour }
-{
-    if !signs(digest, &key, lines, verifier)? {
-        return Ok(());
-    }
-    found.push(key)?;
-    Ok(())
-}
-
-/// Those of the authorities whose votes are held that signed a digest by these lines, in the order of the votes.
-///
-/// # Errors
-/// `VerifierFault` exactly where the verifier's count of faults rose. `Memory` is want of memory.
-fn signers_over<V: Verifier>(
-    alloc: Global,
-    votes: &Accepted,
-    digest: &[u8],
-    lines: &[SignatureLine],
-    verifier: &mut V,
-) -> Result<Vec<SignerKey>, ReportFault>
-    ensures signers { IfOk result (λ found. AreSigners (rules V.may_accept V.may_refuse) digest.now (map signers.key_of votes.now.votes) lines.now found.items) }
-    ensures fault { result ≡ Err ReportFault.VerifierFault → Rose (V.faults verifier.old) (V.faults verifier.new) }
-    ensures faults { V.faults verifier.old ≤ V.faults verifier.new }
-    ensures told { V.faults verifier.old < V.faults verifier.new → result ≡ Err ReportFault.VerifierFault }
-    ensures flavour { result ≢ Err ReportFault.WrongFlavour }
-{
-    ascend(votes);
-    let mut found = Vec::new(alloc);
+    let mut keys = Vec::new(alloc);
     'votes: for number in 0..votes.len() {
-        let vote = votes.vote(number).vote();
-        let key = key_of(alloc, vote)?;
-        match add_signer(digest, key, lines, &mut found, verifier) {
-            Ok(()) => (),
-            Err(fault) => return Err(fault),
-        }
+        keys.push(key_of(alloc, votes.vote(number).vote())?)?;
     }
-    Ok(found)
+    Ok(keys)
 }
 
 /// Those of the authorities whose votes are held that signed a consensus, which was read from these bytes. None, for which the
@@ -152,12 +91,15 @@ pub(crate) fn signers_of<V: Verifier>(
     ensures told { V.faults verifier.old < V.faults verifier.new → result ≡ Err ReportFault.VerifierFault }
     ensures flavour { result ≢ Err ReportFault.WrongFlavour }
 {
-    match consensus.signed {
-        None => Ok(Vec::new(alloc)),
-        Some((begin, end)) => {
-            let digest = Sha1::digest(between(bytes, begin, end));
-            let lines = sha1_lines(alloc, consensus.signatures.as_slice())?;
-            signers_over(alloc, votes, &digest, &lines, verifier)
-        }
+    let Some((begin, end)) = consensus.signed else {
+        return Ok(Vec::new(alloc));
+    };
+    let digest = Sha1::digest(between(bytes, begin, end));
+    let lines = sha1_lines(alloc, consensus.signatures.as_slice())?;
+    let keys = keys_of(alloc, votes)?;
+    ascend(votes);
+    match signers_among(&digest, keys, &lines, verifier) {
+        Ok(found) => Ok(found),
+        Err(_) => Err(ReportFault::VerifierFault),
     }
 }
