@@ -8,7 +8,7 @@ use Rattle.bandwidth_file.specs.declared.file.BandFile.{BandFile}
 use Rattle.station_input.specs.Reading.{ReadsStation, station_of}
 use Rattle.station_input.specs.declared.facts.StationFacts.{StationFacts}
 use Rattle.station_laws.specs.Once.{RelaysAreNamedOnce}
-use Rattle.station_commands.specs.Descriptors.{FitsFrom}
+use Rattle.blank_lines.specs.Behind.{FitsBehind}
 use Rattle.station_faults.proofs.InputFaults.{station_within}
 use Rattle.bandwidth_commands.specs.Private.{GivesStationBehind, fault_behind}
 use Rattle.bandwidth_commands.specs.WithFile.{told_from, told_station}
@@ -36,7 +36,7 @@ faulty_behind file start bytes rest (read.Frame fault) same is =
 
 -- its place in the input is a number of 64 bits
 pub fits_behind : (start : ℕ) (bytes rest : List ℕ) (refused : ReadRefusal) → rest ≡ drop start bytes
-    → start ≤ length bytes → length bytes < 2 ^ 61 → ReadsStation rest (Err refused) → FitsFrom start refused
+    → start ≤ length bytes → length bytes < 2 ^ 61 → ReadsStation rest (Err refused) → FitsBehind start refused
 fits_behind start bytes rest (read.Frame fault) same within short is =
     let size : length rest ≡ length (drop start bytes) = ap (λ (l : List ℕ). length l) same in
     omega (arith, station_within rest fault is, size, length-drop start bytes, within, short)

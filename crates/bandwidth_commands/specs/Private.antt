@@ -11,7 +11,7 @@ use Rattle.frame_terms.specs.declared.fault.FrameFault.{FrameFault}
 use Rattle.daemon_words.specs.declared.stop.Stop.{Stop}
 use Rattle.daemon_words.specs.declared.stop.Stop.TheVariants as stop
 use Rattle.station_input.specs.declared.facts.StationFacts.{StationFacts}
-use Rattle.station_commands.specs.Descriptors.{refusal_from}
+use Rattle.blank_lines.specs.Behind.{refusal_behind}
 use Rattle.bandwidth_commands.specs.WithFile.{BeginsWithFile, IsFaultyBehind, RefusesFile, station_behind}
 use Rattle.bandwidth_commands.specs.declared.refusal.BandwidthRefusal.{BandwidthRefusal}
 
@@ -38,7 +38,7 @@ station_fault read.Memory = stop.Memory
 
 -- the same, where it stands in the input from a place on
 abbrev pub fault_behind : ℕ → ReadRefusal → Stop FrameFault
-fault_behind start refused = station_fault (refusal_from start refused)
+fault_behind start refused = station_fault (refusal_behind start refused)
 
 -- what a station is given behind the file, and the place behind it, with rules of which no two are of one relay; or its fault,
 -- or there was no memory

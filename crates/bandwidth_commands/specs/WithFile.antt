@@ -14,7 +14,7 @@ use Rattle.daemon_words.specs.declared.stop.Stop.TheVariants as stop
 use Rattle.measured_bandwidths.specs.Told.{told_relays}
 use Rattle.station_input.specs.Reading.{station_of}
 use Rattle.station_input.specs.declared.facts.StationFacts.{StationFacts}
-use Rattle.station_commands.specs.Descriptors.{refusal_from}
+use Rattle.blank_lines.specs.Behind.{refusal_behind}
 use Rattle.station_commands.specs.Voting as station
 use Rattle.station_commands.specs.Voting.{VoteAnswers}
 use Rattle.bandwidth_commands.specs.Told.{by_fault, by_file, by_vote}
@@ -53,7 +53,7 @@ told_station file given = record given { measured = told_relays file.relays give
 -- input
 abbrev pub told_from : BandFile → ℕ → Result (StationFacts × ℕ) ReadRefusal → Result (StationFacts × ℕ) ReadRefusal
 told_from file start (Ok found) = Ok (told_station file found.0, start + found.1)
-told_from file start (Err refusal) = Err (refusal_from start refusal)
+told_from file start (Err refusal) = Err (refusal_behind start refusal)
 
 -- what a station is given that stands in the input from a place on, where a file tells the bandwidths of relays
 abbrev pub station_behind : BandFile → ℕ → List ℕ → Result (StationFacts × ℕ) ReadRefusal

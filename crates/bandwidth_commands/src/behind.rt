@@ -1,6 +1,6 @@
 // What a station is given behind a bandwidth file.
 ghost use Rattle.std.specs.Prelude.{◌≡◌, ◌≤◌, ◌<◌, ◌^◌, IfOk, length};
-ghost use Rattle.station_commands.specs.Descriptors.{FitsFrom};
+ghost use Rattle.blank_lines.specs.Behind.{FitsBehind};
 ghost use Rattle.bandwidth_commands.specs.Private as its;
 ghost use Rattle.bandwidth_commands.specs.WithFile.{told_station};
 
@@ -26,7 +26,7 @@ fn told(alloc: Global, mut station: StationFacts, file: &BandFile) -> Result<Sta
 
 /// That what stands in the input from a place on is not what a station is given.
 fn fault_behind(start: usize, refusal: ReadRefusal) -> Stop<FrameFault>
-    requires { FitsFrom start refusal }
+    requires { FitsBehind start refusal }
     ensures { result ≡ its.fault_behind start refusal }
 {
     match from_place(start, refusal) {

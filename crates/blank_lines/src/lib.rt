@@ -6,7 +6,7 @@ mod blanks;
 mod ends;
 mod keywords;
 
-pub use behind::fault_behind;
+pub use behind::{fault_behind, refusal_behind};
 pub use blanks::after_blanks;
 pub use ends::ends_at;
 pub use keywords::{before_extra, has_keyword, line_text};

@@ -18,7 +18,7 @@ use Rattle.daemon_words.specs.declared.stop.Stop.TheVariants as stop
 use Rattle.compute_command.specs.declared.refusal.AcceptRefusal.{AcceptRefusal}
 use Rattle.compute_command.specs.declared.refusal.EndRefusal.{EndRefusal}
 use Rattle.compute_command.specs.declared.refusal.EndRefusal.TheVariants as end
-use Rattle.vote_doc.specs.Behind.{fault_behind}
+use Rattle.blank_lines.specs.Behind.{fault_behind}
 use Rattle.compute_command.specs.declared.arriving.Arriving.{Arriving}
 use Rattle.compute_command.specs.declared.checking.Checking.{Checking}
 use Rattle.compute_command.specs.declared.rest.Turn.{Turn}

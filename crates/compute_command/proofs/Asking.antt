@@ -11,7 +11,7 @@ use Rattle.key_port.specs.Answers.{Rules, Steps}
 use Rattle.key_port.specs.declared.verifier.VerifyAnswer.TheVariants as verified
 use Rattle.vote_terms.specs.Votes.{ReadVote}
 use Rattle.vote_doc.specs.Checks.{AsksAll, AsksOfRefused}
-use Rattle.vote_doc.specs.Behind.{refusal_behind}
+use Rattle.blank_lines.specs.Behind.{refusal_behind}
 use Rattle.vote_doc.specs.declared.check.VoteRefusal.{VoteRefusal}
 use Rattle.daemon_words.specs.declared.command.Compute.{Compute}
 use Rattle.vote_feed.specs.Feeding.{IsOpen}

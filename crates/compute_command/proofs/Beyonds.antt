@@ -23,7 +23,7 @@ use Rattle.frame_terms.specs.declared.fault.FrameReason.TheVariants.{TooMany}
 use Rattle.frame_terms.specs.declared.row.Limit.TheVariants.{Votes}
 use Rattle.frame_terms.specs.declared.fault.ReadRefusal.{ReadRefusal}
 use Rattle.frame_terms.specs.declared.fault.ReadRefusal.TheVariants.{Frame}
-use Rattle.vote_doc.specs.Behind.{fault_behind}
+use Rattle.blank_lines.specs.Behind.{fault_behind}
 use Rattle.vote_frame.specs.Tables.{vote_tables}
 use Rattle.compute_command.specs.Beyonds.{EndsBeyond, HasTooMany, ReadsFront, fault_of}
 use Rattle.compute_command.specs.Furthers.{IsFurther}

@@ -11,7 +11,7 @@ use Rattle.frame_terms.specs.declared.row.Limit.TheVariants.{Votes}
 use Rattle.frame_terms.specs.Decisions.{first_fault}
 use Rattle.frame_terms.specs.Refusals.{of_doc}
 use Rattle.vote_terms.specs.Votes.{ReadVote}
-use Rattle.vote_doc.specs.Behind.{refusal_behind}
+use Rattle.blank_lines.specs.Behind.{refusal_behind}
 use Rattle.vote_doc.specs.Reading.{vote_from}
 use Rattle.vote_frame.specs.Tables.{vote_tables}
 

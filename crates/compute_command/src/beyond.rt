@@ -2,7 +2,7 @@
 ghost use Rattle.std.specs.Prelude.{◌≡◌, ◌++◌, ◌+◌, ◌<◌, ◌^◌, [], length, IfOk, IfSome, OnOk};
 ghost use Rattle.std.specs.Option.{option_map};
 ghost use Rattle.compute_command.specs.Beyonds as terms;
-ghost use Rattle.vote_doc.specs.Behind.{fault_behind};
+ghost use Rattle.blank_lines.specs.Behind.{fault_behind};
 ghost use Rattle.compute_command.specs.Beyonds.{EndsBeyond, HasTooMany};
 ghost use Rattle.compute_command.specs.Furthers.{IsFurther};
 

@@ -14,7 +14,8 @@ use Rattle.descriptor_doc.specs.declared.descriptor.Descriptor.{Descriptor}
 use Rattle.daemon_words.specs.declared.stop.Stop.TheVariants as stop
 use Rattle.station_faults.proofs.InputFaults.{descriptor_within}
 use Rattle.station_commands.specs.declared.refusal.PoolRefusal.TheVariants as refusal
-use Rattle.station_commands.specs.Descriptors.{FitsFrom, descriptor_from, found_from, refusal_from}
+use Rattle.blank_lines.specs.Behind.{FitsBehind, refusal_behind}
+use Rattle.station_commands.specs.Descriptors.{descriptor_from, found_from}
 use Rattle.station_commands.specs.Reads.{IsVerifiedAt, ReadsAt, StopsAt}
 use Rattle.station_commands.specs.Told.{descriptor_refused}
 
@@ -36,14 +37,14 @@ read_there place bytes rest d used is within reads some =
 
 -- a fault of what stands there
 pub fails_there : (place : ℕ) (bytes rest : List ℕ) (why : ReadRefusal) → rest ≡ drop place bytes
-    → ReadsDescriptor rest (Err why) → ReadsAt place bytes (Err (refusal_from place why))
+    → ReadsDescriptor rest (Err why) → ReadsAt place bytes (Err (refusal_behind place why))
 fails_there place bytes rest (read.Frame fault) is reads =
     ap (found_from place) (ap descriptor_of (sym is) ∙ reads)
 fails_there place bytes rest read.Memory is reads = tt
 
 -- whose place in the input is a number of 64 bits
 pub fits_there : (place : ℕ) (bytes rest : List ℕ) (why : ReadRefusal) → rest ≡ drop place bytes → place ≤ length bytes
-    → length bytes < 2 ^ 61 → ReadsDescriptor rest (Err why) → FitsFrom place why
+    → length bytes < 2 ^ 61 → ReadsDescriptor rest (Err why) → FitsBehind place why
 fits_there place bytes rest (read.Frame fault) is within short reads =
     let size : length rest ≡ length bytes - place = rw is (grind (arith, common_steps)) in
     omega (arith, descriptor_within rest fault reads, size, within, short)

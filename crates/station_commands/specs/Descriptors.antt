@@ -1,5 +1,6 @@
 -- The descriptors behind what a station is given, checked and kept one by one.
-use Rattle.std.specs.Prelude.{◌≡◌, ℕ, ◌+◌, ◌<◌, ◌^◌, Bool, true, false, ◌||◌, List, [], ◌∷◌, length, drop, All}
+use Rattle.std.specs.Prelude.{◌≡◌, ℕ, ◌+◌, Bool, true, false, ◌||◌, List, [], ◌∷◌, length, drop, All}
+use Rattle.blank_lines.specs.Behind.{refusal_behind}
 use Rattle.std.specs.Prelude.{Result, Ok, Err}
 use Rattle.blank_lines.specs.Ends.{ends_at}
 use Rattle.frame_terms.specs.declared.fault.FrameFault.{FrameFault}
@@ -23,20 +24,10 @@ use Rattle.station_commands.specs.declared.refusal.PoolRefusal.TheVariants as re
 
 -- ---- a descriptor in the input
 
--- the place in the input of a refusal of what stands from a place on is a number of 64 bits
-abbrev pub FitsFrom : ℕ → ReadRefusal → Type 0
-FitsFrom place (read.Frame fault) = place + fault.place < 2 ^ 64
-FitsFrom place read.Memory = Unit {0}
-
--- a refusal of what stands from a place on, by its place in the input
-abbrev pub refusal_from : ℕ → ReadRefusal → ReadRefusal
-refusal_from place (read.Frame fault) = read.Frame (record { place = place + fault.place; reason = fault.reason })
-refusal_from place read.Memory = read.Memory
-
 -- what was read from a place on, by its places in the input
 abbrev pub found_from : ℕ → Result (Descriptor × ℕ) ReadRefusal → Result (Descriptor × ℕ) ReadRefusal
 found_from place (Ok found) = Ok (found.0, place + found.1)
-found_from place (Err refusal) = Err (refusal_from place refusal)
+found_from place (Err refusal) = Err (refusal_behind place refusal)
 
 -- the descriptor that stands in the input from a place on, and the place behind it; or the first fault
 abbrev pub descriptor_from : ℕ → List ℕ → Result (Descriptor × ℕ) ReadRefusal

@@ -3,12 +3,14 @@ ghost use Rattle.std.specs.Prelude.{◌≡◌, ◌≤◌, ◌<◌, ◌^◌, Err,
 ghost use Rattle.dir_bytes.specs.Causes.{Rose};
 ghost use Rattle.key_port.specs.Answers.{rules};
 ghost use Rattle.descriptor_doc.specs.Reading.{IsRead};
+ghost use Rattle.blank_lines.specs.Behind as behind;
+ghost use Rattle.blank_lines.specs.Behind.{FitsBehind};
 ghost use Rattle.station_commands.specs.Descriptors as descriptors;
 ghost use Rattle.station_commands.specs.Reads as reads;
 
 use crate::refusal::PoolRefusal;
 use crate::told::descriptor_refused;
-use blank_lines::{ends_at, fault_behind};
+use blank_lines::{ends_at, refusal_behind};
 use bytes::Bytes;
 use daemon_words::Stop;
 use descriptor_doc::{Descriptor, check, read};
@@ -19,13 +21,10 @@ use vote_pool::{Keep, Pool, PoolEntry, prepare};
 
 /// A refusal of what stands from a place on, by its place in the input.
 pub fn from_place(place: usize, refusal: ReadRefusal) -> ReadRefusal
-    requires { descriptors.FitsFrom place refusal }
-    ensures { result ≡ descriptors.refusal_from place refusal }
+    requires { FitsBehind place refusal }
+    ensures { result ≡ behind.refusal_behind place refusal }
 {
-    match refusal {
-        ReadRefusal::Frame(fault) => ReadRefusal::Frame(fault_behind(place as u64, fault)),
-        ReadRefusal::Memory => ReadRefusal::Memory,
-    }
+    refusal_behind(place as u64, refusal)
 }
 
 /// The descriptor that stands in the input from a place on, and the place behind it. It shares the input's bytes.

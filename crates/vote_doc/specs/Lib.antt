@@ -6,6 +6,5 @@ pub mod Facts
 pub mod Checks
 pub mod Holdings
 pub mod Lending
-pub mod Behind
 pub mod Reading
 pub mod Ranks

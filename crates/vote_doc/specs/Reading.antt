@@ -8,7 +8,7 @@ use Rattle.vote_terms.specs.Votes.{ReadVote}
 use Rattle.vote_doc.specs.declared.kept.Kept.{Kept}
 use Rattle.vote_doc.specs.Kept.{none_kept, kept_with}
 use Rattle.vote_doc.specs.Facts.{vote_in}
-use Rattle.vote_doc.specs.Behind.{behind}
+use Rattle.blank_lines.specs.Behind.{behind}
 use Rattle.vote_frame.specs.Tables.{vote_tables}
 
 -- how many bytes a vote may have

@@ -3,7 +3,7 @@ use Rattle.std.specs.Prelude.{◌≡◌, ℕ, ◌+◌, List, ◌++◌, length, O
 use Rattle.frame_terms.specs.declared.fault.FrameFault.{FrameFault}
 use Rattle.frame_terms.specs.declared.fault.ReadRefusal.TheVariants.{Frame}
 use Rattle.vote_terms.specs.Votes.{ReadVote}
-use Rattle.vote_doc.specs.Behind.{behind, fault_behind}
+use Rattle.blank_lines.specs.Behind.{behind, fault_behind}
 use Rattle.vote_doc.specs.Reading.{vote_from, vote_of}
 use Rattle.vote_feed.specs.Feeding.{IsFaulty, IsWhole}
 
