@@ -21,9 +21,9 @@ use Rattle.relay_entries.specs.declared.said.EntryKind.TheVariants as entry
 use Rattle.relay_entries.specs.declared.said.EntryValue.TheVariants as said
 use Rattle.relay_entries.specs.declared.said.MicroLine.{MicroLine}
 use Rattle.relay_entries.specs.declared.said.RelayLine.{RelayLine}
-use Rattle.fault_laws.proofs.ArgumentPlaces.{PlaceIn, bandwidths_in, flag_in, others_begin, some_digest_in}
-use Rattle.fault_laws.proofs.ItemPlaces.{IsItemIn, all_begin, at_front, begins, first_begins, more_in, one_in, rest_in}
-use Rattle.fault_laws.proofs.ItemPlaces.{second_begins, then_in}
+use Rattle.fault_places.proofs.ArgumentPlaces.{PlaceIn, bandwidths_in, flag_in, others_begin, some_digest_in}
+use Rattle.fault_places.proofs.ItemPlaces.{IsItemIn, all_begin, at_front, begins, first_begins, more_in, one_in, rest_in}
+use Rattle.fault_places.proofs.ItemPlaces.{second_begins, then_in}
 
 module _ (n : ℕ) (item : Item) (is : IsItemIn n item) where
   relay_in : PlaceIn n (relay_of item)

@@ -1,7 +1,3 @@
-pub mod LinePlaces
-pub mod FirstFaults
-pub mod ArgumentPlaces
-pub mod ItemPlaces
 pub mod EntryPlaces
 pub mod VotePlaces
 pub mod VoteFaults

@@ -1,10 +1,9 @@
 -- The places of what is wrong with the items of a vote, and of the first fault of their document.
 use Rattle.std.proofs.Common.{◌≡◌, ℕ, ◌≤◌, Bool, true, false, List, [], length, Option, Result, Ok, Err}
-use Rattle.std.proofs.Common.{ap, arith, drop, length-drop, length-take, subst}
+use Rattle.std.proofs.Common.{subst}
 use Rattle.std.specs.Prelude.{◌||◌, codes, nat_lt, if◌then◌else◌}
 use Rattle.std.specs.FinSet as set
 use Rattle.item_terms.specs.Items.{Item}
-use Rattle.dirdoc_grammar.specs.InPlace.{InPlace}
 use Rattle.dir_values.specs.FlagSets.{wrong_flag}
 use Rattle.dir_values.specs.Numbers.{wrong_number}
 use Rattle.dir_values.specs.declared.digest.Fingerprint.{Fingerprint}
@@ -45,12 +44,12 @@ use Rattle.vote_frame.specs.declared.frame.VoteKind.{VoteKind}
 use Rattle.vote_frame.specs.declared.frame.VoteKind.TheVariants as kind
 use Rattle.vote_frame.specs.declared.frame.VoteValue.{VoteValue}
 use Rattle.vote_frame.specs.declared.frame.VoteValue.TheVariants as own
-use Rattle.fault_laws.specs.Within.{FaultIn, FaultsStandIn, HasFaultsWithin}
-use Rattle.fault_laws.proofs.FirstFaults.{first_faults}
-use Rattle.fault_laws.proofs.ArgumentPlaces.{PlaceIfIn, PlaceIn, flag_in, number_in, param_in, protocol_in, versions_in}
+use Rattle.fault_places.specs.Within.{FaultIn, FaultsStandIn, HasFaultsWithin}
+use Rattle.fault_places.proofs.FirstFaults.{first_faults}
+use Rattle.fault_places.proofs.ArgumentPlaces.{PlaceIfIn, PlaceIn, flag_in, number_in, param_in, protocol_in, versions_in}
 use Rattle.fault_laws.proofs.EntryPlaces.{entry_in}
-use Rattle.fault_laws.proofs.ItemPlaces.{IsItemIn, all_begin, argument_in, delays_in, fingerprint_in, literal_in, object_in}
-use Rattle.fault_laws.proofs.ItemPlaces.{random_in, rest_in, signature_in, source_in, time_in}
+use Rattle.fault_places.proofs.ItemPlaces.{IsItemIn, all_begin, argument_in, delays_in, fingerprint_in, item_in, literal_in}
+use Rattle.fault_places.proofs.ItemPlaces.{object_in, random_in, rest_in, signature_in, source_in, time_in}
 
 abbrev Said : Type 0
 Said = Value VoteValue
@@ -262,19 +261,6 @@ module _ (n : ℕ) (across : Across) (place : ℕ) (within : place ≤ n) where
   noted_in (value.Own (own.Entry said)) is = listed_in (note_entry across.listed place said) (entry_noted said)
 
 -- ---- votes
-
-pub item_in : (bytes : List ℕ) (item : Item) → InPlace bytes item → IsItemIn (length bytes) item
-item_in bytes item there =
-    let within = there.within in
-    let some = there.in_order.some_bytes in
-    let size = ap (λ (l : List ℕ). length l) there.keyword in
-    let cut = length-take (length item.keyword) (drop item.place bytes) in
-    let left = length-drop item.place bytes in
-    record {
-      place = omega (arith, within, some);
-      keyword = omega (arith, within, some, size, cut, left);
-      arguments = omega (arith, within, there.in_order.arguments_end);
-    }
 
 vote_faults_in : FaultsStandIn vote_tables
 vote_faults_in = record {

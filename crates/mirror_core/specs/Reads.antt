@@ -4,7 +4,13 @@ use Rattle.frame_terms.specs.declared.fault.FrameFault.{FrameFault}
 use Rattle.frame_terms.specs.declared.fault.ReadRefusal.{ReadRefusal}
 use Rattle.frame_terms.specs.declared.fault.ReadRefusal.TheVariants as read
 use Rattle.frame_terms.specs.Refusals.{Fails}
-use Rattle.mirror_terms.specs.Inputs.{AreAll, FailsWith, fault_from}
+use Rattle.blank_lines.specs.Behind.{fault_behind}
+use Rattle.mirror_terms.specs.Inputs.{AreAll, FailsWith}
+
+-- the place of a refusal, if it tells one, is within so many bytes
+abbrev pub IsWithin : ℕ → ReadRefusal → Type 0
+IsWithin n (read.Frame fault) = fault.place ≤ n
+IsWithin n read.Memory = Unit {0}
 
 module _ {X : Type 0} (document_of : List ℕ → Result (X × ℕ) ReadRefusal) where
   -- the document that the bytes begin with, which has a byte and is within them; or the first fault, or want of memory
@@ -24,7 +30,7 @@ module _ {X : Type 0} (document_of : List ℕ → Result (X × ℕ) ReadRefusal)
   -- a fault stands there
   abbrev pub FaultAt : List ℕ → ℕ → ReadRefusal → Type 0
   FaultAt bytes place (read.Frame fault) =
-      (found : FrameFault) × (document_of (drop place bytes) ≡ Err (read.Frame found)) × (fault ≡ fault_from place found)
+      (found : FrameFault) × (document_of (drop place bytes) ≡ Err (read.Frame found)) × (fault ≡ fault_behind place found)
   FaultAt bytes place read.Memory = Unit {0}
 
   -- what reading from a place on answers

@@ -1,15 +1,14 @@
 // Documents of one kind, one behind the other to an input's end.
-ghost use Rattle.std.specs.Prelude.{◌≡◌, ◌<◌, ◌≤◌, ◌^◌, ℕ, List, length, drop, slice_range, MatchResult, IfOk};
+ghost use Rattle.std.specs.Prelude.{◌≡◌, ◌<◌, ◌≤◌, ◌^◌, ℕ, List, length, drop, slice_range, MatchResult, IfOk, IfErr};
 ghost use Rattle.std.specs.declared.result.Result.{Result};
 ghost use Rattle.frame_terms.specs.declared.fault.ReadRefusal.{ReadRefusal};
-ghost use Rattle.mirror_terms.specs.Inputs as inputs;
 ghost use Rattle.mirror_terms.specs.Inputs.{AreAll};
-ghost use Rattle.mirror_core.specs.Reads.{ReadsOne, ReadsAt, RefusesAll};
+ghost use Rattle.mirror_core.specs.Reads.{IsWithin, ReadsOne, ReadsAt, RefusesAll};
 
-use blank_lines::after_blanks;
+use blank_lines::{after_blanks, fault_behind};
 use bytes::Bytes;
 use dir_bytes::Memory;
-use frame_terms::{FrameFault, ReadRefusal};
+use frame_terms::ReadRefusal;
 use frame_values::between;
 use std::alloc::Global;
 use std::collections::VecDeque;
@@ -26,17 +25,8 @@ pub(crate) trait Kind {
     fn read(&self, alloc: Global, bytes: &[u8]) -> Result<(Self::Document, usize), ReadRefusal>
         requires some { 0 < length bytes.now }
         requires short { length bytes.now < 2 ^ 61 }
-        ensures { ReadsOne document_of bytes.now result };
-}
-
-/// A refusal of what stands from a place on, by its place in the input.
-fn from_place(place: usize, fault: FrameFault) -> FrameFault
-    ensures { result ≡ inputs.fault_from place fault }
-{
-    FrameFault {
-        place: (place as u64).saturating_add(fault.place),
-        reason: fault.reason,
-    }
+        ensures reads { ReadsOne document_of bytes.now result }
+        ensures within { IfErr result (IsWithin (length bytes.now)) };
 }
 
 /// Reads the document that stands in the input from a place on, and gives the place behind it.
@@ -52,7 +42,10 @@ fn read_at<K: Kind>(
 {
     match kind.read(alloc, &bytes[place..]) {
         Ok((document, used)) => Ok((document, place + used)),
-        Err(ReadRefusal::Frame(fault)) => Err(ReadRefusal::Frame(from_place(place, fault))),
+        Err(ReadRefusal::Frame(fault)) => Err(ReadRefusal::Frame(fault_behind(
+            place as u64,
+            fault,
+        ))),
         Err(ReadRefusal::Memory) => Err(ReadRefusal::Memory),
     }
 }

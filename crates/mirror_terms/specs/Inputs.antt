@@ -1,13 +1,10 @@
 -- Documents of one kind, one behind the other to an input's end.
-use Rattle.std.specs.Prelude.{◌≡◌, ℕ, ◌+◌, ◌-◌, ◌^◌, min, List, [], ◌∷◌, drop, slice_range, Some, None, Result, Ok, Err}
+use Rattle.std.specs.Prelude.{◌≡◌, ℕ, ◌+◌, List, [], ◌∷◌, drop, slice_range, Some, None, Result, Ok, Err}
 use Rattle.frame_terms.specs.declared.fault.FrameFault.{FrameFault}
 use Rattle.frame_terms.specs.declared.fault.ReadRefusal.{ReadRefusal}
 use Rattle.frame_terms.specs.declared.fault.ReadRefusal.TheVariants as read
+use Rattle.blank_lines.specs.Behind.{fault_behind}
 use Rattle.blank_lines.specs.Blanks.{after_blanks}
-
--- a fault of what stands from a place on, by its place in the input
-abbrev pub fault_from : ℕ → FrameFault → FrameFault
-fault_from place fault = record { place = min (place + fault.place) (2 ^ 64 - 1); reason = fault.reason }
 
 module _ {X : Type 0} (document_of : List ℕ → Result (X × ℕ) ReadRefusal) where
   -- A document stands in the input from a place on, with its text from its first item on, and ends before the next place.
@@ -38,4 +35,4 @@ module _ {X : Type 0} (document_of : List ℕ → Result (X × ℕ) ReadRefusal)
     pub found : FrameFault
     pub stand : Stand bytes 0 documents last
     pub fails : document_of (drop last bytes) ≡ Err (read.Frame found)
-    pub fault_is : fault ≡ fault_from last found
+    pub fault_is : fault ≡ fault_behind last found

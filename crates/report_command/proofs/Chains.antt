@@ -6,7 +6,7 @@ use Rattle.frame_terms.specs.declared.fault.FrameFault.{FrameFault}
 use Rattle.frame_terms.specs.declared.fault.ReadRefusal.TheVariants.{Frame}
 use Rattle.fault_laws.proofs.VoteFaults.{fault_of_vote}
 use Rattle.vote_terms.specs.Votes.{ReadVote}
-use Rattle.vote_doc.specs.Behind.{behind, refusal_behind}
+use Rattle.blank_lines.specs.Behind.{behind, refusal_behind}
 use Rattle.vote_doc.specs.Reading.{ReadsVote, vote_from, vote_of}
 use Rattle.daemon_words.specs.declared.stop.Stop.{Stop}
 use Rattle.daemon_words.specs.declared.stop.Stop.TheVariants as stop

@@ -1,5 +1,6 @@
 pub mod FrontLine
 pub mod Chains
+pub mod ConsensusPlace
 pub mod Answering
 pub mod OneReading
 pub mod NotRefused

@@ -8,6 +8,7 @@ use Rattle.vote_terms.specs.Acceptable.{AsksOf, IsAcceptable, IsFirstRefused, Re
 use Rattle.vote_terms.specs.Held.{held}
 use Rattle.vote_terms.specs.Votes.{ReadVote}
 use Rattle.vote_terms.specs.declared.word.VoteWord.{VoteWord}
+use Rattle.blank_lines.specs.Behind.{fault_behind}
 use Rattle.consensus_doc.specs.Reading.{consensus_of}
 use Rattle.consensus_terms.specs.declared.consensus.SignedConsensus.{SignedConsensus}
 use Rattle.consensus_terms.specs.declared.flavour.Flavour.TheVariants.{Microdesc, Ns}
@@ -20,7 +21,7 @@ use Rattle.report_command.specs.declared.refusal.ReportRefusal.{ReportRefusal}
 use Rattle.report_command.specs.declared.refusal.ReportRefusal.TheVariants as refusal
 use Rattle.daemon_words.specs.declared.report.Report.{Report}
 use Rattle.health_report.specs.Reports.{IsReport}
-use Rattle.report_command.specs.Inputs.{votes_of, rest_from, moved_fault}
+use Rattle.report_command.specs.Inputs.{votes_of, rest_from}
 
 -- each of these votes is acceptable
 abbrev pub AreAcceptable : Rules → Report → List ReadVote → Type 0
@@ -92,7 +93,7 @@ pub record ConsensusFails (bytes : List ℕ) (fault : FrameFault) : Type 0 where
   pub own : FrameFault
   pub votes_are : votes_of bytes ≡ Ok (votes, at)
   pub fails : consensus_of (rest_from at bytes) ≡ Err (Frame own)
-  pub fault_is : fault ≡ moved_fault at own
+  pub fault_is : fault ≡ fault_behind at own
 
 -- what the command answers to an input: a report, or a refusal. Where the verifier failed it was asked.
 abbrev pub ReportAnswers : Rules → Report → List ℕ → Result (List ℕ) ReportRefusal → Type 0

@@ -1,5 +1,5 @@
 -- The input of the command: votes, one after the other, the line `report-consensus`, and a consensus to the input's end.
-use Rattle.std.specs.Prelude.{ℕ, ◌+◌, ◌-◌, ◌^◌, min, zero, suc, Bool, ◌&&◌, List, [], ◌∷◌, ◌++◌, length, drop, take}
+use Rattle.std.specs.Prelude.{ℕ, ◌+◌, zero, suc, Bool, ◌&&◌, List, [], ◌∷◌, ◌++◌, length, drop, take}
 use Rattle.std.specs.Prelude.{slice_range, Option, Some, None, Result, Ok, Err, codes, option_and_then, unwrap_or, if◌then◌else◌}
 use Rattle.std.specs.Str.{bytes_eq}
 use Rattle.item_terms.specs.Items.{Item, items_from}
@@ -126,7 +126,3 @@ votes_of bytes = votes_from most_votes 0 bytes
 -- the bytes from a place on
 abbrev pub rest_from : ℕ → List ℕ → List ℕ
 rest_from at bytes = slice_range bytes at (length bytes)
-
--- a fault of a document that begins at a place of the input, with its place in the input
-abbrev pub moved_fault : ℕ → FrameFault → FrameFault
-moved_fault at fault = record { place = min (at + fault.place) (2 ^ 64 - 1); reason = fault.reason }

@@ -8,6 +8,7 @@ use Rattle.frame_terms.specs.declared.fault.ReadRefusal.TheVariants.{Frame}
 use Rattle.frame_terms.specs.Refusals.{Fails}
 use Rattle.key_port.specs.Answers.{Rules}
 use Rattle.vote_terms.specs.Votes.{ReadVote}
+use Rattle.blank_lines.specs.Behind.{fault_behind}
 use Rattle.vote_doc.specs.Reading.{vote_from}
 use Rattle.consensus_doc.specs.Reading.{consensus_of}
 use Rattle.consensus_terms.specs.declared.consensus.SignedConsensus.{SignedConsensus}
@@ -21,7 +22,6 @@ use Rattle.report_command.specs.declared.refusal.ReportRefusal.TheVariants as re
 use Rattle.daemon_words.specs.declared.report.Report.{Report}
 use Rattle.health_report.specs.Reports.{IsReport}
 use Rattle.report_command.specs.Answers.{AsksVerifier, IsMicrodesc, IsOfAnother, RefusesVote, Reports}
-use Rattle.report_command.specs.Inputs.{moved_fault}
 
 -- what reading a vote of the input answers: the vote that begins at a place, which ends within the input; or its first fault, or
 -- want of memory
@@ -45,7 +45,7 @@ pub record IsConsensus (bytes : List ℕ) (consensus : SignedConsensus) : Type 0
 pub record IsFault (at : ℕ) (bytes : List ℕ) (fault : FrameFault) : Type 0 where
   pub own : FrameFault
   pub fails : consensus_of bytes ≡ Err (Frame own)
-  pub fault_is : fault ≡ moved_fault at own
+  pub fault_is : fault ≡ fault_behind at own
 
 -- what was read is the consensus that bytes are, which begin at a place of the input, or the refusal is its fault
 abbrev pub ReadsConsensusAt : ℕ → List ℕ → Result SignedConsensus (Stop FrameFault) → Type 0

@@ -1,5 +1,5 @@
 // The votes of an input, the line behind them, and the consensus.
-ghost use Rattle.std.specs.Prelude.{◌≡◌, ◌≤◌, ◌<◌, ◌^◌, IfOk, length, vec_len};
+ghost use Rattle.std.specs.Prelude.{◌≡◌, ◌+◌, ◌≤◌, ◌<◌, ◌^◌, IfOk, length, vec_len};
 ghost use Rattle.consensus_terms.specs.Moments.{HasMoments};
 ghost use Rattle.dirdoc_grammar.specs.Seen.{seen};
 ghost use Rattle.report_command.specs.Inputs as inputs;
@@ -7,6 +7,7 @@ ghost use Rattle.report_command.specs.Private.{ReadsConsensusAt, ReadsVoteAt, Re
 
 use crate::line::{LINE_SIZE, line_place};
 use crate::refusal::InputRefusal;
+use blank_lines::fault_behind;
 use bytes::Bytes;
 use consensus_terms::SignedConsensus;
 use daemon_words::Stop;
@@ -85,13 +86,10 @@ fn vote_at(alloc: Global, bytes: &Bytes, place: usize) -> Result<(Vote, usize), 
     let rest = bytes.slice(place..)?;
     match read(alloc, &rest) {
         Ok((vote, used)) => Ok((vote, place + used)),
-        Err(ReadRefusal::Frame(fault)) => {
-            let there = place as u64 + fault.place;
-            Err(ReadRefusal::Frame(FrameFault {
-                place: there,
-                reason: fault.reason,
-            }))
-        }
+        Err(ReadRefusal::Frame(fault)) => Err(ReadRefusal::Frame(fault_behind(
+            place as u64,
+            fault,
+        ))),
         Err(ReadRefusal::Memory) => Err(ReadRefusal::Memory),
     }
 }
@@ -131,16 +129,6 @@ pub(crate) fn votes_of(alloc: Global, bytes: &Bytes) -> Result<(Vec<Vote>, u64),
     }
 }
 
-/// A fault of a document that begins at a place of the input, with its place in the input.
-fn moved(at: u64, fault: FrameFault) -> FrameFault
-    ensures { result ≡ inputs.moved_fault at fault }
-{
-    FrameFault {
-        place: at.saturating_add(fault.place),
-        reason: fault.reason,
-    }
-}
-
 /// The consensus that these bytes are, which begin at a place of the input.
 ///
 /// # Errors
@@ -150,13 +138,14 @@ pub(crate) fn consensus_at(
     at: u64,
     bytes: &[u8],
 ) -> Result<SignedConsensus, Stop<FrameFault>>
-    requires { length bytes.now < 2 ^ 61 }
+    requires short { length bytes.now < 2 ^ 61 }
+    requires behind { at + length bytes.now < 2 ^ 64 }
     ensures consensus { ReadsConsensusAt at bytes.now result }
     ensures moments { IfOk result (λ consensus. HasMoments consensus.facts) }
 {
     match consensus_doc::read(alloc, bytes) {
         Ok((consensus, _)) => Ok(consensus),
-        Err(ReadRefusal::Frame(fault)) => Err(Stop::Refused(moved(at, fault))),
+        Err(ReadRefusal::Frame(fault)) => Err(Stop::Refused(fault_behind(at, fault))),
         Err(ReadRefusal::Memory) => Err(Stop::Memory),
     }
 }

@@ -1,4 +1,2 @@
-pub mod Placed
-pub mod DescriptorPlaces
 pub mod StationPlaces
 pub mod InputFaults

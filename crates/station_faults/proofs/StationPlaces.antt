@@ -27,13 +27,13 @@ use Rattle.station_frame.specs.declared.frame.StationKind.{StationKind}
 use Rattle.station_frame.specs.declared.frame.StationKind.TheVariants as kind
 use Rattle.station_frame.specs.declared.said.StationValue.{StationValue}
 use Rattle.station_frame.specs.declared.said.StationValue.TheVariants as own
-use Rattle.fault_laws.specs.Within.{FaultIn, FaultsStandIn, HasFaultsWithin}
-use Rattle.fault_laws.proofs.FirstFaults.{first_faults}
-use Rattle.fault_laws.proofs.ArgumentPlaces.{PlaceIn, others_begin, param_in, protocol_in, versions_in}
-use Rattle.fault_laws.proofs.ItemPlaces.{IsItemIn, all_begin, argument_in, begins, fingerprint_in, first_begins, literal_in}
-use Rattle.fault_laws.proofs.ItemPlaces.{more_in, object_in, rest_in, second_begins, source_in, then_in, time_in}
-use Rattle.fault_laws.proofs.VotePlaces.{item_in, many_in}
-use Rattle.station_faults.proofs.Placed.{last_in, placed_unless}
+use Rattle.fault_places.specs.Within.{FaultIn, FaultsStandIn, HasFaultsWithin}
+use Rattle.fault_places.proofs.FirstFaults.{first_faults}
+use Rattle.fault_places.proofs.ArgumentPlaces.{PlaceIn, others_begin, param_in, protocol_in, versions_in}
+use Rattle.fault_places.proofs.ItemPlaces.{IsItemIn, all_begin, argument_in, begins, fingerprint_in, first_begins, item_in}
+use Rattle.fault_places.proofs.ItemPlaces.{literal_in, more_in, object_in, rest_in, second_begins, source_in, then_in, time_in}
+use Rattle.fault_laws.proofs.VotePlaces.{many_in}
+use Rattle.fault_places.proofs.Placed.{last_in, placed_unless}
 
 module _ (n : ℕ) (item : Item) (is : IsItemIn n item) where
   -- ---- lines

@@ -1,6 +1,7 @@
-use Rattle.std.proofs.Common.{◌∙◌, refl}
+use Rattle.std.proofs.Common.{◌∙◌, List, ℕ, ap, arith, length, refl}
 use Rattle.key_port.specs.Answers.{rules}
 use Rattle.report_command.proofs.Answering.{of_consensus, of_reading, of_votes}
+use Rattle.report_command.proofs.ConsensusPlace.{consensus_begins}
 use Rattle.report_command.proofs.command.report.Goals as goal
 
 pub returns-in-Err-clause-answer : goal.returns-in-Err-clause-answer
@@ -29,3 +30,9 @@ returns-clause-answer g c =
       consensus_is = c.in-Ok-consensus_at.ensures.consensus.is;
     })
     c.answer.ensures.answer
+
+pub consensus_at-requires-clause-behind : goal.consensus_at-requires-clause-behind
+consensus_at-requires-clause-behind g c =
+    let begins = consensus_begins c.args.bytes.now c.in-Ok.votes.items c.in-Ok.at c.in-Ok.ensures.votes in
+    let size = ap (λ (bytes : List ℕ). length bytes) c.deref.ensures in
+    omega (arith, begins, c.between-rest.ensures.within, size, c.requires)

@@ -1,8 +1,11 @@
-use Rattle.std.proofs.Common.{◌∙◌, arith, subst}
+use Rattle.std.proofs.Common.{◌∙◌, Err, arith, subst, sym}
 use Rattle.std.proofs.lemmas.List.{take_rest}
+use Rattle.frame_terms.specs.declared.fault.FrameFault.{FrameFault}
 use Rattle.frame_terms.specs.declared.fault.ReadRefusal.{ReadRefusal}
+use Rattle.frame_terms.specs.declared.fault.ReadRefusal.TheVariants.{Frame}
 use Rattle.frame_terms.specs.Refusals.{Fails}
 use Rattle.vote_doc.specs.Reading.{vote_of}
+use Rattle.report_command.specs.Private.{ReadsVoteAt}
 use Rattle.report_command.proofs.Chains.{fails_there, fault_inside, read_there}
 use Rattle.report_command.proofs.reading.vote_at.Goals as goal
 
@@ -18,11 +21,13 @@ returns-in-Err-Frame c =
     let place = c.args.place in
     let bytes = c.args.bytes.now in
     let rest = c.in_ok-rest.rest in
+    let fails =
     fails_there place bytes rest c.in-Err-Frame.fault (c.in_ok-rest.ensures.ok ∙ take_rest bytes place)
-    (subst (λ (why : ReadRefusal). Fails why (vote_of rest)) c.in-Err-Frame.field-0-is c.in-Err-Frame.ensures)
+    (subst (λ (why : ReadRefusal). Fails why (vote_of rest)) c.in-Err-Frame.field-0-is c.in-Err-Frame.ensures) in
+    subst (λ (fault : FrameFault). ReadsVoteAt place bytes (Err (Frame fault))) (sym c.fault_behind.ensures) fails
 
-pub overflow_add-there : goal.overflow_add-there
-overflow_add-there c =
+pub fault_behind-requires : goal.fault_behind-requires
+fault_behind-requires c =
     let place = c.args.place in
     let bytes = c.args.bytes.now in
     let rest = c.in_ok-rest.rest in

@@ -34,8 +34,8 @@ use Rattle.frame_terms.specs.declared.row.Limit.{Limit}
 use Rattle.frame_terms.specs.declared.row.Row.{Row}
 use Rattle.frame_terms.specs.declared.section.Again.{Again}
 use Rattle.frame_terms.specs.declared.section.Again.TheVariants as again
-use Rattle.fault_laws.specs.Within.{FaultIn, FaultsStandIn, FirstFaultsStandWithin}
-use Rattle.fault_laws.proofs.LinePlaces.{first_fault_within}
+use Rattle.fault_places.specs.Within.{FaultIn, FaultsStandIn, FirstFaultsStandWithin}
+use Rattle.fault_places.proofs.LinePlaces.{first_fault_within}
 
 -- a refusal tells a place within so many bytes, if it tells one
 abbrev RefusedIn : ℕ → ReadRefusal → Type 0

@@ -1,8 +1,10 @@
 -- The places of what is wrong with an item, by what it is read as.
 use Rattle.std.proofs.Common.{ℕ, ◌+◌, ◌≤◌, Bool, true, false, List, length, Option, Some, None, Result, Ok, Err}
+use Rattle.std.proofs.Common.{ap, arith, drop, length-drop, length-take}
 use Rattle.std.specs.Prelude.{◌*◌, codes, is_some, if◌then◌else◌}
 use Rattle.std.specs.Str.{bytes_eq}
 use Rattle.item_terms.specs.Items.{Item, Object}
+use Rattle.dirdoc_grammar.specs.InPlace.{InPlace}
 use Rattle.dir_bytes.specs.Fields.{address, date, time_of_day}
 use Rattle.dir_values.specs.Arguments.{Argument}
 use Rattle.dir_values.specs.Digests.{fingerprint, key_digest}
@@ -20,8 +22,8 @@ use Rattle.frame_values.specs.declared.found.Span.{Span}
 use Rattle.frame_values.specs.declared.found.VoteSignature.{VoteSignature}
 use Rattle.random_lines.specs.Lines.{random_of}
 use Rattle.random_lines.specs.Values.{padded_digest}
-use Rattle.fault_laws.proofs.ArgumentPlaces.{Begins, EachBegins, PlaceIfIn, PlaceIn, each_begins, front_begins}
-use Rattle.fault_laws.proofs.ArgumentPlaces.{others_begin}
+use Rattle.fault_places.proofs.ArgumentPlaces.{Begins, EachBegins, PlaceIfIn, PlaceIn, each_begins, front_begins}
+use Rattle.fault_places.proofs.ArgumentPlaces.{others_begin}
 
 -- An item begins within so many bytes, and its keyword and its arguments end within them.
 pub record IsItemIn (n : ℕ) (item : Item) : Type 0 where
@@ -200,3 +202,18 @@ module _ (n : ℕ) (item : Item) (is : IsItemIn n item) where
       by true (Err place) within = within
       by true (Ok name) within =
           signed_in name (after_algorithm name (arguments_of item)) (behind_algorithm name)
+
+-- ---- items that stand in some bytes
+
+pub item_in : (bytes : List ℕ) (item : Item) → InPlace bytes item → IsItemIn (length bytes) item
+item_in bytes item there =
+    let within = there.within in
+    let some = there.in_order.some_bytes in
+    let size = ap (λ (l : List ℕ). length l) there.keyword in
+    let cut = length-take (length item.keyword) (drop item.place bytes) in
+    let left = length-drop item.place bytes in
+    record {
+      place = omega (arith, within, some);
+      keyword = omega (arith, within, some, size, cut, left);
+      arguments = omega (arith, within, there.in_order.arguments_end);
+    }

@@ -1,5 +1,0 @@
-use Rattle.fault_laws.proofs.FirstFaults.{first_faults}
-use Rattle.fault_laws.proofs.laws.first_faults_stand_within.Goals as goal
-
-pub returns : goal.returns
-returns g c tables = first_faults tables

@@ -1,0 +1,5 @@
+pub mod LinePlaces
+pub mod FirstFaults
+pub mod ArgumentPlaces
+pub mod ItemPlaces
+pub mod Placed
