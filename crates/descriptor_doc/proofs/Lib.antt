@@ -1,1 +1,3 @@
+pub mod DescriptorPlaces
+pub mod Fronts
 pub mod KeptDescriptors

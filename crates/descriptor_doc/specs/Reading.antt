@@ -1,29 +1,47 @@
 -- The descriptor that bytes begin with, or their first fault (dir-spec, "Server descriptor format").
-use Rattle.std.specs.Prelude.{◌≡◌, ℕ, ◌≤◌, List, length, Result, Ok, Err}
+use Rattle.std.specs.Prelude.{◌≡◌, ℕ, ◌+◌, ◌-◌, ◌≤◌, List, drop, length, take, unwrap_or, Result, Ok, Err}
 use Rattle.item_terms.specs.Items.{items_of}
 use Rattle.frame_terms.specs.declared.fault.ReadRefusal.{ReadRefusal}
 use Rattle.frame_terms.specs.Documents.{document_of, finish}
 use Rattle.frame_terms.specs.Refusals.{Fails}
+use Rattle.blank_lines.specs.Behind.{refusal_behind}
+use Rattle.blank_lines.specs.Blanks.{after_blanks}
 use Rattle.descriptor_frame.specs.Tables.{descriptor_tables}
 use Rattle.descriptor_doc.specs.declared.descriptor.Descriptor.{Descriptor}
 use Rattle.descriptor_doc.specs.declared.kept.Kept.{Kept}
 use Rattle.descriptor_doc.specs.Heads.{none_kept, kept_with}
 use Rattle.descriptor_doc.specs.Descriptors.{descriptor_in}
 
--- how many bytes a descriptor may have
+-- how many bytes a descriptor may have, with the blank lines before it
 abbrev pub max_descriptor : ℕ
 max_descriptor = 65536
 
--- what the descriptor says of which this was kept
-abbrev pub with_descriptor : List ℕ → Result (Kept × ℕ) ReadRefusal → Result (Descriptor × ℕ) ReadRefusal
-with_descriptor bytes (Ok (kept, used)) = Ok (descriptor_in bytes kept, used)
-with_descriptor bytes (Err refusal) = Err refusal
+-- how many bytes of blank lines stand before it; none, where nothing but blanks stands within as many bytes as it may have
+abbrev pub front_of : List ℕ → ℕ
+front_of bytes = unwrap_or (after_blanks 0 (take max_descriptor bytes)) 0
 
--- the descriptor that the bytes begin with, and the place after it; or the first fault
+-- what is kept of the descriptor that its own bytes begin with, of which it has at most so many, and the place after it; or the
+-- first fault
+abbrev pub own_kept : ℕ → List ℕ → Result (Kept × ℕ) ReadRefusal
+own_kept limit bytes = finish kept_with none_kept (document_of descriptor_tables (length bytes) (items_of limit bytes))
+
+-- what the descriptor says, in its own bytes, of which this was kept; these stand behind so many others
+abbrev pub with_descriptor : ℕ → List ℕ → Result (Kept × ℕ) ReadRefusal → Result (Descriptor × ℕ) ReadRefusal
+with_descriptor n bytes (Ok (kept, end)) = Ok (descriptor_in (take end bytes) kept, n + end)
+with_descriptor n bytes (Err refusal) = Err (refusal_behind n refusal)
+
+-- the descriptor that stands behind so many bytes, and the place after it; or the first fault
+abbrev pub descriptor_behind : ℕ → List ℕ → Result (Descriptor × ℕ) ReadRefusal
+descriptor_behind n bytes = with_descriptor n (drop n bytes) (own_kept (max_descriptor - n) (drop n bytes))
+
+-- the descriptor that the bytes begin with, behind blank lines if there are some, and the place after it; or the first fault
 abbrev pub descriptor_of : List ℕ → Result (Descriptor × ℕ) ReadRefusal
-descriptor_of bytes =
-    with_descriptor bytes
-    (finish kept_with none_kept (document_of descriptor_tables (length bytes) (items_of max_descriptor bytes)))
+descriptor_of bytes = descriptor_behind (front_of bytes) bytes
+
+-- what keeping answers: all that is kept of that descriptor, which is within the bytes; or the first fault, or want of memory
+abbrev pub KeepsDescriptor : ℕ → List ℕ → Result (Kept × ℕ) ReadRefusal → Type 0
+KeepsDescriptor limit bytes (Ok (kept, end)) = (own_kept limit bytes ≡ Ok (kept, end)) × (end ≤ length bytes)
+KeepsDescriptor limit bytes (Err refusal) = Fails refusal (own_kept limit bytes)
 
 -- what reading answers: that descriptor, which is within the bytes; or the first fault, or want of memory
 abbrev pub ReadsDescriptor : List ℕ → Result (Descriptor × ℕ) ReadRefusal → Type 0

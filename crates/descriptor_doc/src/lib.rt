@@ -17,5 +17,5 @@ pub use descriptor_frame::BandwidthLine;
 pub use ed_certs::EdCert;
 pub use head::{Head, head_of};
 pub use kept::Kept;
-pub use reading::read;
+pub use reading::{front_of, read};
 pub use values::{decode_if, ports_if, words_if};

@@ -197,7 +197,7 @@ fn ed_signature_of(bytes: &[u8], head: &Head) -> Option<EdSignature>
 ///
 /// # Errors
 /// `Memory` is want of memory.
-fn shared_between(bytes: &Bytes, start: u64, end: u64) -> Result<Bytes, Memory>
+pub(crate) fn shared_between(bytes: &Bytes, start: u64, end: u64) -> Result<Bytes, Memory>
     ensures { IfOk result (λ part. part ≡ slice_range bytes.now start end) }
 {
     let len = bytes.len();

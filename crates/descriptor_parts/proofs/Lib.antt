@@ -1,13 +1,6 @@
 pub mod OneSection
 pub mod DescriptorDocument
-pub mod FaultsBack
-pub mod LinesBack
-pub mod MovedFields
-pub mod MovedSaid
-pub mod SaidWithin
-pub mod MovedTaken
-pub mod SaysTheSame
-pub mod ItemsBack
 pub mod LastItem
 pub mod OwnText
+pub mod OwnFront
 pub mod OfText

@@ -1,7 +1,7 @@
 -- What is read of a server descriptor is in range.
 use Rattle.std.proofs.Common.{◌≡◌, ℕ, ◌-◌, ◌≤◌, Bool, true, false, List, [], ◌∷◌, length, drop, Option, Some}
-use Rattle.std.proofs.Common.{None, refl, ap, subst, arith, length-take, length-drop}
-use Rattle.std.specs.Prelude.{All, IfSome, filter_map, map, option_and_then, option_map, slice_range, if◌then◌else◌}
+use Rattle.std.proofs.Common.{None, refl, subst, arith, length-take, length-drop}
+use Rattle.std.specs.Prelude.{All, IfSome, filter_map, map, option_and_then, option_map, if◌then◌else◌}
 use Rattle.std.specs.List.{cons_option}
 use Rattle.std.proofs.lemmas.List.Elements.{All-cons, All-head, All-nil}
 use Rattle.base64.specs.GeneralPurpose.{IsBytes}
@@ -16,7 +16,7 @@ use Rattle.frame_terms.specs.declared.keyword.Keyword.{Keyword}
 use Rattle.frame_terms.specs.declared.keyword.Keyword.TheVariants as the
 use Rattle.frame_terms.specs.declared.row.Count.TheVariants.{Many, One, Optional}
 use Rattle.frame_values.specs.Parts.{bytes_in, part}
-use Rattle.frame_values.specs.Values.{after_in, item_at, place_in, text_if, text_of_value}
+use Rattle.frame_values.specs.Values.{item_at, text_if, text_of_value}
 use Rattle.frame_values.specs.declared.found.Span.{Span}
 use Rattle.frame_values.specs.declared.values.Value.TheVariants as value
 use Rattle.table_laws.specs.Items.{AreItemsIn}
@@ -29,15 +29,15 @@ use Rattle.descriptor_frame.specs.declared.said.DescriptorValue.{DescriptorValue
 use Rattle.descriptor_frame.specs.declared.said.DescriptorValue.TheVariants as own
 use Rattle.descriptor_doc.specs.Descriptors.{certificate_in, descriptor_in, signed_part}
 use Rattle.descriptor_doc.specs.Heads.{kept_of}
-use Rattle.descriptor_doc.specs.Reading.{max_descriptor}
+use Rattle.descriptor_doc.specs.Reading.{front_of, max_descriptor}
 use Rattle.descriptor_doc.specs.Saying as says
 use Rattle.descriptor_doc.specs.declared.descriptor.Descriptor.{Descriptor}
-use Rattle.descriptor_parts.proofs.DescriptorDocument.{DescriptorTaken, IsReadOf, Said, is_read, of_section}
+use Rattle.descriptor_parts.proofs.DescriptorDocument.{DescriptorTaken, IsReadOf, Said, of_section}
 use Rattle.descriptor_parts.proofs.LastItem.{first_found}
-use Rattle.descriptor_parts.proofs.OfText.{is_own}
-use Rattle.range_laws.proofs.CertRanges.{TextIs, text_ranged}
-use Rattle.range_laws.proofs.ReadBytes.{bytes_drop, bytes_take, object_bytes}
-use Rattle.range_laws.proofs.Saying.{all_sound, each_stands}
+use Rattle.descriptor_parts.proofs.OfText.{IsOwn, is_own}
+use Rattle.range_laws.proofs.ValueTexts.{TextIs, text_ranged}
+use Rattle.row_laws.proofs.ReadBytes.{bytes_drop, bytes_take, object_bytes}
+use Rattle.row_laws.proofs.Saying.{all_sound, each_stands}
 use Rattle.descriptor_ranges.specs.Ranges.{DescriptorsReadAreInRange, IsDescriptorInRange, IsShortAddress, IsShortRest}
 use Rattle.descriptor_ranges.proofs.DescriptorReads.{EachDescriptorStands, IsRouter, RouterIs, address_says, item_says}
 use Rattle.descriptor_ranges.proofs.DescriptorReads.{rest_says, router_says, stands_for}
@@ -155,17 +155,14 @@ module _ (bytes : List ℕ) (short : length bytes ≤ max_descriptor) where
       }
 
 -- what is read from bytes has bytes for its text
-text_bytes : (bytes : List ℕ) (d : Descriptor) (used : ℕ) → IsBytes bytes → IsReadOf bytes d used → IsBytes d.text
-text_bytes bytes d used are read =
-    let begin = place_in (item_at read.taken the.Router) in
-    let end = after_in (item_at read.taken the.RouterSignature) in
-    let text : slice_range bytes begin end ≡ d.text = ap (λ (o : Descriptor). o.text) read.says in
-    subst IsBytes text (bytes_take (end - begin) (drop begin bytes) (bytes_drop begin bytes are))
+pub text_bytes : (bytes : List ℕ) (d : Descriptor) → IsBytes bytes → IsOwn bytes d → IsBytes d.text
+text_bytes bytes d are own =
+    subst IsBytes own.part
+    (bytes_take own.end (drop (front_of bytes) bytes) (bytes_drop (front_of bytes) bytes are))
 
 -- A descriptor that is read from bytes is in range.
 pub descriptors_in_range : DescriptorsReadAreInRange
 descriptors_in_range input d used are is =
     let own = is_own input d used is in
-    let read = is_read d.text d (length d.text) own.of_text in
-    subst IsDescriptorInRange read.says
-    (all_in_range d.text own.short (text_bytes input d used are (is_read input d used is)) d read)
+    subst IsDescriptorInRange own.read.says
+    (all_in_range d.text own.short (text_bytes input d are own) d own.read)

@@ -28,11 +28,11 @@ use Rattle.descriptor_frame.specs.declared.said.DescriptorKind.TheVariants as ki
 use Rattle.descriptor_frame.specs.declared.said.DescriptorValue.TheVariants as own
 use Rattle.descriptor_frame.specs.declared.said.RouterLine.{RouterLine}
 use Rattle.descriptor_parts.proofs.DescriptorDocument.{DescriptorTaken, Said}
-use Rattle.range_laws.proofs.CertRanges.{TextIs}
-use Rattle.range_laws.proofs.ItemArguments.{IsSound, are_found}
-use Rattle.range_laws.proofs.ReadSteps.{ReadAs, next_reads, placed, was_read}
+use Rattle.range_laws.proofs.ValueTexts.{TextIs}
+use Rattle.row_laws.proofs.ItemArguments.{IsSound, are_found}
+use Rattle.row_laws.proofs.ReadSteps.{ReadAs, next_reads, placed, was_read}
 use Rattle.range_laws.proofs.RelayReads.{IsAddressAt, IsNickname, address_reads, ip_reads, nickname_reads, port_reads}
-use Rattle.range_laws.proofs.Saying.{EachStands, Says, Stands, found, of_row}
+use Rattle.row_laws.proofs.Saying.{EachStands, Says, Stands, found, of_row}
 
 -- an item of this kind of a descriptor says this
 abbrev pub DescriptorSays : List ℕ → DescriptorKind → Said → Type 0

@@ -8,7 +8,7 @@ use Rattle.ed_certs.specs.Certificates.{begins_well, certificate_of, content_len
 use Rattle.ed_certs.specs.Certificates.{extensions_of, first_extension, signer_after, signer_in, signer_of}
 use Rattle.ed_certs.specs.Certificates.{signer_past, then_signer, with_signer}
 use Rattle.entry_laws.specs.Ranges.{AreThirtyTwo}
-use Rattle.range_laws.proofs.ReadBytes.{bytes_drop, bytes_take}
+use Rattle.row_laws.proofs.ReadBytes.{bytes_drop, bytes_take}
 
 -- a signer has thirty-two bytes, if there is one
 abbrev AreIf : Option (List ℕ) → Type 0

@@ -1,7 +1,7 @@
 -- What is read of a server descriptor says what can be written.
-use Rattle.std.proofs.Common.{◌≡◌, ℕ, ◌-◌, Bool, true, false, List, [], length, drop, Option, Some, None}
+use Rattle.std.proofs.Common.{◌≡◌, ℕ, ◌-◌, Bool, true, false, List, [], length, Option, Some, None}
 use Rattle.std.proofs.Common.{refl, sym, ap, subst, ◌∙◌, arith}
-use Rattle.std.specs.Prelude.{All, IfSome, option_and_then, option_map, slice_range, if◌then◌else◌}
+use Rattle.std.specs.Prelude.{All, IfSome, option_and_then, option_map, if◌then◌else◌}
 use Rattle.std.proofs.lemmas.List.{take-append-drop}
 use Rattle.std.proofs.lemmas.List.Elements.{All-head, All-weaker}
 use Rattle.base64.specs.GeneralPurpose.{IsBytes}
@@ -16,7 +16,7 @@ use Rattle.frame_terms.specs.declared.keyword.Keyword.TheVariants as the
 use Rattle.frame_terms.specs.declared.row.Count.TheVariants.{One, Optional}
 use Rattle.frame_values.specs.Parts.{bytes_in, part}
 use Rattle.frame_values.specs.Ranges.{AreTwenty}
-use Rattle.frame_values.specs.Values.{after_in, item_at, place_in, text_if}
+use Rattle.frame_values.specs.Values.{item_at, text_if}
 use Rattle.frame_values.specs.declared.found.Span.{Span}
 use Rattle.frame_values.specs.declared.values.Value.TheVariants as value
 use Rattle.table_laws.specs.Items.{AreItemsIn}
@@ -34,21 +34,21 @@ use Rattle.descriptor_doc.specs.declared.head.Head.{Head}
 use Rattle.descriptor_text.specs.Texts.{certificate_bytes}
 use Rattle.descriptor_laws.specs.Ranges.{AreBytes, IsAddressInRange, IsBandwidthInRange, IsCertificateInRange}
 use Rattle.descriptor_laws.specs.Ranges.{SaysInRange}
-use Rattle.descriptor_parts.proofs.DescriptorDocument.{DescriptorTaken, IsReadOf, Said, is_read, of_section}
+use Rattle.descriptor_parts.proofs.DescriptorDocument.{DescriptorTaken, IsReadOf, Said, of_section}
 use Rattle.descriptor_parts.proofs.OfText.{is_own}
 use Rattle.descriptor_ranges.specs.Ranges.{IsDescriptorInRange, IsShortAddress}
-use Rattle.descriptor_ranges.proofs.DescriptorRead.{descriptors_in_range}
+use Rattle.descriptor_ranges.proofs.DescriptorRead.{descriptors_in_range, text_bytes}
 use Rattle.descriptor_ranges.proofs.DescriptorReads.{item_says}
-use Rattle.range_laws.proofs.CertRanges.{TextIs, text_ranged}
-use Rattle.range_laws.proofs.ReadBytes.{bytes_drop, bytes_take, object_bytes}
-use Rattle.range_laws.proofs.Saying.{all_sound, each_stands}
+use Rattle.range_laws.proofs.ValueTexts.{TextIs, text_ranged}
+use Rattle.row_laws.proofs.ReadBytes.{object_bytes}
+use Rattle.row_laws.proofs.Saying.{all_sound, each_stands}
 use Rattle.descriptor_values.specs.Values.{ReadDescriptorsSayInRange}
 use Rattle.descriptor_values.proofs.ItemsSay.{AreArguments, BandwidthIs, FingerprintIs, KeyIs, SignatureIs, UptimeIs}
 use Rattle.descriptor_values.proofs.ItemsSay.{bandwidth_says, family_says, fingerprint_says, key_says, padded_says}
 use Rattle.descriptor_values.proofs.ItemsSay.{policies_are, signature_says, uptime_says}
 use Rattle.descriptor_values.proofs.KeysRead.{IsLong}
 use Rattle.descriptor_values.proofs.PortsRead.{HasApart, summary_in}
-use Rattle.descriptor_values.proofs.WordsRead.{IsArgument}
+use Rattle.row_laws.proofs.ItemWords.{IsArgument}
 
 -- an item, if there is one
 abbrev TakenIf : Type 0
@@ -227,20 +227,11 @@ module _ (bytes : List ℕ) where
             (row the.RouterSigEd25519 Optional kind.EdSignature) refl (λ v says. signature_says are says) each);
       }
 
--- what is read from bytes has bytes for its text
-text_bytes : (bytes : List ℕ) (d : Descriptor) (used : ℕ) → IsBytes bytes → IsReadOf bytes d used → IsBytes d.text
-text_bytes bytes d used are read =
-    let begin = place_in (item_at read.taken the.Router) in
-    let end = after_in (item_at read.taken the.RouterSignature) in
-    let text : slice_range bytes begin end ≡ d.text = ap (λ (o : Descriptor). o.text) read.says in
-    subst IsBytes text (bytes_take (end - begin) (drop begin bytes) (bytes_drop begin bytes are))
-
 -- Each value of a descriptor that is read from bytes is one that can be written and read again.
 pub say_in_range : ReadDescriptorsSayInRange
 say_in_range input d used are is =
     let own_ = is_own input d used is in
-    let read = is_read d.text d (length d.text) own_.of_text in
     let ranged = descriptors_in_range input d used are is in
-    subst SaysInRange read.says
-    (all_say d.text (text_bytes input d used are (is_read input d used is)) d read
-    (subst IsDescriptorInRange (sym read.says) ranged))
+    subst SaysInRange own_.read.says
+    (all_say d.text (text_bytes input d are own_) d own_.read
+    (subst IsDescriptorInRange (sym own_.read.says) ranged))

@@ -36,14 +36,14 @@ use Rattle.descriptor_doc.specs.Saying as says
 use Rattle.descriptor_laws.specs.Ranges.{AreBytes, IsBandwidthInRange, IsItemInRange, IsNetInRange}
 use Rattle.descriptor_parts.proofs.DescriptorDocument.{DescriptorTaken, Said}
 use Rattle.descriptor_ranges.proofs.DescriptorReads.{DescriptorSays, EachDescriptorStands}
-use Rattle.range_laws.proofs.CertRanges.{TextIs}
-use Rattle.range_laws.proofs.ItemArguments.{IsSound}
-use Rattle.range_laws.proofs.ReadSteps.{ReadAs, any_reads, field_reads, next_reads, placed, was_read}
-use Rattle.range_laws.proofs.Saying.{Stands}
+use Rattle.range_laws.proofs.ValueTexts.{TextIs}
+use Rattle.row_laws.proofs.ItemArguments.{IsSound}
+use Rattle.row_laws.proofs.ReadSteps.{ReadAs, any_reads, field_reads, next_reads, placed, was_read}
+use Rattle.row_laws.proofs.Saying.{Stands}
 use Rattle.descriptor_values.proofs.KeysRead.{IsLong, bandwidth_reads, identity_reads, key_reads, long_reads}
 use Rattle.descriptor_values.proofs.KeysRead.{padded_reads, signature_reads}
 use Rattle.descriptor_values.proofs.PoliciesRead.{IsItemRead, IsNetRead, item_in}
-use Rattle.descriptor_values.proofs.WordsRead.{IsArgument, words_in}
+use Rattle.row_laws.proofs.ItemWords.{IsArgument, words_are_arguments}
 
 -- ---- values
 
@@ -127,7 +127,7 @@ module _ {bytes : List ℕ} {v : Said} where
   pub family_says : DescriptorSays bytes kind.Rest v → TextIs AreArguments bytes v
   family_says =
       said (TextIs AreArguments bytes) kind.Rest (λ item sound.
-      subst AreArguments (sym (rest_part sound.in_place)) (words_in item.arguments sound.rest))
+      subst AreArguments (sym (rest_part sound.in_place)) (words_are_arguments item.arguments sound.rest))
 
 -- ---- what is said of the policy, by any kind
 

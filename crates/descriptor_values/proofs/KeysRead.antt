@@ -18,10 +18,10 @@ use Rattle.descriptor_frame.specs.Fields.{without_padding}
 use Rattle.descriptor_frame.specs.Lines.{bandwidth_of, first_of, identity_of}
 use Rattle.descriptor_frame.specs.declared.said.BandwidthLine.{BandwidthLine}
 use Rattle.descriptor_laws.specs.Ranges.{AreBytes, IsBandwidthInRange}
-use Rattle.range_laws.proofs.ItemArguments.{IsSound, are_found}
-use Rattle.range_laws.proofs.ReadBytes.{base64_bytes, bytes_by_test, bytes_take}
-use Rattle.range_laws.proofs.ReadSteps.{ReadAs, field_reads, next_reads, number_within}
-use Rattle.range_laws.proofs.RelayReads.{front_bytes}
+use Rattle.row_laws.proofs.ItemArguments.{IsSound, are_found}
+use Rattle.row_laws.proofs.ReadBytes.{base64_bytes, bytes_by_test, bytes_take}
+use Rattle.row_laws.proofs.ReadSteps.{ReadAs, field_reads, next_reads, number_within}
+use Rattle.row_laws.proofs.ReadSteps.{front_bytes}
 
 -- ---- keys
 

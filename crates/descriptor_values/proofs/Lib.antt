@@ -1,6 +1,5 @@
 pub mod PoliciesRead
 pub mod PortsRead
-pub mod WordsRead
 pub mod KeysRead
 pub mod ItemsSay
 pub mod DescriptorValues

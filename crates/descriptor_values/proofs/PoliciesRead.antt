@@ -12,7 +12,7 @@ use Rattle.dir_values.specs.declared.policy.PolicyItem.{PolicyItem}
 use Rattle.policy_items.specs.Policies.{after_last, before_last, bits_of, bits_up_to, colon, has_last, is_bracketed}
 use Rattle.policy_items.specs.Policies.{is_hyphen, item_of, item_with, net_of, net_of_parts, net_with, ports_between}
 use Rattle.policy_items.specs.Policies.{ports_of, slash}
-use Rattle.range_laws.proofs.ReadSteps.{address_within, number_within}
+use Rattle.row_laws.proofs.ReadSteps.{address_within, number_within}
 
 -- an IPv4 address has 32 bits
 abbrev pub IsNetRead : Net → Type 0

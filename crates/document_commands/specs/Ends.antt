@@ -1,10 +1,13 @@
 -- Where a document ends, and what it has to do with the sections that are read.
-use Rattle.std.specs.Prelude.{◌≡◌, ℕ, ◌≤◌, List, length, Result, Ok, Err}
+use Rattle.std.specs.Prelude.{◌≡◌, ℕ, ◌+◌, ◌-◌, ◌≤◌, List, drop, length, Result, Ok, Err}
+use Rattle.item_terms.specs.Items.{items_of}
 use Rattle.frame_terms.specs.declared.fault.FrameFault.{FrameFault}
 use Rattle.frame_terms.specs.declared.fault.ReadRefusal.{ReadRefusal}
 use Rattle.frame_terms.specs.declared.fault.ReadRefusal.TheVariants.{Frame, Memory}
-use Rattle.frame_terms.specs.Documents.{Document}
+use Rattle.frame_terms.specs.Documents.{Document, document_of}
 use Rattle.frame_terms.specs.Refusals.{Fails}
+use Rattle.frame_terms.specs.Tables.{Tables}
+use Rattle.blank_lines.specs.Behind.{refusal_behind}
 
 -- a refusal, where faults are told so
 abbrev pub refusal_of : (FrameFault → FrameFault) → ReadRefusal → ReadRefusal
@@ -25,10 +28,13 @@ module _ {D : Type 0} where
   Ends bytes read (Ok end) = (document : D) × (read ≡ Ok (document, end)) × (end ≤ length bytes)
   Ends bytes read (Err refusal) = Fails refusal read
 
+-- the document that tables make of the items behind so many bytes
+abbrev pub made_of : {S K V X : Type 0} → Tables S K V X → ℕ → ℕ → List ℕ → Result (Document S V) ReadRefusal
+made_of tables n limit bytes = document_of tables (length (drop n bytes)) (items_of (limit - n) (drop n bytes))
+
 module _ {S V D : Type 0} where
-  -- What is read comes of the sections that were made, where faults are told so: a document that ends where they do, or their
-  -- fault.
-  abbrev pub ComesOf : (FrameFault → FrameFault) → Result (Document S V) ReadRefusal → Result (D × ℕ) ReadRefusal → Type 0
-  ComesOf fault_of (Ok document) read = (d : D) × (read ≡ Ok (d, document.used))
-  ComesOf fault_of (Err (Frame fault)) read = read ≡ Err (Frame (fault_of fault))
-  ComesOf fault_of (Err Memory) read = Unit {0}
+  -- What is read comes of the sections that were made behind so many bytes, where faults are told so: a document that ends where
+  -- they do, or their fault.
+  abbrev pub ComesOf : ℕ → (FrameFault → FrameFault) → Result (Document S V) ReadRefusal → Result (D × ℕ) ReadRefusal → Type 0
+  ComesOf n fault_of (Ok document) read = (d : D) × (read ≡ Ok (d, n + document.used))
+  ComesOf n fault_of (Err refusal) read = Fails (refusal_of fault_of (refusal_behind n refusal)) read

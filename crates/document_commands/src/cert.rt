@@ -20,9 +20,15 @@ impl Document for Cert {
 
     ghost text_of = { cert_text };
 
+    ghost front_of = { λ bytes. 0 };
+
     ghost LIMIT = { max_cert };
 
     const LIMIT: u64 = 65_536;
+
+    fn front(_: &[u8]) -> usize {
+        0
+    }
 
     fn frame(_: Global, _: &[u8]) -> CertFrame {
         CertFrame

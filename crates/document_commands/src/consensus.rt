@@ -23,9 +23,15 @@ impl Document for SignedConsensus {
 
     ghost text_of = { λ consensus. signed (facts_text consensus) consensus.signatures };
 
+    ghost front_of = { λ bytes. 0 };
+
     ghost LIMIT = { max_consensus };
 
     const LIMIT: u64 = 67_108_864;
+
+    fn front(_: &[u8]) -> usize {
+        0
+    }
 
     fn frame(_: Global, bytes: &[u8]) -> ConsensusFrame {
         ConsensusFrame {

@@ -1,5 +1,5 @@
 // A server descriptor, as the commands see it.
-ghost use Rattle.descriptor_doc.specs.Reading.{descriptor_of, max_descriptor};
+ghost use Rattle.descriptor_doc.specs.Reading.{descriptor_of, front_of, max_descriptor};
 ghost use Rattle.descriptor_text.specs.Texts.{descriptor_text};
 
 use crate::one::Document;
@@ -21,9 +21,15 @@ impl Document for Descriptor {
 
     ghost text_of = { descriptor_text };
 
+    ghost front_of = { front_of };
+
     ghost LIMIT = { max_descriptor };
 
     const LIMIT: u64 = 65_536;
+
+    fn front(bytes: &[u8]) -> usize {
+        descriptor_doc::front_of(bytes)
+    }
 
     fn frame(alloc: Global, _: &[u8]) -> DescriptorFrame {
         DescriptorFrame { alloc }

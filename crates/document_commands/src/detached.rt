@@ -20,9 +20,15 @@ impl Document for Detached {
 
     ghost text_of = { detached_text };
 
+    ghost front_of = { λ bytes. 0 };
+
     ghost LIMIT = { max_detached };
 
     const LIMIT: u64 = 1_048_576;
+
+    fn front(_: &[u8]) -> usize {
+        0
+    }
 
     fn frame(_: Global, _: &[u8]) -> DetachedFrame {
         DetachedFrame

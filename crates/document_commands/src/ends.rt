@@ -2,10 +2,12 @@
 ghost use Rattle.std.specs.Prelude.{◌≡◌, ◌<◌, ◌^◌, length};
 ghost use Rattle.frame_reader.specs.Reading.{EndsWithin};
 ghost use Rattle.frame_terms.specs.Documents.{document_of};
+ghost use Rattle.blank_lines.specs.Behind.{FitsBehind, refusal_behind};
 ghost use Rattle.document_commands.specs.Ends as ends;
 ghost use Rattle.document_commands.specs.Ends.{Ends, EndsAs};
 
 use crate::one::Document;
+use blank_lines::refusal_behind;
 use dirdoc_grammar::Items;
 use frame_reader::{Facts, Frame, read_document};
 use frame_terms::{ReadRefusal, Taken};
@@ -52,6 +54,18 @@ pub fn refusal_of<D: Document>(bytes: &[u8], refusal: ReadRefusal) -> ReadRefusa
     }
 }
 
+/// A refusal of what stands behind so many bytes, by its place among all of them.
+fn from_front(front: usize, refusal: ReadRefusal) -> ReadRefusal
+    requires { 0 < front → FitsBehind front refusal }
+    ensures { result ≡ refusal_behind front refusal }
+{
+    if front == 0 {
+        refusal
+    } else {
+        refusal_behind(front as u64, refusal)
+    }
+}
+
 /// The place after the document that the bytes begin with, as its `read` finds it. Memory is taken for the items of the section
 /// that is open, and for nothing else.
 ///
@@ -61,10 +75,12 @@ pub fn end_of<D: Document>(alloc: Global, bytes: &[u8]) -> Result<usize, ReadRef
     requires { length bytes.now < 2 ^ 61 }
     ensures { Ends bytes.now (D.read_of bytes.now) result }
 {
-    let mut items = Items::new(bytes, D::LIMIT);
+    let front = D::front(bytes);
+    let own = &bytes[front..];
+    let mut items = Items::new(own, D::LIMIT - front as u64);
     let frame = D::frame(alloc, bytes);
-    match end_by(alloc, frame, &mut items, bytes.len() as u64) {
-        Ok(end) => Ok(end as usize),
-        Err(refusal) => Err(refusal_of::<D>(bytes, refusal)),
+    match end_by(alloc, frame, &mut items, own.len() as u64) {
+        Ok(end) => Ok(front + end as usize),
+        Err(refusal) => Err(refusal_of::<D>(bytes, from_front(front, refusal))),
     }
 }

@@ -22,9 +22,15 @@ impl Document for Micro {
 
     ghost text_of = { micro_text };
 
+    ghost front_of = { λ bytes. 0 };
+
     ghost LIMIT = { max_micro };
 
     const LIMIT: u64 = 65_536;
+
+    fn front(_: &[u8]) -> usize {
+        0
+    }
 
     fn frame(_: Global, _: &[u8]) -> MicroFrame {
         MicroFrame

@@ -1,14 +1,13 @@
 // One document of any kind, and what the commands answer of it.
 ghost use Rattle.std.specs.Prelude.{◌≡◌, ◌≤◌, ◌<◌, ◌^◌, ℕ, List, Result, IfOk, length};
-ghost use Rattle.item_terms.specs.Items.{items_of};
 ghost use Rattle.frame_terms.specs.declared.fault.FrameFault.{FrameFault};
 ghost use Rattle.frame_terms.specs.declared.fault.ReadRefusal.{ReadRefusal};
-ghost use Rattle.frame_terms.specs.Documents.{document_of};
+ghost use Rattle.fault_places.specs.Within.{HasFaultsWithin};
 ghost use Rattle.daemon_words.specs.Stops.{Answered};
 ghost use Rattle.document_commands.specs.Answers.{ReadAnswers, check_text};
 ghost use Rattle.blank_lines.specs.Blanks as blanks;
 ghost use Rattle.document_commands.specs.Documents as documents;
-ghost use Rattle.document_commands.specs.Ends.{ComesOf};
+ghost use Rattle.document_commands.specs.Ends.{ComesOf, made_of};
 ghost use Rattle.document_commands.specs.Private.{IsOne, ReadsFirst, ReadsOne};
 
 use crate::ends::{end_of, refusal_of};
@@ -40,17 +39,27 @@ pub trait Document: Drop {
     /// Its canonical text.
     ghost text_of: { Self → List ℕ };
 
-    /// How many bytes it may have.
+    /// How many bytes of blank lines stand before its own; none, where these are read with it.
+    ghost front_of: { List ℕ → ℕ };
+
+    /// How many bytes it may have, with those.
     ghost LIMIT: { ℕ };
 
-    /// How many bytes it may have.
+    /// How many bytes it may have, with those of `front`.
     const LIMIT: u64;
 
-    /// The frame of the document that the bytes begin with: what is read comes of the sections that its tables make of their
-    /// items.
+    /// How many bytes of blank lines stand before its own; none, where these are read with it.
+    fn front(bytes: &[u8]) -> usize
+        ensures front { result ≡ front_of bytes.now }
+        ensures within { result ≤ length bytes.now }
+        ensures limit { result ≤ LIMIT };
+
+    /// The frame of the document that the bytes begin with: what is read comes of the sections that its tables make of the items
+    /// of its own.
     fn frame(alloc: Global, bytes: &[u8]) -> Self::Format
         requires { length bytes.now < 2 ^ 61 }
-        ensures { ComesOf (fault_of bytes.now) (document_of (Self.Format.tables result) (length bytes.now) (items_of LIMIT bytes.now)) (read_of bytes.now) };
+        ensures comes { ComesOf (front_of bytes.now) (fault_of bytes.now) (made_of (Self.Format.tables result) (front_of bytes.now) LIMIT bytes.now) (read_of bytes.now) }
+        ensures within { 0 < front_of bytes.now → HasFaultsWithin (Self.Format.tables result) };
 
     /// The document that the bytes begin with, and the place after it.
     ///

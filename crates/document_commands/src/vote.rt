@@ -21,9 +21,15 @@ impl Document for Vote {
 
     ghost text_of = { λ vote. vote_text vote.says };
 
+    ghost front_of = { λ bytes. 0 };
+
     ghost LIMIT = { max_vote };
 
     const LIMIT: u64 = 16_777_216;
+
+    fn front(_: &[u8]) -> usize {
+        0
+    }
 
     fn frame(_: Global, _: &[u8]) -> VoteFrame {
         VoteFrame

@@ -8,8 +8,8 @@ use Rattle.vote_doc.specs.Reading.{max_vote, with_facts}
 use Rattle.document_commands.proofs.MadeOf.{comes_of}
 use Rattle.document_commands.proofs.vote.VoteDocument.frame.Goals as goal
 
-pub returns : goal.returns
-returns c =
+pub returns-clause-comes : goal.returns-clause-comes
+returns-clause-comes c =
     let bytes = c.args.arg2.now in
     comes_of (λ fault. fault) (with_facts bytes) (λ kept n. vote_in (take n bytes) kept) (λ kept n. refl) (λ fault. refl) kept_with none_kept
     (document_of vote_tables (length bytes) (items_of max_vote bytes))
