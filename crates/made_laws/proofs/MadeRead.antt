@@ -1,11 +1,10 @@
 -- The text of a vote that was made is read.
 use Rattle.std.proofs.Common.{◌≡◌, ℕ, ◌+◌, ◌≤◌, true, false, List, [], ◌∷◌, ◌++◌, length, take, Option, None, Result}
-use Rattle.std.proofs.Common.{Ok, refl}
-use Rattle.std.proofs.Common.{sym, ap, subst, ◌∙◌, arith, append_assoc}
+use Rattle.std.proofs.Common.{Ok, refl, sym, ap, subst, ◌∙◌, arith, append_assoc}
 use Rattle.std.specs.Prelude.{map, ◌&&◌}
 use Rattle.std.proofs.lemmas.Bool.{and_right}
 use Rattle.std.proofs.Math.Seq.{drop-append_seam, take-append_seam}
-use Rattle.std.proofs.lemmas.List.{append-nil, length-append}
+use Rattle.std.proofs.lemmas.List.{length-append}
 use Rattle.item_terms.specs.Items.{Contents, Item, contents, nothing}
 use Rattle.item_terms.specs.Words.{begins_dash, first_is, is_letter_or_digit}
 use Rattle.item_terms.specs.declared.fault.DocFault.{DocFault}
@@ -26,7 +25,7 @@ use Rattle.certificate_laws.proofs.CertRows.{certificate_version}
 use Rattle.vote_terms.specs.Votes.{ReadVote}
 use Rattle.vote_terms.specs.declared.facts.VoteFacts.{VoteFacts}
 use Rattle.vote_text.specs.Made.{made_text}
-use Rattle.vote_doc.specs.Behind as places
+use Rattle.blank_lines.specs.Behind as places
 use Rattle.vote_doc.specs.Facts.{vote_in}
 use Rattle.vote_doc.specs.Kept.{kept_with, none_kept}
 use Rattle.vote_doc.specs.Reading.{max_vote, vote_from, vote_of, with_facts}
@@ -41,8 +40,7 @@ use Rattle.vote_laws.proofs.VotePlaces.{VoteDocument, VoteTaken, authority_place
 use Rattle.vote_laws.proofs.VotePlaces.{in_preamble}
 use Rattle.vote_laws.proofs.VoteRead.{authority_notes, authority_whole, has_object, preamble_quiet}
 use Rattle.vote_laws.proofs.VoteRows.{authority, authority_follows, authority_written, certificate_row, footer}
-use Rattle.vote_laws.proofs.VoteRows.{preamble}
-use Rattle.vote_laws.proofs.VoteRows.{preamble_first, preamble_written}
+use Rattle.vote_laws.proofs.VoteRows.{preamble, preamble_first, preamble_written}
 use Rattle.vote_laws.proofs.VoteSame.{footer_entries, in_list}
 use Rattle.vote_laws.proofs.VoteTail.{remembered, tail_read}
 use Rattle.part_laws.specs.Moved.{moved}
@@ -52,72 +50,70 @@ use Rattle.made_laws.specs.Made.{IsMadeInRange}
 use Rattle.made_laws.proofs.MadeKept.{in_authority_alone, lacking_same, made_all_kept, made_document, made_kept}
 use Rattle.made_laws.proofs.MadeKept.{made_place}
 use Rattle.made_laws.proofs.MadeTexts.{before_entries, before_same, before_text, behind_entries, behind_same}
-use Rattle.made_laws.proofs.MadeTexts.{behind_text}
-use Rattle.made_laws.proofs.MadeTexts.{text_parts, writable_at}
+use Rattle.made_laws.proofs.MadeTexts.{behind_text, text_parts, writable_at}
 
 -- the bytes of a certificate stand in a vote
 abbrev pub InVote : VoteFacts → List ℕ → Type 0
 InVote facts bytes = StandsInside vote_tables Authority Certificate bytes facts.certificate
 
 -- what is taken of them there
-abbrev pub given_first : (at : ℕ) (facts : VoteFacts) (bytes : List ℕ) → InVote facts bytes → VoteTaken
-given_first at facts bytes stand = moved_taken (certificate_place at facts) stand.first
+abbrev pub given_first : (facts : VoteFacts) (bytes : List ℕ) → InVote facts bytes → VoteTaken
+given_first facts bytes stand = moved_taken (length (before_text facts)) stand.first
 
-abbrev pub given_taken : (at : ℕ) (facts : VoteFacts) (bytes : List ℕ) → InVote facts bytes → List VoteTaken
-given_taken at facts bytes stand = map (moved_taken (certificate_place at facts)) stand.taken
+abbrev pub given_taken : (facts : VoteFacts) (bytes : List ℕ) → InVote facts bytes → List VoteTaken
+given_taken facts bytes stand = map (moved_taken (length (before_text facts))) stand.taken
 
-module _ (at : ℕ) (facts : VoteFacts) (bytes : List ℕ) (stand : InVote facts bytes) (are : HasValuesInRange facts) where
+module _ (facts : VoteFacts) (bytes : List ℕ) (stand : InVote facts bytes) (are : HasValuesInRange facts) where
   -- the certificate stands not yet in the section of its authority
-  new : stands the.DirKeyCertificateVersion (in_authority_alone at facts) ≡ false
-  new =
-      section_before_last vote_tables (authority facts) certificate_row (authority_place at facts)
+  none_before : stands the.DirKeyCertificateVersion (in_authority_alone facts) ≡ false
+  none_before =
+      section_before_last vote_tables (authority facts) certificate_row (authority_place facts)
       (authority_written facts are)
 
   -- with its first item that section lacks nothing
-  whole : lacking (vote_tables.rows Authority) (in_authority_alone at facts ++ given_first at facts bytes stand ∷ [])
+  lacks_nothing : lacking (vote_tables.rows Authority) (in_authority_alone facts ++ given_first facts bytes stand ∷ [])
       ≡ None
-  whole =
-      lacking_same (vote_tables.rows Authority) (in_authority_alone at facts) (given_first at facts bytes stand)
-      (taken_at (certificate_place at facts) certificate_version) stand.opens
-      ∙ authority_whole at facts are
+  lacks_nothing =
+      lacking_same (vote_tables.rows Authority) (in_authority_alone facts) (given_first facts bytes stand)
+      (taken_at (certificate_place facts) certificate_version) stand.opens
+      ∙ authority_whole facts are
 
   -- the items make the document
   document_read : (length_ : ℕ) (fault : Option DocFault) (more : List Item)
       → read_items vote_tables length_ nothing_across (start vote_tables) fault
-      (all_written at (map item_of (before_entries facts))
-      ++ (map (moved (certificate_place at facts)) stand.items
-      ++ (all_written (made_place at facts bytes) (map item_of (behind_entries facts)) ++ more)))
-      ≡ Ok (made_document at facts bytes (given_first at facts bytes stand) (given_taken at facts bytes stand))
+      (all_written 0 (map item_of (before_entries facts))
+      ++ (map (moved (length (before_text facts))) stand.items
+      ++ (all_written (made_place facts bytes) (map item_of (behind_entries facts)) ++ more)))
+      ≡ Ok (made_document facts bytes (given_first facts bytes stand) (given_taken facts bytes stand))
   document_read length_ fault more =
       let none = nothing_across in
       let known = remembered facts in
       let p = entries_in (preamble facts) in
       let a = entries_in (authority facts) in
-      let at_a = authority_place at facts in
-      let at_c = certificate_place at facts in
-      let at_e = made_place at facts bytes in
-      let in_p = in_preamble at facts in
-      let in_a = in_authority_alone at facts in
+      let at_a = authority_place facts in
+      let at_c = length (before_text facts) in
+      let at_e = made_place facts bytes in
+      let in_p = in_preamble facts in
       let one : VoteTaken = taken_at at_a (authority facts).opener in
       let rest_e = all_written at_e (map item_of (behind_entries facts)) ++ more in
       let rest_c = map (moved at_c) stand.items ++ rest_e in
       let rest_a = all_written at_a (map item_of a) ++ rest_c in
       let wrote = preamble_written facts are in
       ap (λ (l : List Item). read_items vote_tables length_ none (start vote_tables) fault l)
-      (both_written at p a rest_c)
-      ∙ first_read vote_tables length_ none none at (preamble facts) [] fault rest_a refl preamble_first wrote
-      (suits_version the.NetworkStatusVersion none at)
-      (notes_passing vote_tables is_quiet forgotten none at p (preamble_quiet facts are))
-      ∙ section_read vote_tables length_ none known Preamble (taken_at at (preamble facts).opener)
-      (others_in at (preamble facts)) at_a (authority facts) (certificate_row ∷ []) fault rest_c
-      (section_whole vote_tables (preamble facts) at wrote) authority_follows (authority_written facts are)
+      (both_written 0 p a rest_c)
+      ∙ first_read vote_tables length_ none none 0 (preamble facts) [] fault rest_a refl preamble_first wrote
+      (suits_version the.NetworkStatusVersion none 0)
+      (notes_passing vote_tables is_quiet forgotten none 0 p (preamble_quiet facts are))
+      ∙ section_read vote_tables length_ none known Preamble (taken_at 0 (preamble facts).opener)
+      (others_in 0 (preamble facts)) at_a (authority facts) (certificate_row ∷ []) fault rest_c
+      (section_whole vote_tables (preamble facts) 0 wrote) authority_follows (authority_written facts are)
       (suits_source facts are none at_a) (authority_notes at_a facts)
       ∙ ap (λ (r : Result VoteDocument ReadRefusal). onto (group Preamble in_p) r)
-      (stand.section_there at_c length_ known one (others_in at_a (authority facts)) fault rest_e new
+      (stand.section_there at_c length_ known one (others_in at_a (authority facts)) fault rest_e none_before
       ∙ ap (λ (r : Result VoteDocument ReadRefusal). onto
-      (group Certificate (given_first at facts bytes stand ∷ given_taken at facts bytes stand)) r)
+      (group Certificate (given_first facts bytes stand ∷ given_taken facts bytes stand)) r)
       (tail_read length_ at_e facts fault more are.entries are.signature one
-      (others_in at_a (authority facts) ++ given_first at facts bytes stand ∷ []) whole))
+      (others_in at_a (authority facts) ++ given_first facts bytes stand ∷ []) lacks_nothing))
 
 -- ---- the items of the text
 
@@ -125,63 +121,46 @@ no_dash : (bytes more : List ℕ) → first_is is_letter_or_digit bytes ≡ true
 no_dash [] more first = absurd (cc first)
 no_dash (b ∷ bytes) more first = differs is_letter_or_digit 45 b refl first
 
--- how long the text is
-made_size : (facts : VoteFacts) (bytes : List ℕ)
-    → length (made_text facts bytes) ≡ length (before_text facts) + (length bytes + length (behind_text facts))
-made_size facts bytes =
-    ap (λ (l : List ℕ). length l) (text_parts facts bytes)
-    ∙ length-append (before_text facts) (bytes ++ behind_text facts)
-    ∙ ap (λ (n : ℕ). length (before_text facts) + n) (length-append bytes (behind_text facts))
+-- the text ends so far behind the certificate's bytes
+text_ends : (facts : VoteFacts) (bytes : List ℕ)
+    → made_place facts bytes + length (behind_text facts) ≡ length (made_text facts bytes)
+text_ends facts bytes =
+    sums (length (before_text facts)) (length bytes) (length (behind_text facts)) (length (bytes ++ behind_text facts))
+    (length (made_text facts bytes)) (length-append bytes (behind_text facts))
+    (ap (λ (l : List ℕ). length l) (text_parts facts bytes)
+    ∙ length-append (before_text facts) (bytes ++ behind_text facts))
+  where
+    sums : (a b c more all : ℕ) → more ≡ b + c → all ≡ a + more → a + b + c ≡ all
+    sums a b c more all size whole = omega (arith, size, whole)
 
-module _ (at : ℕ) (facts : VoteFacts) (bytes : List ℕ) (are : IsMadeInRange facts bytes) where
-  -- where the certificate and the entries begin
-  pub certificate_at : certificate_place at facts ≡ at + length (before_text facts)
-  certificate_at =
-      sym (after_all-append at (entries_in (preamble facts)) (entries_in (authority facts)))
-      ∙ ends_behind at (before_entries facts)
+-- and the items behind it end there
+pub ends_at : (facts : VoteFacts) (bytes : List ℕ)
+    → end_from (made_place facts bytes) facts ≡ length (made_text facts bytes)
+ends_at facts bytes =
+    let place = made_place facts bytes in
+    sym (after_all-append place (in_list facts) (footer_entries facts)) ∙ ends_behind place (behind_entries facts)
+    ∙ text_ends facts bytes
 
-  -- and where it ends
-  pub ends_at : end_from (made_place at facts bytes) facts ≡ at + length (made_text facts bytes)
-  ends_at =
-      let last : end_from (made_place at facts bytes) facts ≡ made_place at facts bytes + length (behind_text facts) =
-      sym (after_all-append (made_place at facts bytes) (in_list facts) (footer_entries facts))
-      ∙ ends_behind (made_place at facts bytes) (behind_entries facts) in
-      last ∙ sums (certificate_place at facts) (length (before_text facts)) (length bytes) (length (behind_text facts))
-      (length (made_text facts bytes)) certificate_at (made_size facts bytes)
-    where
-      sums : (place a b c all : ℕ) → place ≡ at + a → all ≡ a + (b + c) → place + b + c ≡ at + all
-      sums place a b c all here size = omega (arith, here, size)
+module _ (facts : VoteFacts) (bytes : List ℕ) (are : IsMadeInRange facts bytes) where
+  within : made_place facts bytes + length (behind_text facts) ≤ max_vote
+  within = subst (λ (n : ℕ). n ≤ max_vote) (sym (text_ends facts bytes)) are.fits
 
   -- the items may stand where they do
-  pub before_may : AreWritable (at + max_vote) at (map item_of (before_entries facts))
-  before_may =
-      writable_at max_vote (at + max_vote) 0 at (map item_of (before_entries facts))
-      (subst (λ (l : List NewItem). AreWritable max_vote 0 l) (before_same facts) are.before)
-      (fits (length (before_text facts)) (length bytes) (length (behind_text facts))
-      (length (made_text facts bytes)) max_vote
-      (made_size facts bytes) are.fits)
-    where
-      fits : (a b c all most : ℕ) → all ≡ a + (b + c) → all ≤ most → at + a ≤ at + most
-      fits a b c all most size le = omega (arith, size, le)
+  pub before_may : AreWritable max_vote 0 (map item_of (before_entries facts))
+  before_may = subst (λ (l : List NewItem). AreWritable max_vote 0 l) (before_same facts) are.before
 
-  pub behind_may : AreWritable (at + max_vote) (made_place at facts bytes) (map item_of (behind_entries facts))
-  behind_may =
-      writable_at max_vote (at + max_vote) 0 (made_place at facts bytes) (map item_of (behind_entries facts))
-      (subst (λ (l : List NewItem). AreWritable max_vote 0 l) (behind_same facts) are.behind)
-      (fits (certificate_place at facts) (length (before_text facts)) (length bytes) (length (behind_text facts))
-      (length (made_text facts bytes)) max_vote certificate_at (made_size facts bytes) are.fits)
-    where
-      fits : (place a b c all most : ℕ) → place ≡ at + a → all ≡ a + (b + c) → all ≤ most → place + b + c ≤ at + most
-      fits place a b c all most here size le = omega (arith, here, size, le)
+  pub behind_may : AreWritable max_vote 0 (map item_of (behind_entries facts))
+  behind_may = subst (λ (l : List NewItem). AreWritable max_vote 0 l) (behind_same facts) are.behind
+
+  later_may : AreWritable max_vote (made_place facts bytes) (map item_of (behind_entries facts))
+  later_may = writable_at max_vote 0 (made_place facts bytes) (map item_of (behind_entries facts)) behind_may within
 
   -- the certificate passes not the limit of a vote
-  pub bytes_fit : certificate_place at facts + length bytes ≤ at + max_vote
-  bytes_fit =
-      fits (certificate_place at facts) (length (before_text facts)) (length bytes) (length (behind_text facts))
-      (length (made_text facts bytes)) max_vote certificate_at (made_size facts bytes) are.fits
+  bytes_fit : made_place facts bytes ≤ max_vote
+  bytes_fit = shorter (made_place facts bytes) (length (behind_text facts)) max_vote within
     where
-      fits : (place a b c all most : ℕ) → place ≡ at + a → all ≡ a + (b + c) → all ≤ most → place + b ≤ at + most
-      fits place a b c all most here size le = omega (arith, here, size, le)
+      shorter : (a b most : ℕ) → a + b ≤ most → a ≤ most
+      shorter a b most le = omega (arith, le)
 
 pub before_closed : (facts : VoteFacts) (bytes more : List ℕ) → first_is is_letter_or_digit bytes ≡ true
     → (is_open (map item_of (before_entries facts)) && begins_dash (bytes ++ more)) ≡ false
@@ -197,30 +176,29 @@ behind_closed facts rest =
     ∙ is_closed (in_list facts ++ entries_in footer) last rest (has_object facts.signature)
 
 -- the contents of the text
-pub made_contents : (at : ℕ) (facts : VoteFacts) (bytes rest : List ℕ) (stand : InVote facts bytes)
+made_contents : (facts : VoteFacts) (bytes rest : List ℕ) (stand : InVote facts bytes)
     → first_is is_letter_or_digit bytes ≡ true → IsMadeInRange facts bytes
-    → contents (at + max_vote) at nothing (made_text facts bytes ++ rest)
-    ≡ in_front (all_written at (map item_of (before_entries facts)))
-    (in_front (map (moved (certificate_place at facts)) stand.items)
-    (in_front (all_written (made_place at facts bytes) (map item_of (behind_entries facts)))
-    (contents (at + max_vote) (made_place at facts bytes + length (behind_text facts)) nothing rest)))
-made_contents at facts bytes rest stand first are =
-    let limit = at + max_vote in
+    → contents max_vote 0 nothing (made_text facts bytes ++ rest)
+    ≡ in_front (all_written 0 (map item_of (before_entries facts)))
+    (in_front (map (moved (length (before_text facts))) stand.items)
+    (in_front (all_written (made_place facts bytes) (map item_of (behind_entries facts)))
+    (contents max_vote (made_place facts bytes + length (behind_text facts)) nothing rest)))
+made_contents facts bytes rest stand first are =
+    let place = length (before_text facts) in
     let before = map item_of (before_entries facts) in
     let behind = map item_of (behind_entries facts) in
     let more = bytes ++ (behind_text facts ++ rest) in
-    let here = certificate_at at facts bytes are in
-    ap (λ (l : List ℕ). contents limit at nothing l)
+    let here : 0 + place ≡ place = omega arith in
+    ap (λ (l : List ℕ). contents max_vote 0 nothing l)
     (ap (λ (l : List ℕ). l ++ rest) (text_parts facts bytes)
     ∙ joined (before_text facts) bytes (behind_text facts) rest)
-    ∙ items_again limit at before more (before_may at facts bytes are)
+    ∙ items_again max_vote 0 before more (before_may facts bytes are)
     (before_closed facts bytes (behind_text facts ++ rest) first)
-    ∙ ap (λ (n : ℕ). in_front (all_written at before) (contents limit n nothing more)) (sym here)
-    ∙ ap (λ (c : Contents). in_front (all_written at before) c)
-    (stand.items_there limit (certificate_place at facts) (behind_text facts ++ rest) (bytes_fit at facts bytes are)
-    ∙ ap (λ (c : Contents). in_front (map (moved (certificate_place at facts)) stand.items) c)
-    (items_again limit (made_place at facts bytes) behind rest (behind_may at facts bytes are)
-    (behind_closed facts rest)))
+    ∙ ap (λ (n : ℕ). in_front (all_written 0 before) (contents max_vote n nothing more)) here
+    ∙ ap (λ (c : Contents). in_front (all_written 0 before) c)
+    (stand.items_there max_vote place (behind_text facts ++ rest) (bytes_fit facts bytes are)
+    ∙ ap (λ (c : Contents). in_front (map (moved place) stand.items) c)
+    (items_again max_vote (made_place facts bytes) behind rest (later_may facts bytes are) (behind_closed facts rest)))
   where
     joined : (a b c r : List ℕ) → (a ++ (b ++ c)) ++ r ≡ a ++ (b ++ (c ++ r))
     joined a b c r = simp append_assoc refl
@@ -233,18 +211,14 @@ read_as bytes document = with_facts bytes (finish kept_with none_kept document)
 abbrev answer : Kept → List ℕ → ℕ → Result (ReadVote × ℕ) ReadRefusal
 answer kept bytes end = Ok (vote_in (take end bytes) kept, end)
 
--- a made vote's text behind some bytes, and in front of others
-abbrev pub among : List ℕ → VoteFacts → List ℕ → List ℕ → List ℕ
-among front facts bytes rest = front ++ (made_text facts bytes ++ rest)
+-- what is kept of a made vote
+abbrev pub given_kept : (facts : VoteFacts) (bytes : List ℕ) → InVote facts bytes → Kept
+given_kept facts bytes stand =
+    made_kept facts bytes (given_first facts bytes stand ∷ given_taken facts bytes stand)
 
--- what is kept of it
-abbrev pub given_kept : (at : ℕ) (facts : VoteFacts) (bytes : List ℕ) → InVote facts bytes → Kept
-given_kept at facts bytes stand =
-    made_kept at facts bytes (given_first at facts bytes stand ∷ given_taken at facts bytes stand)
-
--- the vote that it is
+-- the vote that its text is
 abbrev pub made_vote : (facts : VoteFacts) (bytes : List ℕ) → InVote facts bytes → ReadVote
-made_vote facts bytes stand = vote_in (among [] facts bytes []) (given_kept 0 facts bytes stand)
+made_vote facts bytes stand = vote_in (made_text facts bytes) (given_kept facts bytes stand)
 
 -- it is read, whatever stands behind it, and ends where its text ends
 text_read : (facts : VoteFacts) (bytes rest : List ℕ) (stand : InVote facts bytes)
@@ -252,27 +226,25 @@ text_read : (facts : VoteFacts) (bytes rest : List ℕ) (stand : InVote facts by
     → vote_of (made_text facts bytes ++ rest) ≡ Ok (made_vote facts bytes stand, length (made_text facts bytes))
 text_read facts bytes rest stand first are =
     let text = made_text facts bytes in
-    let all = among [] facts bytes rest in
-    let limit = 0 + max_vote in
-    let after = contents limit (made_place 0 facts bytes + length (behind_text facts)) nothing rest in
-    let own : take (length text) (text ++ rest) ≡ text ++ [] = take-append_seam text rest ∙ sym (append-nil text) in
-    let end : 0 + length text ≡ length text = omega arith in
+    let all = text ++ rest in
+    let kept = given_kept facts bytes stand in
+    let after = contents max_vote (made_place facts bytes + length (behind_text facts)) nothing rest in
     ap (λ (c : Contents). read_as all (document_of vote_tables (length all) c))
-    (made_contents 0 facts bytes rest stand first are)
+    (made_contents facts bytes rest stand first are)
     ∙ ap (λ (d : Result VoteDocument ReadRefusal). read_as all d)
-    (document_read 0 facts bytes stand are.values (length all) after.fault after.items)
-    ∙ ap (λ (k : Kept). answer k all (end_from (made_place 0 facts bytes) facts))
-    (made_all_kept 0 facts bytes (given_first 0 facts bytes stand)
-    (given_taken 0 facts bytes stand) stand.opens are.values.entries)
-    ∙ ap (λ (n : ℕ). answer (given_kept 0 facts bytes stand) all n) (ends_at 0 facts bytes are)
-    ∙ ap (λ (n : ℕ). answer (given_kept 0 facts bytes stand) all n) end
-    ∙ ap (λ (l : List ℕ). Ok (vote_in l (given_kept 0 facts bytes stand), length text)) own
+    (document_read facts bytes stand are.values (length all) after.fault after.items)
+    ∙ ap (λ (k : Kept). answer k all (end_from (made_place facts bytes) facts))
+    (made_all_kept facts bytes (given_first facts bytes stand) (given_taken facts bytes stand) stand.opens
+    are.values.entries)
+    ∙ ap (λ (n : ℕ). answer kept all n) (ends_at facts bytes)
+    ∙ ap (λ (l : List ℕ). Ok (vote_in l kept, length text)) (take-append_seam text rest)
 
 -- and whatever stands before it
 pub made_read : (front : List ℕ) (facts : VoteFacts) (bytes rest : List ℕ) (stand : InVote facts bytes)
     → first_is is_letter_or_digit bytes ≡ true → IsMadeInRange facts bytes
-    → vote_from (length front) (among front facts bytes rest)
+    → vote_from (length front) (front ++ (made_text facts bytes ++ rest))
     ≡ Ok (made_vote facts bytes stand, length front + length (made_text facts bytes))
 made_read front facts bytes rest stand first are =
-    ap (λ (l : List ℕ). places.behind (length front) (vote_of l)) (drop-append_seam front (made_text facts bytes ++ rest))
+    let all = made_text facts bytes ++ rest in
+    ap (λ (l : List ℕ). places.behind (length front) (vote_of l)) (drop-append_seam front all)
     ∙ ap (places.behind (length front)) (text_read facts bytes rest stand first are)

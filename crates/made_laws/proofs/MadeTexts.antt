@@ -23,10 +23,10 @@ use Rattle.vote_laws.proofs.VoteSigned.{signature_text}
 
 -- ---- items that may be written may be so elsewhere
 
-pub writable_at : (limit other place there : ℕ) (items : List NewItem) → AreWritable limit place items
-    → there + length (items_text items) ≤ other → AreWritable other there items
-writable_at limit other place there [] are fits = tt
-writable_at limit other place there (item ∷ items) are fits =
+pub writable_at : (limit place there : ℕ) (items : List NewItem) → AreWritable limit place items
+    → there + length (items_text items) ≤ limit → AreWritable limit there items
+writable_at limit place there [] are fits = tt
+writable_at limit place there (item ∷ items) are fits =
     let one = are.0 in
     let size = length-append (item_text item) (items_text items) in (
       record {
@@ -36,7 +36,7 @@ writable_at limit other place there (item ∷ items) are fits =
         object = one.object;
         within = omega (arith, fits, size);
       },
-      writable_at limit other (place + length (item_text item)) (there + length (item_text item)) items are.1
+      writable_at limit (place + length (item_text item)) (there + length (item_text item)) items are.1
           (omega (arith, fits, size)),
     )
 

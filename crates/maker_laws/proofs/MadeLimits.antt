@@ -88,12 +88,12 @@ signer_short signature are =
     let second : length b ≡ 40 = length-hex_text signature.key_digest.0 ∙ ap (λ (n : ℕ). 2 * n) are.key_digest.count in
     by signature.algorithm a b first second
   where
-    both : (a b : List ℕ) → length a ≡ 40 → length b ≡ 40 → length (a ++ 32 ∷ b) ≡ 81
-    both a b first second = omega (arith, first, second, length-append a (32 ∷ b))
+    two_digests : (a b : List ℕ) → length a ≡ 40 → length b ≡ 40 → length (a ++ 32 ∷ b) ≡ 81
+    two_digests a b first second = omega (arith, first, second, length-append a (32 ∷ b))
 
     by : (algorithm : Algorithm) (a b : List ℕ) → length a ≡ 40 → length b ≡ 40
         → length (algorithm_text algorithm ++ a ++ 32 ∷ b) ≤ 1000000
-    by Sha1 a b first second = omega (arith, both a b first second)
+    by Sha1 a b first second = omega (arith, two_digests a b first second)
     by Sha256 a b first second =
         omega (arith, first, second, length-append (codes "sha256 " ++ a) (32 ∷ b), length-append (codes "sha256 ") a)
 

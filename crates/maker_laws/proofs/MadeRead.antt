@@ -194,7 +194,8 @@ certificate_given : (its : Basis) → IsBasis its
     → IsGiven vote_tables section.Certificate its.station.certificate_bytes its.station.certificate
 certificate_given its basis =
     let is = basis.station in
-    subst (λ (station : StationFacts). IsGiven vote_tables section.Certificate station.certificate_bytes station.certificate)
+    subst (λ (station : StationFacts).
+    IsGiven vote_tables section.Certificate station.certificate_bytes station.certificate)
     (sym is.same) (certificates_are_given is.input is.given is.used is.read)
 
 pub read_as_made : DescriptorsReadAreInRange → MadeVotesReadAsMade

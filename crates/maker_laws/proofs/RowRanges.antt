@@ -22,7 +22,7 @@ use Rattle.bandwidth_file.specs.Lines.{at, bw, last_value, line_fault, node_id, 
 use Rattle.bandwidth_file.specs.Relays.{identity_in, is_no_vote, relay_line, relay_said, row_said}
 use Rattle.bandwidth_file.specs.Files.{filled_line, is_separator, names_relay, row_in, rows_of, said_by, said_if}
 use Rattle.bandwidth_file.specs.Files.{section_of, time_said}
-use Rattle.range_laws.proofs.ReadSteps.{number_within}
+use Rattle.row_laws.proofs.ReadSteps.{number_within}
 
 -- a bandwidth of 32 bits
 abbrev pub IsKb : ℕ → Type 0
@@ -84,9 +84,11 @@ said_is : (fault : Option BandFault) (here : Section) (place : ℕ) (text : List
 said_is (Some fault) here place text = tt
 said_is None here place text = blank_is (is_blank_line text) (filled_line here place text) (filled_is here place text)
 
-one_more : (row : Option Row) (rows : List Row) → IfSome row IsRow → All IsRow rows → All IsRow (cons_option row rows)
-one_more None rows is all = all
-one_more (Some row) rows is all = All-cons IsRow row rows is all
+-- rows with one more in front, where there is one
+row_if_first : (row : Option Row) (rows : List Row) → IfSome row IsRow → All IsRow rows
+    → All IsRow (cons_option row rows)
+row_if_first None rows is all = all
+row_if_first (Some row) rows is all = All-cons IsRow row rows is all
 
 -- the row of a line behind others
 abbrev row_behind : List Line → Line → Option Row
@@ -95,7 +97,7 @@ row_behind before line = row_in (said_by before line)
 rows_behind : (before rest : List Line) → All IsRow (gathered_behind row_behind before rest)
 rows_behind before [] = All-nil IsRow
 rows_behind before (line ∷ rest) =
-    one_more (row_behind before line) (gathered_behind row_behind (before ++ line ∷ []) rest)
+    row_if_first (row_behind before line) (gathered_behind row_behind (before ++ line ∷ []) rest)
     (said_is (line_fault (place_of before) line) (section_of before) (place_of before) line.text)
     (rows_behind (before ++ line ∷ []) rest)
 

@@ -61,19 +61,20 @@ judged_is_at (x ∷ ds) (y ∷ ks) (z ∷ rs) (w ∷ fs) zero d lt = (refl, refl
 judged_is_at (x ∷ ds) (y ∷ ks) (z ∷ rs) (w ∷ fs) (suc k) d lt = judged_is_at ds ks rs fs k d (omega (arith, lt))
 
 -- what stands at a place is the element there
-there : {X : Type 0} (xs : List X) (k : ℕ) (x d : X) → slice_get xs k ≡ Some x → (k < length xs) × (get_or xs k d ≡ x)
-there [] k x d is = absurd (cc is)
-there (y ∷ xs) zero x d is = (omega arith, cc is)
-there (y ∷ xs) (suc k) x d is =
-    let later = there xs k x d is in
+element_there : {X : Type 0} (xs : List X) (k : ℕ) (x d : X) → slice_get xs k ≡ Some x
+    → (k < length xs) × (get_or xs k d ≡ x)
+element_there [] k x d is = absurd (cc is)
+element_there (y ∷ xs) zero x d is = (omega arith, cc is)
+element_there (y ∷ xs) (suc k) x d is =
+    let later = element_there xs k x d is in
     (omega (arith, later.0), later.1)
 
 -- descriptors of one relay stand at one place
 one_place : (ds : List Descriptor) (i j : ℕ) (a b : Descriptor) → DescriptorsAscend ds → slice_get ds i ≡ Some a
     → slice_get ds j ≡ Some b → same_identity a.identity b.identity ≡ true → i ≡ j
 one_place ds i j a b up at_i at_j same =
-    let x = there ds i a a at_i in
-    let y = there ds j b a at_j in
+    let x = element_there ds i a a at_i in
+    let y = element_there ds j b a at_j in
     ⊎_elim (λ is. is) (λ rest. ⊎_elim
     (λ (before : i < j).
     let is = subst (λ (c : Descriptor). identity_below a.identity c.identity ≡ true) y.1

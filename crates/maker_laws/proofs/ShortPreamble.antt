@@ -43,7 +43,8 @@ module _ (its : Basis) (rulings : List Ruling) (signature : List ℕ) where
 
   kinds : AreShortLines (kind_items facts)
   kinds =
-      one_line the.NetworkStatusVersion (codes "3") (omega arith) & one_line the.VoteStatus (codes "vote") (omega arith)
+      one_line the.NetworkStatusVersion (codes "3") (omega arith)
+      & one_line the.VoteStatus (codes "vote") (omega arith)
       & one_line the.ConsensusMethods (numbers_text made_methods) (omega (arith, methods_short space))
 
   one_time : (keyword : Keyword) (moment : ℕ) → AreShortLines (timed keyword moment ∷ [])

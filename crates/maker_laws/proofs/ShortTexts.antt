@@ -100,7 +100,8 @@ nickname_short name is =
     omega (arith, both)
 
 pub relay_short : (entry : EntryFacts)
-    → IsRelayInRange entry.nickname entry.identity entry.digest entry.ip entry.or_port entry.dir_port → length (line_of entry) ≤ 1000000
+    → IsRelayInRange entry.nickname entry.identity entry.digest entry.ip entry.or_port entry.dir_port
+    → length (line_of entry) ≤ 1000000
 relay_short entry are =
     let m = moment_of entry.published in
     let P : List ℕ → Type 0 = IsAtMost 65536 in

@@ -35,8 +35,8 @@ pub record IsToldStation (station : StationFacts) : Type 0 where
 abbrev pub ToldStationsAreStations : Type 0
 ToldStationsAreStations = (station : StationFacts) → IsToldStation station → IsStation station
 
--- The station is such a one and has a schedule; the descriptors are those of a pool, each of which was read; the moment
--- of the vote, and that until which the consensus is to be valid, are moments.
+-- The station is such a one and has a schedule; the descriptors are those of a pool, each of which was read; the
+-- moment of the vote, and that until which the consensus is to be valid, are moments.
 pub record IsToldBasis (its : Basis) : Type 0 where
   pub station : IsToldStation its.station
   pub schedule : IsSchedule (schedule_in its.station)

@@ -12,8 +12,8 @@ use Rattle.vote_schedule.specs.Moments.{valid_until}
 use Rattle.vote_schedule.specs.Schedules.{IsSchedule}
 use Rattle.vote_maker.specs.Made.{Basis, schedule_in}
 
--- What a station is given was read of an input, but for what was measured of relays, which a bandwidth file may tell in
--- its place and which is in range.
+-- What a station is given was read of an input, but for what was measured of relays, which a bandwidth file may tell
+-- in its place and which is in range.
 pub record IsStation (station : StationFacts) : Type 0 where
   pub input : List ℕ
   pub bytes : IsBytes input
@@ -35,8 +35,8 @@ pub record IsDescriptor (d : Descriptor) : Type 0 where
   pub used : ℕ
   pub read : descriptor_of input ≡ Ok (d, used)
 
--- The station is such a one and has a schedule; the descriptors are those of a pool, each of which was read; the moment
--- of the vote, and that until which the consensus is to be valid, are moments.
+-- The station is such a one and has a schedule; the descriptors are those of a pool, each of which was read; the
+-- moment of the vote, and that until which the consensus is to be valid, are moments.
 pub record IsBasis (its : Basis) : Type 0 where
   pub station : IsStation its.station
   pub schedule : IsSchedule (schedule_in its.station)

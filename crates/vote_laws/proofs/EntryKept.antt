@@ -174,12 +174,12 @@ others_behind : (entries : List KeptEntry) (place : ℕ) (e : EntryFacts) (list 
     → All (λ (later : EntryFacts). identity_below e.identity later.identity ≡ true) list
     → All (ComesBehind (entries ++ entry_of (taken_in place (entry_section e)) ∷ [])) list
 others_behind entries place e list behind above =
-    λ k d within. one_more (get_or list k d) (behind k d within) (above k d within)
+    λ k d within. later_behind (get_or list k d) (behind k d within) (above k d within)
   where
-    one_more : (later : EntryFacts) → is_after entries later.identity ≡ true
+    later_behind : (later : EntryFacts) → is_after entries later.identity ≡ true
         → identity_below e.identity later.identity ≡ true
         → is_after (entries ++ entry_of (taken_in place (entry_section e)) ∷ []) later.identity ≡ true
-    one_more later before below =
+    later_behind later before below =
         let one = entry_of (taken_in place (entry_section e)) in
         list_all-append (λ (other : KeptEntry). identity_below other.relay.identity later.identity) entries (one ∷ [])
         ∙ and_from (is_after entries later.identity) (is_after (one ∷ []) later.identity) before

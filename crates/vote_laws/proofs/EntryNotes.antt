@@ -1,6 +1,6 @@
 -- What a vote remembers of its entries: how many there are, the last identity, and the Ed25519 keys.
-use Rattle.std.proofs.Common.{◌≡◌, ℕ, suc, ◌+◌, ◌<◌, ◌≤◌, Bool, true, false, List, [], ◌∷◌, ◌++◌, length, Option, Some, None, Result}
-use Rattle.std.proofs.Common.{Ok, Err, refl, sym, ap, subst, ◌∙◌, arith}
+use Rattle.std.proofs.Common.{◌≡◌, ℕ, suc, ◌+◌, ◌<◌, ◌≤◌, Bool, true, false, List, [], ◌∷◌, ◌++◌, length, Option, Some}
+use Rattle.std.proofs.Common.{None, Result, Ok, Err, refl, sym, ap, subst, ◌∙◌, arith}
 use Rattle.std.specs.Prelude.{All, AllPairs, map, if◌then◌else◌}
 use Rattle.std.specs.Cmp.Lexicographic.{slice_cmp, texts_ties}
 use Rattle.std.specs.FinSet as set
@@ -40,8 +40,8 @@ use Rattle.vote_frame.specs.declared.frame.VoteSection.TheVariants as section
 use Rattle.vote_frame.specs.declared.frame.VoteValue.{VoteValue}
 use Rattle.vote_laws.specs.Again.{AreEntriesInRange, DifferInKey, IsEntryInRange}
 use Rattle.vote_laws.proofs.EntryItems.{micro_entry, relay_entry, relay_of_entry, suits_relay}
-use Rattle.vote_laws.proofs.EntryRows.{ed_if, entry_section, entry_written, front_rows, front_said, last_rows, next_follows}
-use Rattle.vote_laws.proofs.EntryRows.{entry_parts, relay_row, taken_parts}
+use Rattle.vote_laws.proofs.EntryRows.{ed_if, entry_parts, entry_section, entry_written, front_rows, front_said}
+use Rattle.vote_laws.proofs.EntryRows.{last_rows, next_follows, relay_row, taken_parts}
 use Rattle.vote_laws.proofs.Heard.{forgotten, is_quiet, is_quiet_kind, kinds_pass}
 
 -- ---- what is remembered after an entry
@@ -78,7 +78,8 @@ IsFree listed (opinion.Key key) = set.contains listed.keys key ≡ false
 IsFree listed _ = Unit {0}
 
 notes_relay : (across : Across) (listed : Listed) (place : ℕ) (e : EntryFacts) → is_next listed.last e.identity ≡ true
-    → vote_tables.note (knowing across listed) (taken_at place (relay_entry e)) ≡ Ok (knowing across (after_relay listed e))
+    → vote_tables.note (knowing across listed) (taken_at place (relay_entry e))
+    ≡ Ok (knowing across (after_relay listed e))
 notes_relay across listed place e is =
     let no : Result Listed FrameFault = Err (fault_at place Unsorted) in
     ap (λ b. with_listed (knowing across listed) (if b then Ok (after_relay listed e) else no)) is
@@ -126,7 +127,8 @@ notes_others across listed place e are free =
 
 notes_entry : (across : Across) (listed : Listed) (place : ℕ) (e : EntryFacts) → IsEntryInRange e
     → is_next listed.last e.identity ≡ true → IsFree listed e.ed
-    → Notes vote_tables (knowing across listed) (taken_in place (entry_section e)) (knowing across (entry_listed listed e))
+    → Notes vote_tables (knowing across listed) (taken_in place (entry_section e))
+    (knowing across (entry_listed listed e))
 notes_entry across listed place e are is free = (
   knowing across (after_relay listed e),
   notes_relay across listed place e is,

@@ -104,7 +104,8 @@ certificate_quiet cert.Key item v is =
     by_next (object_of (has_words item.object (codes "RSA PUBLIC KEY")) item) (λ lines. value.Object lines) v
     (λ a. refl) is
 certificate_quiet cert.Crosscert item v is =
-    by_next (object_of (has_words item.object (codes "ID SIGNATURE") || has_words item.object (codes "SIGNATURE")) item)
+    by_next
+    (object_of (has_words item.object (codes "ID SIGNATURE") || has_words item.object (codes "SIGNATURE")) item)
     (λ lines. value.Object lines) v (λ a. refl) is
 certificate_quiet cert.Certification item v is =
     by_next (object_of (has_words item.object (codes "SIGNATURE")) item) (λ lines. value.Object lines) v (λ a. refl) is

@@ -1,9 +1,8 @@
 -- A vote that was written is read again.
-use Rattle.std.proofs.Common.{◌≡◌, ℕ, ◌+◌, ◌≤◌, false, None, List, [], ◌∷◌, ◌++◌, length, take, drop, refl, sym, ap}
-use Rattle.std.proofs.Common.{subst}
-use Rattle.std.proofs.Common.{◌∙◌, append_assoc, arith}
+use Rattle.std.proofs.Common.{◌≡◌, ℕ, false, None, List, [], ◌∷◌, ◌++◌, length, take, drop, refl, sym, ap, subst}
+use Rattle.std.proofs.Common.{◌∙◌, append_assoc, append-nil}
 use Rattle.std.specs.Prelude.{◌&&◌, map}
-use Rattle.std.proofs.lemmas.List.{length-append, map-append}
+use Rattle.std.proofs.lemmas.List.{map-append}
 use Rattle.item_terms.specs.Words.{begins_dash}
 use Rattle.dirdoc_grammar.specs.Writing.{AreWritable, NewItem, is_open, items_text}
 use Rattle.frame_terms.specs.Keywords.{same}
@@ -18,13 +17,12 @@ use Rattle.frame_laws.proofs.RowValues.{moment_said, text_if_said}
 use Rattle.frame_laws.proofs.SaidRows.{entries_of}
 use Rattle.frame_laws.proofs.Sections.{entries_in, section_is_read}
 use Rattle.frame_laws.proofs.StandingParts.{between_stands}
-use Rattle.frame_laws.proofs.WrittenRows.{ends_behind, from_place, stand_behind, text_of_entries}
+use Rattle.frame_laws.proofs.WrittenRows.{ends_with_text, stand_written, text_of_entries}
 use Rattle.authority_certs.specs.Texts.{cert_text}
 use Rattle.certificate_laws.proofs.CertRows.{certificate_rows, certificate_same, certificate_version, certification}
 use Rattle.certificate_laws.proofs.CertSays.{certificate_says, whole_is}
 use Rattle.vote_terms.specs.declared.facts.VoteFacts.{VoteFacts}
 use Rattle.vote_text.specs.Texts.{vote_text}
-use Rattle.vote_doc.specs.Facts.{facts_of, vote_in}
 use Rattle.vote_doc.specs.Lists.{lists_in, vote_lists}
 use Rattle.random_lines.specs.declared.line.RandomLine.TheVariants as line
 use Rattle.vote_doc.specs.Reading.{max_vote}
@@ -40,31 +38,29 @@ use Rattle.group_laws.proofs.ListRows.{protocols_back, versions_back}
 use Rattle.vote_laws.proofs.VoteLists.{params_back}
 use Rattle.vote_laws.proofs.VotePlaces.{authority_place, certificate_place, entries_place, footer_place, vote_end}
 use Rattle.vote_laws.proofs.VotePlaces.{in_preamble, vote_kept}
-use Rattle.vote_laws.proofs.VoteRead.{among, begins_at, closed, text_vote, used_of, vote_read}
+use Rattle.vote_laws.proofs.VoteRead.{closed, text_vote, used_of, vote_read}
 use Rattle.vote_laws.proofs.VoteRows.{authority, authority_written, certificate_row, footer, footer_ended}
 use Rattle.vote_laws.proofs.VoteRows.{has_certificate, preamble, preamble_written, signature_row}
 use Rattle.vote_laws.proofs.VoteRandoms.{kept_random, random_said}
 use Rattle.vote_laws.proofs.VoteSame.{footer_entries, in_cert, in_list, vote_entries, vote_same}
-use Rattle.vote_laws.proofs.VoteSigned.{signed_is}
+use Rattle.vote_laws.proofs.VoteSigned.{begins_at, from_first, signed_is}
 use Rattle.vote_laws.proofs.VoteSays.{delays_said, flags_said, methods_said, signature_said, source_said}
 
 -- the items of a vote stand in its text
-all_stand : (front : List ℕ) (facts : VoteFacts) (rest : List ℕ) → IsInRange facts
-    → Stand (length front + max_vote) (among front facts rest) (length front) (vote_entries facts)
-all_stand front facts rest are =
+all_stand : (facts : VoteFacts) → IsInRange facts → Stand max_vote (vote_text facts) 0 (vote_entries facts)
+all_stand facts are =
     let same_items = vote_same facts in
-    subst (λ (l : List ℕ). Stand (length front + max_vote) (front ++ (l ++ rest)) (length front) (vote_entries facts))
-    (ap items_text (sym same_items))
-    (stand_behind front max_vote (vote_entries facts) rest
+    subst (λ (l : List ℕ). Stand max_vote l 0 (vote_entries facts))
+    (append-nil (text_of_entries (vote_entries facts)) ∙ ap items_text (sym same_items))
+    (stand_written max_vote (vote_entries facts) []
     (subst (λ (l : List NewItem). AreWritable max_vote 0 l) same_items are.items)
-    (subst (λ (l : List NewItem). (is_open l && begins_dash rest) ≡ false) same_items (closed facts rest)))
+    (subst (λ (l : List NewItem). (is_open l && begins_dash []) ≡ false) same_items (closed facts [])))
 
 -- the certificate's text stands in the vote's where its section begins
-certificate_stands : (front : List ℕ) (facts : VoteFacts) (rest : List ℕ)
-    → take (length (cert_text facts.certificate)) (drop (certificate_place (length front) facts) (among front facts rest))
+certificate_stands : (facts : VoteFacts)
+    → take (length (cert_text facts.certificate)) (drop (certificate_place facts) (vote_text facts))
     ≡ cert_text facts.certificate
-certificate_stands front facts rest =
-    let at = length front in
+certificate_stands facts =
     let p = entries_in (preamble facts) in
     let a = entries_in (authority facts) in
     let c = in_cert facts in
@@ -79,54 +75,47 @@ certificate_stands front facts rest =
     (ap items_text (map-append item_of c f) ∙ sections (map item_of c) (map item_of f)
     ∙ ap (λ (l : List NewItem). items_text l ++ text_of_entries f)
     (sym (certificate_same VoteValue facts.certificate))) in
-    let place : certificate_place at facts ≡ length (front ++ before) =
-    sym (after_all-append at p a) ∙ ends_behind at (p ++ a) ∙ sym (length-append front before) in
-    ap (λ (n : ℕ). take (length cert) (drop n (among front facts rest))) place
-    ∙ ap (λ (l : List ℕ). take (length cert) (drop (length (front ++ before)) (front ++ (l ++ rest)))) shape
-    ∙ ap (λ (l : List ℕ). take (length cert) (drop (length (front ++ before)) l))
-    (moved front before cert (text_of_entries f) rest)
-    ∙ between_stands (front ++ before) cert (text_of_entries f ++ rest)
-  where
-    moved : (a b c d e : List ℕ) → a ++ ((b ++ (c ++ d)) ++ e) ≡ (a ++ b) ++ (c ++ (d ++ e))
-    moved a b c d e = simp append_assoc refl
+    let place : certificate_place facts ≡ length before = sym (after_all-append 0 p a) ∙ ends_with_text (p ++ a) in
+    ap (λ (n : ℕ). take (length cert) (drop n (vote_text facts))) place
+    ∙ ap (λ (l : List ℕ). take (length cert) (drop (length before) l)) shape
+    ∙ between_stands before cert (text_of_entries f)
 
 -- what is kept says what the vote says
-kept_says : (front : List ℕ) (facts : VoteFacts) (rest : List ℕ) → IsInRange facts
-    → facts_of (among front facts rest) (vote_kept (length front) facts) ≡ as_read facts
+kept_says : (facts : VoteFacts) → IsInRange facts → (text_vote facts).says ≡ as_read facts
 unfolding same
-kept_says front facts rest are =
-    let at = length front in
-    let limit = at + max_vote in
-    let text = among front facts rest in
+kept_says facts are =
+    let text = vote_text facts in
     let p = entries_in (preamble facts) in
     let a = entries_in (authority facts) in
     let c = in_cert facts in
     let e = in_list facts in
     let f = footer_entries facts in
     let one : VoteEntry = certificate_version in
-    let at_a = authority_place at facts in
-    let from_p = both_stand limit text at p (a ++ (c ++ (e ++ f))) (all_stand front facts rest are) in
-    let from_a = both_stand limit text at_a a (c ++ (e ++ f)) from_p.back in
-    let from_c = both_stand limit text (certificate_place at facts) c (e ++ f) from_a.back in
-    let from_e = both_stand limit text (entries_place at facts) e f from_c.back in
+    let at_a = authority_place facts in
+    let at_c = certificate_place facts in
+    let at_e = entries_place facts in
+    let from_p = both_stand max_vote text 0 p (a ++ (c ++ (e ++ f))) (all_stand facts are) in
+    let from_a = both_stand max_vote text at_a a (c ++ (e ++ f)) from_p.back in
+    let from_c = both_stand max_vote text at_c c (e ++ f) from_a.back in
+    let from_e = both_stand max_vote text at_e e f from_c.back in
     let others : List VoteEntry =
     entries_of (certificate_rows kind.Certificate facts.certificate) ++ certification facts.certificate ∷ [] in
     let more = others ++ (e ++ f) in
-    let to_one = (both_stand limit text at_a (entries_to (authority facts) one) more
-    (subst (λ (l : List VoteEntry). Stand limit text at_a l)
+    let to_one = (both_stand max_vote text at_a (entries_to (authority facts) one) more
+    (subst (λ (l : List VoteEntry). Stand max_vote text at_a l)
     (sym (append_assoc a (one ∷ []) more)) from_p.back)).front in
     let ended = footer_ended facts.signature are.signature in
     let preamble_read =
-    section_is_read vote_tables limit text at (preamble facts) [] (preamble_written facts (values_in facts are))
+    section_is_read vote_tables max_vote text 0 (preamble facts) [] (preamble_written facts (values_in facts are))
     from_p.front in
     let authority_read =
     section_to_is_read vote_tables at_a (authority facts) certificate_row one
-    (authority_written facts (values_in facts are)) refl limit text to_one in
+    (authority_written facts (values_in facts are)) refl max_vote text to_one in
     let footer_read =
-    section_to_is_read vote_tables (footer_place at facts) footer signature_row
-    (signature_entry facts.signature) ended.written refl limit text from_e.back in
+    section_to_is_read vote_tables (footer_place facts) footer signature_row
+    (signature_entry facts.signature) ended.written refl max_vote text from_e.back in
     let l = facts.lists in
-    let lists : vote_lists text (lists_in (in_preamble at facts)) ≡ l =
+    let lists : vote_lists text (lists_in (in_preamble facts)) ≡ l =
     λ i. record {
       client_versions =
           versions_back list_kinds the.ClientVersions l.client_versions are.lists.client_versions
@@ -151,9 +140,8 @@ kept_says front facts rest are =
     let delays = delays_said facts.vote_seconds facts.dist_seconds (row_read the.VotingDelay preamble_read refl) in
     let source = source_said facts (row_read the.DirSource authority_read refl) in
     let certificate =
-    certificate_says vote_tables Certificate kind.Certificate has_certificate
-    (certificate_place at facts) facts.certificate are.certificate.says
-    limit text from_c.front (certificate_stands front facts rest) in
+    certificate_says vote_tables Certificate kind.Certificate has_certificate at_c facts.certificate
+    are.certificate.says max_vote text from_c.front (certificate_stands facts) in
     λ i. record {
       methods = methods_said facts.methods are.methods (row_read the.ConsensusMethods preamble_read refl) i;
       published = moment_said _ facts.published are.published (row_read the.Published preamble_read refl) i;
@@ -181,53 +169,31 @@ kept_says front facts rest are =
           (random_said line.Current facts.random_current
           (row_read the.SharedRandCurrentValue authority_read refl)) i;
       certificate = certificate i;
-      entries =
-          entries_say limit text (entries_place at facts) facts.entries are.entries.each from_e.front i;
+      entries = entries_say max_vote text at_e facts.entries are.entries.each from_e.front i;
       signature = signature_said facts.signature (row_read the.DirectorySignature footer_read refl) i;
     }
 
 -- ---- its bytes
 
-ends_at : (at : ℕ) (facts : VoteFacts) → (vote_kept at facts).head.end ≡ vote_end at facts
+ends_at : (facts : VoteFacts) → (vote_kept facts).head.end ≡ vote_end facts
 unfolding same
-ends_at at facts = refl
+ends_at facts = refl
 
 -- the vote's bytes are its text
-kept_whole : (front : List ℕ) (facts : VoteFacts) (rest : List ℕ)
-    → (vote_in (among front facts rest) (vote_kept (length front) facts)).whole ≡ vote_text facts
-kept_whole front facts rest =
-    let at = length front in
-    let head = (vote_kept at facts).head in
-    from_place (among front facts rest) head.begin head.end at (vote_text facts) (begins_at at facts)
-    (ends_at at facts ∙ used_of at facts) (between_stands front (vote_text facts) rest)
-
--- and are no more than a vote may have
-vote_fits : (front : List ℕ) (facts : VoteFacts) (rest : List ℕ) → IsInRange facts
-    → vote_end (length front) facts ≤ length front + max_vote
-vote_fits front facts rest are =
-    let at = length front in
-    let limit = at + max_vote in
-    let p = entries_in (preamble facts) in
-    let a = entries_in (authority facts) in
-    let c = in_cert facts in
-    let e = in_list facts in
-    let f = footer_entries facts in
-    let text = among front facts rest in
-    let from_a = both_stand limit text at p (a ++ (c ++ (e ++ f))) (all_stand front facts rest are) in
-    let from_c = both_stand limit text (authority_place at facts) a (c ++ (e ++ f)) from_a.back in
-    let from_e = both_stand limit text (certificate_place at facts) c (e ++ f) from_c.back in
-    let from_f = both_stand limit text (entries_place at facts) e f from_e.back in
-    from_f.back.writable.1.0.within
+kept_whole : (facts : VoteFacts) → (text_vote facts).whole ≡ vote_text facts
+kept_whole facts =
+    let head = (vote_kept facts).head in
+    from_first (vote_text facts) (vote_text facts) [] head.begin head.end (begins_at facts)
+    (ends_at facts ∙ used_of facts) (sym (append-nil (vote_text facts)))
 
 pub votes_again : VotesAreReadAgain
 votes_again front facts rest below are =
     let back : IsReadBack facts (text_vote facts) = record {
-      says = kept_says [] facts [] are;
-      whole = kept_whole [] facts [];
-      signed = signed_is [] facts [] (omega arith) are (vote_fits [] facts [] are);
+      says = kept_says facts are;
+      whole = kept_whole facts;
+      signed = signed_is facts are;
       certificate_bytes =
-          whole_is vote_tables Certificate kind.Certificate has_certificate
-          (certificate_place 0 facts) facts.certificate are.certificate.says
-          (among [] facts []) (certificate_stands [] facts []);
+          whole_is vote_tables Certificate kind.Certificate has_certificate (certificate_place facts)
+          facts.certificate are.certificate.says (vote_text facts) (certificate_stands facts);
     } in
     (text_vote facts, vote_read front facts rest are, back)

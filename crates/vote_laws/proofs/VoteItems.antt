@@ -101,7 +101,8 @@ pub has_flags : Reads vote_tables kind.KnownFlags (Some limit.KnownFlags) (λ ac
 has_flags = record { known = λ item. refl; values = λ across item. refl }
 
 -- the one signature of a vote
-pub has_signature : Reads vote_tables kind.Signature None (λ across. signature_of) (λ found. value.Own (own.Signature found))
+pub has_signature : Reads vote_tables kind.Signature None (λ across. signature_of)
+    (λ found. value.Own (own.Signature found))
 has_signature = record { known = λ item. refl; values = λ across item. refl }
 
 -- the kinds of its lists

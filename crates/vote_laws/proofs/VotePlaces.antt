@@ -1,4 +1,4 @@
--- Where the sections of a vote begin that was written from a place on, what is taken of them, and what is kept.
+-- Where the sections of a vote begin that was written, what is taken of them, and what is kept.
 use Rattle.std.proofs.Common.{◌≡◌, ℕ, true, List, [], ◌∷◌, ◌++◌, refl}
 use Rattle.std.specs.Prelude.{map}
 use Rattle.std.specs.List.{fold, list_all}
@@ -41,14 +41,14 @@ VoteDocument = Document VoteSection (Value VoteValue)
 
 -- ---- where its sections begin, and what is taken of them
 
-abbrev pub authority_place : ℕ → VoteFacts → ℕ
-authority_place at facts = end_of at (preamble facts)
+abbrev pub authority_place : VoteFacts → ℕ
+authority_place facts = end_of 0 (preamble facts)
 
-abbrev pub certificate_place : ℕ → VoteFacts → ℕ
-certificate_place at facts = end_of (authority_place at facts) (authority facts)
+abbrev pub certificate_place : VoteFacts → ℕ
+certificate_place facts = end_of (authority_place facts) (authority facts)
 
-abbrev pub entries_place : ℕ → VoteFacts → ℕ
-entries_place at facts = after_all (certificate_place at facts) (in_cert facts)
+abbrev pub entries_place : VoteFacts → ℕ
+entries_place facts = after_all (certificate_place facts) (in_cert facts)
 
 -- its footer behind entries that begin at a place, and where it ends
 abbrev pub footer_from : ℕ → VoteFacts → ℕ
@@ -57,28 +57,28 @@ footer_from at_entries facts = after_all at_entries (in_list facts)
 abbrev pub end_from : ℕ → VoteFacts → ℕ
 end_from at_entries facts = end_with (footer_from at_entries facts) footer (signature_entry facts.signature)
 
-abbrev pub footer_place : ℕ → VoteFacts → ℕ
-footer_place at facts = footer_from (entries_place at facts) facts
+abbrev pub footer_place : VoteFacts → ℕ
+footer_place facts = footer_from (entries_place facts) facts
 
 -- where it ends
-abbrev pub vote_end : ℕ → VoteFacts → ℕ
-vote_end at facts = end_from (entries_place at facts) facts
+abbrev pub vote_end : VoteFacts → ℕ
+vote_end facts = end_from (entries_place facts) facts
 
-abbrev pub in_preamble : ℕ → VoteFacts → List VoteTaken
-in_preamble at facts = taken_in at (preamble facts)
+abbrev pub in_preamble : VoteFacts → List VoteTaken
+in_preamble facts = taken_in 0 (preamble facts)
 
 -- the certificate's first item is one of the authority's too
-abbrev pub in_authority : ℕ → VoteFacts → List VoteTaken
-in_authority at facts = taken_to (authority_place at facts) (authority facts) certificate_version
+abbrev pub in_authority : VoteFacts → List VoteTaken
+in_authority facts = taken_to (authority_place facts) (authority facts) certificate_version
 
-abbrev pub in_certificate : ℕ → VoteFacts → List VoteTaken
-in_certificate at facts = cert_taken (certificate_place at facts) facts.certificate
+abbrev pub in_certificate : VoteFacts → List VoteTaken
+in_certificate facts = cert_taken (certificate_place facts) facts.certificate
 
 abbrev pub footer_taken : ℕ → VoteFacts → List VoteTaken
 footer_taken at_entries facts = taken_to (footer_from at_entries facts) footer (signature_entry facts.signature)
 
-abbrev pub in_footer : ℕ → VoteFacts → List VoteTaken
-in_footer at facts = footer_taken (entries_place at facts) facts
+abbrev pub in_footer : VoteFacts → List VoteTaken
+in_footer facts = footer_taken (entries_place facts) facts
 
 -- ---- what is read
 
@@ -87,13 +87,13 @@ abbrev pub sections_of : VoteFacts → List VotePart
 sections_of facts = map entry_section facts.entries
 
 -- the document that a vote is
-abbrev pub vote_document : ℕ → VoteFacts → VoteDocument
-vote_document at facts = record {
+abbrev pub vote_document : VoteFacts → VoteDocument
+vote_document facts = record {
   groups =
-      group Preamble (in_preamble at facts) ∷ group Certificate (in_certificate at facts)
-      ∷ group Authority (in_authority at facts)
-      ∷ (groups_in (entries_place at facts) (sections_of facts) ++ group Footer (in_footer at facts) ∷ []);
-  used = vote_end at facts;
+      group Preamble (in_preamble facts) ∷ group Certificate (in_certificate facts)
+      ∷ group Authority (in_authority facts)
+      ∷ (groups_in (entries_place facts) (sections_of facts) ++ group Footer (in_footer facts) ∷ []);
+  used = vote_end facts;
 }
 
 -- ---- nothing is remembered of the items outside its entries
@@ -113,25 +113,20 @@ section_to_quiet section last quiet is = both_pass is_quiet (entries_in section)
 
 -- ---- what is kept of it
 
-abbrev pub vote_head : ℕ → VoteFacts → Head
-vote_head at facts =
-    let authority_kept = with_certificate (with_preamble no_head (in_preamble at facts)) (in_certificate at facts) in
-    with_footer (with_authority authority_kept (in_authority at facts)) (in_footer at facts)
+-- what is kept before its footer
+abbrev head_before : VoteFacts → Head
+head_before facts =
+    with_authority (with_certificate (with_preamble no_head (in_preamble facts)) (in_certificate facts))
+    (in_authority facts)
 
-abbrev pub vote_kept : ℕ → VoteFacts → Kept
-vote_kept at facts = record { head = vote_head at facts; entries = kept_list (entries_place at facts) facts.entries }
-
--- what is kept before its entries
-abbrev kept_before : ℕ → VoteFacts → Kept
-kept_before at facts = record {
-  head =
-      with_authority (with_certificate (with_preamble no_head (in_preamble at facts)) (in_certificate at facts))
-      (in_authority at facts);
-  entries = [];
+abbrev pub vote_kept : VoteFacts → Kept
+vote_kept facts = record {
+  head = with_footer (head_before facts) (in_footer facts);
+  entries = kept_list (entries_place facts) facts.entries;
 }
 
-pub all_kept : (at : ℕ) (facts : VoteFacts) → IsInRange facts
-    → fold keeps none_kept (vote_document at facts).groups ≡ vote_kept at facts
-all_kept at facts are =
-    entries_kept (kept_before at facts) (entries_place at facts) facts.entries (group Footer (in_footer at facts) ∷ [])
-    (λ k d within. refl) are.entries.ascending
+pub all_kept : (facts : VoteFacts) → IsInRange facts
+    → fold keeps none_kept (vote_document facts).groups ≡ vote_kept facts
+all_kept facts are =
+    entries_kept (record { head = head_before facts; entries = [] }) (entries_place facts) facts.entries
+    (group Footer (in_footer facts) ∷ []) (λ k d within. refl) are.entries.ascending

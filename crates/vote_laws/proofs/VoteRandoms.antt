@@ -1,11 +1,10 @@
 -- The shared random values of a vote, row by row: each is read as it was written, and remembered.
-use Rattle.std.proofs.Common.{◌≡◌, ℕ, false, List, [], ◌∷◌, ◌++◌, Option, Some, None, Result, Ok, refl, ap, ◌∙◌}
+use Rattle.std.proofs.Common.{◌≡◌, ℕ, List, [], ◌∷◌, ◌++◌, Option, Some, None, Result, Ok, refl, ap, ◌∙◌}
 use Rattle.std.specs.Prelude.{IfSome, decimal, is_some, map, option_map}
 use Rattle.std.specs.Option.{option_or}
-use Rattle.dirdoc_grammar.specs.Writing.{IsLineRest, NewItem}
+use Rattle.dirdoc_grammar.specs.Writing.{IsLineRest}
 use Rattle.frame_terms.specs.Rows.{row}
 use Rattle.frame_terms.specs.declared.document.Taken.{Taken}
-use Rattle.frame_terms.specs.declared.keyword.Keyword.TheVariants as the
 use Rattle.frame_terms.specs.declared.row.Count.TheVariants.{Optional}
 use Rattle.frame_terms.specs.declared.row.Row.{Row}
 use Rattle.frame_values.specs.Items.{item_if}
@@ -13,7 +12,7 @@ use Rattle.frame_values.specs.Values.{item_at}
 use Rattle.frame_values.specs.declared.values.Value.{Value}
 use Rattle.frame_values.specs.declared.values.Value.TheVariants as value
 use Rattle.frame_laws.proofs.Entries.{all_taken, item_of}
-use Rattle.frame_laws.proofs.Places.{after_all, all_taken-append}
+use Rattle.frame_laws.proofs.Places.{after_all}
 use Rattle.frame_laws.proofs.ReadRows.{IsRead, item_of_row}
 use Rattle.frame_laws.proofs.Remembered.{Notes, notes_both}
 use Rattle.frame_laws.proofs.RowCounts.{said_none, said_once}
@@ -90,7 +89,8 @@ with_randoms previous current =
     record { listed = none_listed; has_previous = is_some previous; has_current = is_some current }
 
 notes_previous : (place : ℕ) (previous : Option SharedRandom)
-    → Notes vote_tables nothing_across (all_taken place (random_if line.Previous previous)) (with_randoms previous None)
+    → Notes vote_tables nothing_across (all_taken place (random_if line.Previous previous))
+    (with_randoms previous None)
 notes_previous place None = refl
 notes_previous place (Some random) = (with_randoms (Some random) None, refl, refl)
 
@@ -123,4 +123,5 @@ random_items_are of (Some random) = refl
 pub random_fills : (random : SharedRandom) → IsRandomInRange random → IsLineRest (random_text random)
 random_fills random are =
     rest_of_words (decimal random.count ∷ padded_text random.value ∷ [])
-    (two_words (decimal random.count) (padded_text random.value) (word_of_number random.count) (word_of_value random are))
+    (two_words (decimal random.count) (padded_text random.value) (word_of_number random.count)
+    (word_of_value random are))

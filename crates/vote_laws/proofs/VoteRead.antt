@@ -1,6 +1,6 @@
 -- A vote that was written is read: its document, and where it ends.
-use Rattle.std.proofs.Common.{◌≡◌, ℕ, ◌+◌, ◌≤◌, false, List, [], ◌∷◌, ◌++◌, length, take, Option, None, Some, Result, Ok}
-use Rattle.std.proofs.Common.{refl, sym, ap, subst, ◌∙◌, append_assoc, append-nil, arith}
+use Rattle.std.proofs.Common.{◌≡◌, ℕ, ◌+◌, ◌≤◌, false, List, [], ◌∷◌, ◌++◌, length, take, Option, None, Some}
+use Rattle.std.proofs.Common.{Result, Ok, refl, sym, ap, subst, ◌∙◌, append_assoc, append-nil, arith}
 use Rattle.std.specs.Prelude.{◌&&◌, map}
 use Rattle.std.proofs.Math.Seq.{drop-append_seam, take-append_seam}
 use Rattle.item_terms.specs.Items.{Contents, Item, contents, nothing}
@@ -26,10 +26,10 @@ use Rattle.frame_laws.proofs.Both.{both}
 use Rattle.frame_laws.proofs.Passing.{EachPasses, notes_passing, rows_pass}
 use Rattle.frame_laws.proofs.Remembered.{Notes, notes_both}
 use Rattle.frame_laws.proofs.RowValues.{text_entry_if}
-use Rattle.frame_laws.proofs.Places.{after_all, after_all-append, both_written, written_behind}
+use Rattle.frame_laws.proofs.Places.{after_all, after_all-append, both_written}
 use Rattle.frame_laws.proofs.Sections.{entries_in, others_in, section_before_last, section_whole, taken_in}
 use Rattle.frame_laws.proofs.Steps.{opening}
-use Rattle.frame_laws.proofs.WrittenRows.{ends_behind, is_closed}
+use Rattle.frame_laws.proofs.WrittenRows.{ends_with_text, is_closed}
 use Rattle.certificate_laws.proofs.CertRows.{certificate, certificate_ended, certificate_version, certification}
 use Rattle.certificate_laws.proofs.CertRows.{last_row}
 use Rattle.certificate_laws.proofs.CertSays.{cert_ends}
@@ -38,7 +38,7 @@ use Rattle.vote_terms.specs.Votes.{ReadVote}
 use Rattle.vote_terms.specs.declared.facts.SignatureFacts.{SignatureFacts}
 use Rattle.vote_terms.specs.declared.facts.VoteFacts.{VoteFacts}
 use Rattle.vote_text.specs.Texts.{vote_items, vote_text}
-use Rattle.vote_doc.specs.Behind.{behind}
+use Rattle.blank_lines.specs.Behind.{behind}
 use Rattle.vote_doc.specs.Facts.{vote_in}
 use Rattle.vote_doc.specs.Kept.{kept_with, none_kept}
 use Rattle.vote_doc.specs.Reading.{max_vote, vote_from, vote_of, with_facts}
@@ -70,24 +70,25 @@ abbrev in_section : VoteFacts → VotePart
 in_section facts = certificate Certificate kind.Certificate facts.certificate
 
 -- the certificate passes not its limit
-certificate_fits : (at : ℕ) (facts : VoteFacts) → IsInRange facts → entries_place at facts ≤ certificate_place at facts + 65536
-certificate_fits at facts are =
+certificate_fits : (facts : VoteFacts) → IsInRange facts → entries_place facts ≤ certificate_place facts + 65536
+certificate_fits facts are =
     let fits = are.certificate.fits in
-    omega (arith, fits, cert_ends VoteValue (certificate_place at facts) facts.certificate)
+    omega (arith, fits, cert_ends VoteValue (certificate_place facts) facts.certificate)
 
 -- its first item begins it inside the section of its authority
-certificate_made : (at : ℕ) (facts : VoteFacts) → IsInRange facts
-    → made_by vote_tables (remembered facts) (opening Authority (taken_in (authority_place at facts) (authority facts)) None)
-    (written (certificate_place at facts) (item_of {V = Value VoteValue} certificate_version))
-    ≡ Ok (Enters Certificate (taken_at (certificate_place at facts) certificate_version))
+certificate_made : (facts : VoteFacts) → IsInRange facts
+    → made_by vote_tables (remembered facts)
+    (opening Authority (taken_in (authority_place facts) (authority facts)) None)
+    (written (certificate_place facts) (item_of {V = Value VoteValue} certificate_version))
+    ≡ Ok (Enters Certificate (taken_at (certificate_place facts) certificate_version))
 unfolding same
-certificate_made at facts are =
-    let place = certificate_place at facts in
-    let before = authority_place at facts in
+certificate_made facts are =
+    let place = certificate_place facts in
+    let before = authority_place facts in
     let next = after_one {V = Value VoteValue} place certificate_version in
     let near : next ≤ place + 65536 =
-    less next (entries_place at facts) (place + 65536)
-    (first_ends place (in_section facts) (certification facts.certificate)) (certificate_fits at facts are) in
+    less next (entries_place facts) (place + 65536)
+    (first_ends place (in_section facts) (certification facts.certificate)) (certificate_fits facts are) in
     entering vote_tables (remembered facts) Authority Certificate (taken_at before (authority facts).opener)
     (others_in before (authority facts)) place certificate_version
     certificate_row (record { row_there = refl; not_last = refl; begins_nothing = refl }) refl
@@ -99,15 +100,14 @@ certificate_made at facts are =
     less a b c first second = omega (arith, first, second)
 
 -- what its authority's section has with that item lacks nothing
-pub authority_whole : (at : ℕ) (facts : VoteFacts) → HasValuesInRange facts
+pub authority_whole : (facts : VoteFacts) → HasValuesInRange facts
     → lacking (vote_tables.rows Authority)
-    (taken_in (authority_place at facts) (authority facts) ++ taken_at
-    (certificate_place at facts) certificate_version ∷ [])
+    (taken_in (authority_place facts) (authority facts) ++ taken_at (certificate_place facts) certificate_version ∷ [])
     ≡ None
-authority_whole at facts are =
+authority_whole facts are =
     subst (λ (l : List VoteTaken). lacking (vote_tables.rows Authority) l ≡ None)
-    (taken_to-parts (authority_place at facts) (authority facts) certificate_version)
-    (section_to_whole vote_tables (authority_place at facts) (authority facts) certificate_row certificate_version
+    (taken_to-parts (authority_place facts) (authority facts) certificate_version)
+    (section_to_whole vote_tables (authority_place facts) (authority facts) certificate_row certificate_version
     (authority_written facts are) refl)
 
 -- nothing is remembered of the preamble
@@ -126,7 +126,8 @@ authority_notes place facts =
     let next = after_all place front in
     let quiet : EachPasses is_quiet front = both (λ at. refl) (contact_quiet facts.contact) in
     subst (λ (l : List VoteTaken). Notes vote_tables nothing_across l (remembered facts))
-    (sym (taken_parts place front p c) ∙ ap (λ (l : List VoteEntry). all_taken place (front ++ (p ++ l))) (sym (append-nil c)))
+    (sym (taken_parts place front p c)
+    ∙ ap (λ (l : List VoteEntry). all_taken place (front ++ (p ++ l))) (sym (append-nil c)))
     (notes_both vote_tables nothing_across nothing_across (all_taken place front)
     (all_taken next p ++ all_taken (after_all next p) c) (remembered facts)
     (notes_passing vote_tables is_quiet forgotten nothing_across place front quiet)
@@ -137,20 +138,20 @@ authority_notes place facts =
     contact_quiet (Some text) = both (λ at. refl) tt
 
 -- the items of a vote make it
-document_read : (length_ at : ℕ) (facts : VoteFacts) (fault : Option DocFault) (more : List Item) → IsInRange facts
+document_read : (length_ : ℕ) (facts : VoteFacts) (fault : Option DocFault) (more : List Item) → IsInRange facts
     → read_items vote_tables length_ nothing_across (start vote_tables) fault
-    (all_written at (map item_of (vote_entries facts)) ++ more) ≡ Ok (vote_document at facts)
-document_read length_ at facts fault more are =
+    (all_written 0 (map item_of (vote_entries facts)) ++ more) ≡ Ok (vote_document facts)
+document_read length_ facts fault more are =
     let none = nothing_across in
     let known = remembered facts in
     let p = entries_in (preamble facts) in
     let a = entries_in (authority facts) in
     let c = in_cert facts in
     let ef = in_list facts ++ footer_entries facts in
-    let at_a = authority_place at facts in
-    let at_c = certificate_place at facts in
-    let at_e = entries_place at facts in
-    let in_p = in_preamble at facts in
+    let at_a = authority_place facts in
+    let at_c = certificate_place facts in
+    let at_e = entries_place facts in
+    let in_p = in_preamble facts in
     let in_a = taken_in at_a (authority facts) in
     let one : VoteTaken = taken_at at_c certificate_version in
     let rest_a = all_written at_a (map item_of (a ++ (c ++ ef))) ++ more in
@@ -166,16 +167,16 @@ document_read length_ at facts fault more are =
     let quiet_c =
     section_to_quiet (in_section facts) (certification facts.certificate)
     (section_quiet (in_section facts) (λ n. refl) refl cert.written.said) (λ n. refl) in
-    let entries = groups_in at_e (sections_of facts) ++ group Footer (in_footer at facts) ∷ [] in
+    let entries = groups_in at_e (sections_of facts) ++ group Footer (in_footer facts) ∷ [] in
     ap (λ (l : List Item). read_items vote_tables length_ none (start vote_tables) fault l)
-    (both_written at p (a ++ (c ++ ef)) more)
-    ∙ first_read vote_tables length_ none none at (preamble facts) [] fault rest_a refl preamble_first whole
-    (suits_version the.NetworkStatusVersion none at) (notes_passing vote_tables is_quiet forgotten none at p quiet_p)
+    (both_written 0 p (a ++ (c ++ ef)) more)
+    ∙ first_read vote_tables length_ none none 0 (preamble facts) [] fault rest_a refl preamble_first whole
+    (suits_version the.NetworkStatusVersion none 0) (notes_passing vote_tables is_quiet forgotten none 0 p quiet_p)
     ∙ ap (λ (l : List Item). read_items vote_tables length_ none (opening Preamble in_p None) fault l)
     (both_written at_a a (c ++ ef) more)
-    ∙ section_read vote_tables length_ none known Preamble (taken_at at (preamble facts).opener)
-    (others_in at (preamble facts)) at_a (authority facts)
-    (certificate_row ∷ []) fault rest_c (section_whole vote_tables (preamble facts) at whole) authority_follows
+    ∙ section_read vote_tables length_ none known Preamble (taken_at 0 (preamble facts).opener)
+    (others_in 0 (preamble facts)) at_a (authority facts)
+    (certificate_row ∷ []) fault rest_c (section_whole vote_tables (preamble facts) 0 whole) authority_follows
     source (suits_source facts values none at_a) (authority_notes at_a facts)
     ∙ ap (λ (r : Result VoteDocument ReadRefusal). onto (group Preamble in_p) r)
     (ap (λ (l : List Item). read_items vote_tables length_ known (opening Authority in_a None) fault l)
@@ -183,12 +184,12 @@ document_read length_ at facts fault more are =
     ∙ inside_read vote_tables length_ known at_c (in_section facts) (last_row kind.Certificate)
     (certification facts.certificate) fault rest_e cert
     known Authority (taken_at at_a (authority facts).opener) (others_in at_a (authority facts))
-    (certificate_fits at facts are)
-    (certificate_made at facts are) (notes_passing vote_tables is_quiet forgotten known at_c c quiet_c)
-    ∙ ap (λ (r : Result VoteDocument ReadRefusal). onto (group Certificate (in_certificate at facts)) r)
+    (certificate_fits facts are)
+    (certificate_made facts are) (notes_passing vote_tables is_quiet forgotten known at_c c quiet_c)
+    ∙ ap (λ (r : Result VoteDocument ReadRefusal). onto (group Certificate (in_certificate facts)) r)
     (tail_read length_ at_e facts fault more are.entries are.signature (taken_at at_a (authority facts).opener)
-    (others_in at_a (authority facts) ++ one ∷ []) (authority_whole at facts values)
-    ∙ ap (λ (l : List VoteTaken). with_authority_group l entries (vote_end at facts))
+    (others_in at_a (authority facts) ++ one ∷ []) (authority_whole facts values)
+    ∙ ap (λ (l : List VoteTaken). with_authority_group l entries (vote_end facts))
     (sym (taken_to-parts at_a (authority facts) certificate_version))))
   where
     with_authority_group : List VoteTaken → List (Group VoteSection (Value VoteValue)) → ℕ
@@ -197,19 +198,19 @@ document_read length_ at facts fault more are =
         Ok (record { groups = group Authority taken ∷ groups; used = used })
 
 -- it ends where the vote's text ends
-pub used_of : (at : ℕ) (facts : VoteFacts) → vote_end at facts ≡ at + length (vote_text facts)
-used_of at facts =
+pub used_of : (facts : VoteFacts) → vote_end facts ≡ length (vote_text facts)
+used_of facts =
     let p = entries_in (preamble facts) in
     let a = entries_in (authority facts) in
     let c = in_cert facts in
     let e = in_list facts in
     let f = footer_entries facts in
-    sym (after_all-append at p (a ++ (c ++ (e ++ f)))
-    ∙ after_all-append (authority_place at facts) a (c ++ (e ++ f))
-    ∙ after_all-append (certificate_place at facts) c (e ++ f)
-    ∙ after_all-append (entries_place at facts) e f)
-    ∙ ends_behind at (vote_entries facts)
-    ∙ ap (λ (l : List NewItem). at + length (items_text l)) (sym (vote_same facts))
+    sym (after_all-append 0 p (a ++ (c ++ (e ++ f)))
+    ∙ after_all-append (authority_place facts) a (c ++ (e ++ f))
+    ∙ after_all-append (certificate_place facts) c (e ++ f)
+    ∙ after_all-append (entries_place facts) e f)
+    ∙ ends_with_text (vote_entries facts)
+    ∙ ap (λ (l : List NewItem). length (items_text l)) (sym (vote_same facts))
 
 -- its last item has an object, so that no other may follow
 pub has_object : (signature : SignatureFacts) → lacks_object (signature_entry signature).object ≡ false
@@ -231,50 +232,37 @@ closed facts rest =
         → p ++ (a ++ (c ++ (e ++ (f ++ l)))) ≡ (p ++ (a ++ (c ++ (e ++ f)))) ++ l
     joined p a c e f l = simp append_assoc refl
 
--- it begins where its text does
-pub begins_at : (at : ℕ) (facts : VoteFacts) → (vote_kept at facts).head.begin ≡ at
-unfolding same
-begins_at at facts = refl
-
 abbrev read_as : List ℕ → Result VoteDocument ReadRefusal → Result (ReadVote × ℕ) ReadRefusal
 read_as bytes document = with_facts bytes (finish kept_with none_kept document)
 
 abbrev answer : Kept → List ℕ → ℕ → Result (ReadVote × ℕ) ReadRefusal
 answer kept bytes end = Ok (vote_in (take end bytes) kept, end)
 
--- a vote's text behind some bytes, and in front of others
-abbrev pub among : List ℕ → VoteFacts → List ℕ → List ℕ
-among front facts rest = front ++ (vote_text facts ++ rest)
-
 -- the vote that a text is
 abbrev pub text_vote : VoteFacts → ReadVote
-text_vote facts = vote_in (among [] facts []) (vote_kept 0 facts)
+text_vote facts = vote_in (vote_text facts) (vote_kept facts)
 
 -- a vote that was written is read, whatever stands behind it, and ends where its text ends
 text_read : (facts : VoteFacts) (rest : List ℕ) → IsInRange facts
     → vote_of (vote_text facts ++ rest) ≡ Ok (text_vote facts, length (vote_text facts))
 text_read facts rest are =
     let text = vote_text facts in
-    let bytes = among [] facts rest in
+    let all = text ++ rest in
     let items = vote_items facts in
-    let limit = 0 + max_vote in
-    let after = contents limit (0 + length (items_text items)) nothing rest in
-    let own : take (length text) (text ++ rest) ≡ text ++ [] = take-append_seam text rest ∙ sym (append-nil text) in
-    let end : 0 + length text ≡ length text = omega arith in
-    ap (λ (c : Contents). read_as bytes (document_of vote_tables (length bytes) c))
-    (items_again limit 0 items rest (written_behind 0 max_vote items are.items) (closed facts rest))
-    ∙ ap (λ (l : List NewItem). read_as bytes
-    (document_of vote_tables (length bytes) (in_front (all_written 0 l) after))) (vote_same facts)
-    ∙ ap (λ (d : Result VoteDocument ReadRefusal). read_as bytes d)
-    (document_read (length bytes) 0 facts after.fault after.items are)
-    ∙ ap (λ (k : Kept). answer k bytes (vote_end 0 facts)) (all_kept 0 facts are)
-    ∙ ap (λ (k : ℕ). answer (vote_kept 0 facts) bytes k) (used_of 0 facts)
-    ∙ ap (λ (k : ℕ). answer (vote_kept 0 facts) bytes k) end
-    ∙ ap (λ (l : List ℕ). Ok (vote_in l (vote_kept 0 facts), length text)) own
+    let after = contents max_vote (0 + length text) nothing rest in
+    ap (λ (c : Contents). read_as all (document_of vote_tables (length all) c))
+    (items_again max_vote 0 items rest are.items (closed facts rest))
+    ∙ ap (λ (l : List NewItem). read_as all (document_of vote_tables (length all) (in_front (all_written 0 l) after)))
+    (vote_same facts)
+    ∙ ap (λ (d : Result VoteDocument ReadRefusal). read_as all d)
+    (document_read (length all) facts after.fault after.items are)
+    ∙ ap (λ (k : Kept). answer k all (vote_end facts)) (all_kept facts are)
+    ∙ ap (λ (n : ℕ). answer (vote_kept facts) all n) (used_of facts)
+    ∙ ap (λ (l : List ℕ). Ok (vote_in l (vote_kept facts), length text)) (take-append_seam text rest)
 
 -- and whatever stands before it
 pub vote_read : (front : List ℕ) (facts : VoteFacts) (rest : List ℕ) → IsInRange facts
-    → vote_from (length front) (among front facts rest)
+    → vote_from (length front) (front ++ (vote_text facts ++ rest))
     ≡ Ok (text_vote facts, length front + length (vote_text facts))
 vote_read front facts rest are =
     ap (λ (l : List ℕ). behind (length front) (vote_of l)) (drop-append_seam front (vote_text facts ++ rest))

@@ -42,7 +42,8 @@ use Rattle.vote_laws.proofs.VoteSame.{footer_entries, in_list}
 
 -- the footer may follow the section of the authority and any number of entries
 after_entries : (list : List EntryFacts)
-    → MayFollow vote_tables (last_name Entry (map entry_section list)) Footer (row the.DirectoryFooter One kind.Nothing)
+    → MayFollow vote_tables (last_name Entry (map entry_section list)) Footer
+    (row the.DirectoryFooter One kind.Nothing)
 after_entries [] = footer_after
 after_entries (e ∷ list) = after_entries list
 
@@ -85,7 +86,8 @@ tail_read length_ at_e facts fault more entries signed first taken whole =
     let quiet = section_to_quiet footer signature (section_quiet footer (λ p. refl) refl tt) (λ p. refl) in
     let ended = group Footer (footer_taken at_e facts) ∷ [] in
     let last : Result VoteDocument ReadRefusal = Ok (record { groups = ended; used = end_from at_e facts }) in
-    ap (λ (l : List Item). read_items vote_tables length_ (remembered facts) (opening Authority (first ∷ taken) None) fault l)
+    ap (λ (l : List Item).
+    read_items vote_tables length_ (remembered facts) (opening Authority (first ∷ taken) None) fault l)
     (both_written at_e (in_list facts) f more)
     ∙ sections_read vote_tables length_ before listed Authority first taken at_e list fault rest whole next
     ∙ ap (after_groups (groups_of Authority (first ∷ taken) at_e list))

@@ -97,8 +97,8 @@ pub record AreEntriesInRange (entries : List EntryFacts) : Type 0 where
   pub ascending : Ascending entries
   pub keys : AllPairs DifferInKey entries
 
--- The vote says what can be read, whatever is said of its certificate: each number, text and list is one that an item may
--- have.
+-- The vote says what can be read, whatever is said of its certificate: each number, text and list is one that an item
+-- may have.
 pub record HasValuesInRange (facts : VoteFacts) : Type 0 where
   pub methods : IfSome facts.methods AreMethods
   pub published : facts.published ≤ last_moment
@@ -168,8 +168,8 @@ pub record IsReadBack (facts : VoteFacts) (vote : ReadVote) : Type 0 where
   pub signed : vote.signed ≡ signed_text facts
   pub certificate_bytes : vote.certificate_bytes ≡ cert_text facts.certificate
 
--- A vote that was written is read again, whatever stands before it, of fewer than 2 ^ 62 bytes, and behind it: what is read says the
--- same, has the text's bytes, and ends with it.
+-- A vote that was written is read again, whatever stands before it, of fewer than 2 ^ 62 bytes, and behind it: what is
+-- read says the same, has the text's bytes, and ends with it.
 abbrev pub VotesAreReadAgain : Type 0
 VotesAreReadAgain = (front : List ℕ) (facts : VoteFacts) (rest : List ℕ) → length front < 2 ^ 62 → IsInRange facts
     → (vote : ReadVote)
