@@ -1,6 +1,6 @@
 -- No two sections of a vote say one Ed25519 key.
-use Rattle.std.proofs.Common.{◌≡◌, ◌⊎◌, ℕ, Bool, true, false, List, [], ◌∷◌, ◌++◌, Option, Some, None, Ok, refl, sym, ap}
-use Rattle.std.proofs.Common.{◌∙◌, inl, inr}
+use Rattle.std.proofs.Common.{◌≡◌, ◌⊎◌, ℕ, Bool, true, false, List, [], ◌∷◌, ◌++◌, Option, Some, None, Ok, refl, sym}
+use Rattle.std.proofs.Common.{ap, ◌∙◌, inl, inr}
 use Rattle.std.specs.Prelude.{if◌then◌else◌}
 use Rattle.std.proofs.lemmas.Bool.{false≢true}
 use Rattle.item_terms.specs.declared.fault.DocFault.{DocFault}
@@ -17,20 +17,20 @@ use Rattle.frame_values.specs.Values.{item_at, own_of_value}
 use Rattle.frame_values.specs.declared.values.Value.{Value}
 use Rattle.frame_values.specs.declared.values.Value.TheVariants as value
 use Rattle.frame_laws.proofs.KnownWords.{same-through}
-use Rattle.vote_frame.specs.declared.across.Across.{Across}
 use Rattle.relay_entries.specs.declared.said.EdOpinion.{EdOpinion}
 use Rattle.relay_entries.specs.declared.said.EdOpinion.TheVariants as opinion
 use Rattle.relay_entries.specs.declared.said.EntryValue.TheVariants as entry_said
-use Rattle.table_laws.specs.Items.{IsItemOf}
-use Rattle.table_laws.proofs.Openers.{row_of-one, row_of-same}
-use Rattle.table_laws.proofs.Rules.{Rules, holds}
-use Rattle.vote_entries.specs.Saying.{ed_in, ed_of_value}
+use Rattle.vote_frame.specs.declared.across.Across.{Across}
 use Rattle.vote_frame.specs.Tables.{vote_tables}
 use Rattle.vote_frame.specs.declared.frame.VoteKind.{VoteKind}
 use Rattle.vote_frame.specs.declared.frame.VoteSection.{VoteSection}
 use Rattle.vote_frame.specs.declared.frame.VoteSection.TheVariants as section
 use Rattle.vote_frame.specs.declared.frame.VoteValue.{VoteValue}
 use Rattle.vote_frame.specs.declared.frame.VoteValue.TheVariants as own
+use Rattle.vote_entries.specs.Saying.{ed_in, ed_of_value}
+use Rattle.table_laws.specs.Items.{IsItemOf}
+use Rattle.table_laws.proofs.Openers.{row_of-one, row_of-same}
+use Rattle.table_laws.proofs.Rules.{Rules, holds}
 use Rattle.range_laws.proofs.EntryRoom.{VoteGroup}
 use Rattle.range_laws.proofs.Noting.{HasKey, IsKeyOf, key_noted, keys_stay}
 use Rattle.range_laws.proofs.VoteStands.{VoteTaken, only_certificates}

@@ -9,12 +9,12 @@ use Rattle.frame_terms.specs.Keywords.{same}
 use Rattle.frame_terms.specs.Order.{inner, opener}
 use Rattle.frame_values.specs.declared.values.Value.{Value}
 use Rattle.vote_frame.specs.declared.across.Across.{Across}
-use Rattle.table_laws.specs.Items.{IsItemOf}
-use Rattle.table_laws.proofs.Rules.{Rules, holds}
 use Rattle.vote_frame.specs.Tables.{vote_tables}
 use Rattle.vote_frame.specs.declared.frame.VoteSection.{VoteSection}
 use Rattle.vote_frame.specs.declared.frame.VoteSection.TheVariants as section
 use Rattle.vote_frame.specs.declared.frame.VoteValue.{VoteValue}
+use Rattle.table_laws.specs.Items.{IsItemOf}
+use Rattle.table_laws.proofs.Rules.{Rules, holds}
 use Rattle.range_laws.proofs.Noting.{counted, opener_relay}
 use Rattle.range_laws.proofs.VoteStands.{VoteTaken, only_certificates}
 

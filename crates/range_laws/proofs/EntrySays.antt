@@ -24,10 +24,10 @@ use Rattle.vote_frame.specs.declared.frame.VoteKind.TheVariants as kind
 use Rattle.vote_frame.specs.declared.frame.VoteValue.{VoteValue}
 use Rattle.vote_frame.specs.declared.frame.VoteValue.TheVariants as own
 use Rattle.vote_laws.proofs.Heard.{is_quiet, kinds_pass}
-use Rattle.range_laws.proofs.CertRanges.{TextIs}
+use Rattle.row_laws.proofs.ReadSteps.{ReadAs, any_reads, was_read}
+use Rattle.range_laws.proofs.ValueTexts.{TextIs}
 use Rattle.range_laws.proofs.EntryReads.{IsMicro, bandwidths_read, ed_reads, micro_reads}
 use Rattle.range_laws.proofs.ReadNames.{IsName}
-use Rattle.range_laws.proofs.ReadSteps.{ReadAs, any_reads, was_read}
 use Rattle.range_laws.proofs.RelayReads.{AreNamesAt, IsAddressAt, IsLine, address_reads, flags_read, relay_reads}
 use Rattle.range_laws.proofs.LineReads.{rest_read}
 use Rattle.range_laws.proofs.VoteReads.{VoteSays, said}

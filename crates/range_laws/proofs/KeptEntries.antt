@@ -1,6 +1,6 @@
 -- What is kept of a vote's entries says what is in range.
-use Rattle.std.proofs.Common.{◌≡◌, ℕ, suc, ◌≤◌, Bool, true, false, List, [], ◌∷◌, ◌++◌, length, map, Option, Some, None, refl}
-use Rattle.std.proofs.Common.{ap, arith}
+use Rattle.std.proofs.Common.{◌≡◌, ℕ, suc, ◌≤◌, Bool, true, false, List, [], ◌∷◌, ◌++◌, length, map, Option, Some}
+use Rattle.std.proofs.Common.{None, refl, ap, arith}
 use Rattle.std.specs.Prelude.{All, AllPairs, IfSome, is_some, option_map, unwrap_or, if◌then◌else◌}
 use Rattle.std.proofs.lemmas.List.Elements.{All-cons, All-map, All-nil, All-push}
 use Rattle.std.proofs.lemmas.List.Quantifiers.{all_pairs_push}
@@ -8,11 +8,11 @@ use Rattle.std.proofs.lemmas.List.Splits.{length-slice_split}
 use Rattle.std.proofs.lemmas.List.Sums.{AllPass-from_list_all}
 use Rattle.base64.specs.GeneralPurpose.{IsBytes}
 use Rattle.item_terms.specs.Words.{words_of}
+use Rattle.dirdoc_grammar.specs.Writing.{IsLineRest}
 use Rattle.dir_values.specs.Digests.{identity_below}
 use Rattle.dir_values.specs.Numbers.{number_in, number_of}
 use Rattle.dir_values.specs.declared.digest.Digest2.{Digest2}
 use Rattle.dir_values.proofs.Flags.{Ascend-as_set}
-use Rattle.dirdoc_grammar.specs.Writing.{IsLineRest}
 use Rattle.frame_terms.specs.Keywords.{same}
 use Rattle.frame_terms.specs.Rows.{row}
 use Rattle.frame_terms.specs.Sections.{row_of}
@@ -29,25 +29,26 @@ use Rattle.relay_entries.specs.Fields.{methods_in}
 use Rattle.relay_entries.specs.declared.said.EntryKind.TheVariants as entry
 use Rattle.relay_entries.specs.declared.said.EntryValue.TheVariants as entry_said
 use Rattle.entry_laws.specs.Ranges.{AreBandwidthsInRange, AreMethodsInRange, IsAddressInRange, IsOpinionInRange}
-use Rattle.table_laws.specs.Order.{BeginsWithOpener}
-use Rattle.vote_entries.specs.Entries.{entry_in, micro_in}
-use Rattle.vote_entries.specs.Kept.{KeptEntry, entry_of, is_after, with_entry}
-use Rattle.vote_entries.specs.Saying.{addresses_in, bandwidths_in, bandwidths_of_value, ed_in, ed_of_value}
-use Rattle.vote_entries.specs.Saying.{micro_if, micro_with, micros_in, onto_if, relay_in, relay_of_value}
-use Rattle.vote_entries.specs.declared.row.KeptMicro.{KeptMicro}
 use Rattle.vote_frame.specs.Tables.{vote_tables}
 use Rattle.vote_frame.specs.declared.frame.VoteKind.TheVariants as kind
 use Rattle.vote_frame.specs.declared.frame.VoteSection.TheVariants as section
 use Rattle.vote_frame.specs.declared.frame.VoteValue.{VoteValue}
 use Rattle.vote_frame.specs.declared.frame.VoteValue.TheVariants as own
+use Rattle.vote_entries.specs.Entries.{entry_in, micro_in}
+use Rattle.vote_entries.specs.Kept.{KeptEntry, entry_of, is_after, with_entry}
+use Rattle.vote_entries.specs.Saying.{addresses_in, bandwidths_in, bandwidths_of_value, ed_in, ed_of_value, micro_if}
+use Rattle.vote_entries.specs.Saying.{micro_with, micros_in, onto_if, relay_in, relay_of_value}
+use Rattle.vote_entries.specs.declared.row.KeptMicro.{KeptMicro}
 use Rattle.vote_laws.specs.Again.{IsEntryInRange, IsMicroInRange}
-use Rattle.range_laws.proofs.CertRanges.{TextIs, text_ranged}
+use Rattle.table_laws.specs.Order.{BeginsWithOpener}
+use Rattle.row_laws.proofs.ReadSteps.{number_within}
+use Rattle.range_laws.proofs.ValueTexts.{TextIs, text_ranged}
 use Rattle.range_laws.proofs.EntryReads.{HasDigest}
-use Rattle.range_laws.proofs.EntrySays.{AreNames, MicroIs, OpinionIs, RelayIs, WidthsAre, address_says, entry_flags_say}
-use Rattle.range_laws.proofs.EntrySays.{entry_rest_says, micro_says, opinion_says, relay_says, widths_say}
+use Rattle.range_laws.proofs.EntrySays.{AreNames, MicroIs, OpinionIs, RelayIs, WidthsAre, address_says}
+use Rattle.range_laws.proofs.EntrySays.{entry_flags_say, entry_rest_says, micro_says, opinion_says, relay_says}
+use Rattle.range_laws.proofs.EntrySays.{widths_say}
 use Rattle.range_laws.proofs.EntryTexts.{HasRests}
 use Rattle.range_laws.proofs.ReadNames.{IsName, each_of_set}
-use Rattle.range_laws.proofs.ReadSteps.{number_within}
 use Rattle.range_laws.proofs.RelayReads.{IsLine}
 use Rattle.range_laws.proofs.VoteStands.{EachVoteStands, VoteTaken, any_says, item_says, opener_found, stands_for}
 

@@ -1,6 +1,5 @@
 -- What is kept of a vote says what is in range, and its items may be written.
-use Rattle.std.proofs.Common.{ℕ, List, map, Option, Some, None}
-use Rattle.std.proofs.Common.{arith}
+use Rattle.std.proofs.Common.{ℕ, List, map, Option, Some, None, arith}
 use Rattle.std.specs.Prelude.{IfSome, option_map}
 use Rattle.std.proofs.lemmas.List.Elements.{All-map, All-weaker}
 use Rattle.base64.specs.GeneralPurpose.{IsBytes}
@@ -19,12 +18,12 @@ use Rattle.vote_doc.specs.declared.kept.Kept.{Kept}
 use Rattle.vote_doc.specs.declared.lists.ListSpans.{ListSpans}
 use Rattle.vote_laws.specs.Again.{AreEntriesInRange, AreFlags, AreListsInRange, AreMethods, AreVoteParams}
 use Rattle.vote_laws.specs.Again.{IsEntryInRange, IsSignatureInRange}
+use Rattle.row_laws.proofs.ReadBytes.{object_bytes}
 use Rattle.range_laws.specs.Votes.{IsInRangeButForLimits}
 use Rattle.range_laws.proofs.CertRanges.{has_bytes}
 use Rattle.range_laws.proofs.EntryTexts as entry
 use Rattle.range_laws.proofs.KeptEntries.{AreKept, IsKept, count_map, numbers_small}
 use Rattle.range_laws.proofs.KeptHeads.{AuthorityOf, HeadIs}
-use Rattle.range_laws.proofs.ReadBytes.{object_bytes}
 use Rattle.range_laws.proofs.ReadLists.{params_ranged, protocols_ranged, versions_ranged}
 use Rattle.range_laws.proofs.ReadNames.{IsName, count_of_set, each_of_set}
 use Rattle.range_laws.proofs.VoteReads.{AreFew, AreKnown}

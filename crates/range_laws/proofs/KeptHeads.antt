@@ -1,10 +1,10 @@
 -- What is kept of a vote's sections that are no entries says what is in range.
-use Rattle.std.proofs.Common.{◌≡◌, ◌⊎◌, ℕ, ◌≤◌, true, List, [], ◌∷◌, Option, Some, None, refl, arith, inl, inr}
+use Rattle.std.proofs.Common.{◌≡◌, ◌⊎◌, ℕ, ◌≤◌, List, [], ◌∷◌, Option, Some, refl, arith, inl, inr}
 use Rattle.std.specs.Prelude.{IfSome, option_map}
 use Rattle.std.proofs.lemmas.List.Elements.{All-nil}
 use Rattle.base64.specs.GeneralPurpose.{IsBytes}
-use Rattle.dir_values.proofs.Orders.{AllPairs-nil}
 use Rattle.dirdoc_grammar.specs.Writing.{IsLineRest}
+use Rattle.dir_values.proofs.Orders.{AllPairs-nil}
 use Rattle.frame_terms.specs.Documents.{group}
 use Rattle.frame_terms.specs.Keywords.{same}
 use Rattle.frame_terms.specs.Rows.{row}
@@ -18,32 +18,34 @@ use Rattle.frame_values.specs.Values.{item_at, text_if}
 use Rattle.frame_values.specs.declared.found.DirSource.{DirSource}
 use Rattle.frame_values.specs.declared.found.Span.{Span}
 use Rattle.frame_values.specs.declared.values.Value.{Value}
-use Rattle.authority_certs.specs.Certs.{cert_in}
-use Rattle.certificate_laws.specs.Again.{SaysInRange}
-use Rattle.table_laws.specs.Order.{BeginsWithOpener}
-use Rattle.vote_doc.specs.Heads.{with_authority, with_certificate, with_footer, with_preamble}
-use Rattle.vote_doc.specs.Kept.{kept_with, none_kept}
-use Rattle.vote_doc.specs.Saying.{random_in, signature_in}
-use Rattle.vote_doc.specs.declared.head.Head.{Head}
-use Rattle.vote_doc.specs.declared.kept.Kept.{Kept}
-use Rattle.line_laws.specs.Again.{IsRandomInRange}
 use Rattle.random_lines.specs.declared.line.RandomLine.{RandomLine}
 use Rattle.random_lines.specs.declared.line.RandomLine.TheVariants as line
 use Rattle.random_lines.specs.declared.value.SharedRandom.{SharedRandom}
+use Rattle.line_laws.specs.Again.{IsRandomInRange}
+use Rattle.authority_certs.specs.Certs.{cert_in}
+use Rattle.certificate_laws.specs.Again.{SaysInRange}
 use Rattle.vote_frame.specs.Across.{keyword_of}
 use Rattle.vote_frame.specs.Tables.{vote_tables}
 use Rattle.vote_frame.specs.declared.frame.VoteKind.TheVariants as kind
 use Rattle.vote_frame.specs.declared.frame.VoteSection.{VoteSection}
 use Rattle.vote_frame.specs.declared.frame.VoteSection.TheVariants as section
 use Rattle.vote_frame.specs.declared.frame.VoteValue.{VoteValue}
-use Rattle.range_laws.proofs.CertRanges.{HaveCertificates, TextIs, section_says, text_ranged, twenty_zeros}
+use Rattle.vote_doc.specs.Heads.{with_authority, with_preamble}
+use Rattle.vote_doc.specs.Kept.{kept_with, none_kept}
+use Rattle.vote_doc.specs.Saying.{random_in, signature_in}
+use Rattle.vote_doc.specs.declared.head.Head.{Head}
+use Rattle.vote_doc.specs.declared.kept.Kept.{Kept}
+use Rattle.table_laws.specs.Order.{BeginsWithOpener}
+use Rattle.row_laws.proofs.ReadBytes.{twenty_zeros}
+use Rattle.range_laws.proofs.CertRanges.{HaveCertificates, nothing_says, section_says}
+use Rattle.range_laws.proofs.ValueTexts.{TextIs, text_ranged}
 use Rattle.range_laws.proofs.KeptEntries.{AreKept, IsKept, KeptBelow, kept_more, text_in_ranged}
 use Rattle.range_laws.proofs.ReadNames.{IsName}
 use Rattle.range_laws.proofs.RandomReads.{RandomIs, either_ranged, random_ranged, random_says}
 use Rattle.range_laws.proofs.LineReads.{IsSigned, IsSourceIn}
 use Rattle.range_laws.proofs.VoteReads.{AreFew, AreKnown, DelaysAre, SignatureIs, SourceIs, delays_ranged, delays_say}
-use Rattle.range_laws.proofs.VoteReads.{flags_say, methods_say, params_say, rest_says, signature_ranged, signature_says}
-use Rattle.range_laws.proofs.VoteReads.{source_ranged, source_says}
+use Rattle.range_laws.proofs.VoteReads.{flags_say, methods_say, params_say, rest_says, signature_ranged}
+use Rattle.range_laws.proofs.VoteReads.{signature_says, source_ranged, source_says}
 use Rattle.range_laws.proofs.VoteStands.{EachVoteStands, VoteTaken, item_says, only_certificates, opener_found}
 
 -- ---- what is kept
@@ -115,7 +117,7 @@ module _ (bytes : List ℕ) where
         params = tt;
       };
       randoms = record { previous = tt; current = tt };
-      certificate = record { address = tt; fingerprint = twenty_zeros; published = omega arith; expires = omega arith };
+      certificate = nothing_says bytes;
       signature = (twenty_zeros, twenty_zeros);
     };
     authority = inr has;
@@ -255,7 +257,7 @@ module _ (bytes : List ℕ) where
     head = record {
       preamble = is.head.preamble;
       randoms = is.head.randoms;
-      certificate = section_says vote_tables section.Certificate kind.Certificate certificates bytes taken each;
+      certificate = section_says vote_tables section.Certificate kind.Certificate certificates bytes are taken each;
       signature = is.head.signature;
     };
     authority = later kept.head (group section.Certificate taken) left (λ e. absurd (cc (e))) is.authority;

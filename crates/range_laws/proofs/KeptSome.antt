@@ -7,11 +7,11 @@ use Rattle.std.proofs.lemmas.List.Quantifiers.{all_pairs_push}
 use Rattle.dir_values.proofs.Orders.{AllPairs-nil}
 use Rattle.frame_terms.specs.Documents.{group}
 use Rattle.relay_entries.specs.declared.said.EdOpinion.TheVariants as opinion
-use Rattle.vote_doc.specs.Kept.{kept_with}
-use Rattle.vote_doc.specs.declared.kept.Kept.{Kept}
-use Rattle.vote_entries.specs.Kept.{KeptEntry, entry_of, is_after, with_entry}
 use Rattle.vote_frame.specs.declared.frame.VoteSection.{VoteSection}
 use Rattle.vote_frame.specs.declared.frame.VoteSection.TheVariants as section
+use Rattle.vote_entries.specs.Kept.{KeptEntry, entry_of, is_after, with_entry}
+use Rattle.vote_doc.specs.Kept.{kept_with}
+use Rattle.vote_doc.specs.declared.kept.Kept.{Kept}
 use Rattle.range_laws.proofs.EntryKeys.{AreApart, NoneSays}
 use Rattle.range_laws.proofs.EntryRoom.{VoteGroup, entries_among}
 use Rattle.range_laws.proofs.VoteStands.{VoteTaken}

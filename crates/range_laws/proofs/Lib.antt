@@ -1,10 +1,6 @@
-pub mod ReadBytes
-pub mod ItemRests
-pub mod ItemArguments
-pub mod ReadSteps
 pub mod ReadNames
 pub mod ReadLists
-pub mod Saying
+pub mod ValueTexts
 pub mod MayWrite
 pub mod CertItems
 pub mod CertRanges

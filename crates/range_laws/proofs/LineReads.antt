@@ -1,19 +1,19 @@
 -- What is read of lines that several kinds of document have is in range, and what items say of such kinds.
-use Rattle.std.proofs.Common.{◌≡◌, ℕ, ◌+◌, ◌<◌, ◌≤◌, ◌^◌, Bool, true, false, List, [], length, Option, None, Result, Ok}
+use Rattle.std.proofs.Common.{◌≡◌, ℕ, ◌+◌, ◌<◌, ◌≤◌, ◌^◌, Bool, true, false, List, length, Option, None, Result, Ok}
 use Rattle.std.proofs.Common.{Err, refl, sym, ap, subst, ◌∙◌, arith}
-use Rattle.std.specs.Prelude.{All, codes, nat_lt, if◌then◌else◌}
+use Rattle.std.specs.Prelude.{codes, nat_lt, if◌then◌else◌}
 use Rattle.std.proofs.lemmas.Bool.{ltb-false}
+use Rattle.dir_bytes.specs.Fields.{address}
 use Rattle.item_terms.specs.Items.{Item}
 use Rattle.item_terms.specs.Words.{words_of}
-use Rattle.dir_bytes.specs.Fields.{address}
+use Rattle.dirdoc_grammar.specs.Writers.{is_argument}
+use Rattle.dirdoc_grammar.specs.Writing.{IsLineRest}
 use Rattle.dir_values.specs.Digests.{fingerprint, key_digest}
 use Rattle.dir_values.specs.Names.{is_nickname}
 use Rattle.dir_values.specs.Numbers.{number_of, port_of}
 use Rattle.dir_values.specs.declared.algorithm.Algorithm.{Algorithm}
 use Rattle.dir_values.specs.declared.digest.Digest1.{Digest1}
 use Rattle.dir_values.specs.declared.digest.Fingerprint.{Fingerprint}
-use Rattle.dirdoc_grammar.specs.Writers.{is_argument}
-use Rattle.dirdoc_grammar.specs.Writing.{IsLineRest}
 use Rattle.frame_terms.specs.Rows.{limit_number}
 use Rattle.frame_terms.specs.Tables.{Tables}
 use Rattle.frame_terms.specs.declared.fault.FrameFault.{FrameFault}
@@ -25,8 +25,8 @@ use Rattle.frame_values.specs.Fields.{is_there, span_if}
 use Rattle.frame_values.specs.Lines.{delays_of, rest_of, rest_unless, source_of}
 use Rattle.frame_values.specs.Parts.{part}
 use Rattle.frame_values.specs.Ranges.{AreTwenty}
-use Rattle.frame_values.specs.Signatures.{after_algorithm, algorithm_if, has_words, is_space, object_of}
-use Rattle.frame_values.specs.Signatures.{signature_of, signed_by}
+use Rattle.frame_values.specs.Signatures.{after_algorithm, algorithm_if, has_words, is_space, object_of, signature_of}
+use Rattle.frame_values.specs.Signatures.{signed_by}
 use Rattle.frame_values.specs.declared.found.DirSource.{DirSource}
 use Rattle.frame_values.specs.declared.found.Span.{Span}
 use Rattle.frame_values.specs.declared.found.VoteSignature.{VoteSignature}
@@ -35,13 +35,13 @@ use Rattle.frame_values.specs.declared.values.Value.TheVariants as value
 use Rattle.frame_laws.proofs.StandingParts.{rest_part}
 use Rattle.group_laws.proofs.Readings.{Reads, over, said_of, text_at}
 use Rattle.group_laws.proofs.SourceRows.{HasRests}
-use Rattle.range_laws.proofs.CertRanges.{TextIs}
-use Rattle.range_laws.proofs.ItemArguments.{IsSound, are_found, found_word, front_found, others_found}
+use Rattle.row_laws.proofs.ItemArguments.{IsSound, are_found, found_word, front_found, others_found}
+use Rattle.row_laws.proofs.ReadSteps.{ReadAs, any_reads, field_reads, fingerprint_reads, if_reads, key_digest_reads}
+use Rattle.row_laws.proofs.ReadSteps.{next_reads, no_fault, number_within, rest_reads, span_reads, was_read}
+use Rattle.row_laws.proofs.Saying.{Says}
+use Rattle.range_laws.proofs.ValueTexts.{TextIs}
 use Rattle.range_laws.proofs.ReadNames.{count_words}
-use Rattle.range_laws.proofs.ReadSteps.{ReadAs, any_reads, field_reads, fingerprint_reads, if_reads, key_digest_reads}
-use Rattle.range_laws.proofs.ReadSteps.{next_reads, no_fault, number_within, rest_reads, span_reads, was_read}
 use Rattle.range_laws.proofs.RelayReads.{IsNickname, ip_reads, nickname_reads, port_reads}
-use Rattle.range_laws.proofs.Saying.{Says}
 
 -- ---- values
 

@@ -4,8 +4,8 @@ use Rattle.std.specs.Prelude.{All, IfSome}
 use Rattle.std.specs.List.{list_all}
 use Rattle.std.proofs.lemmas.List.Elements.{All-cons, All-nil}
 use Rattle.base64.specs.GeneralPurpose.{IsBytes}
-use Rattle.item_terms.specs.Words.{are_words, first_is, is_letter_or_digit, is_word_byte}
 use Rattle.dir_bytes.specs.FieldTexts.{clock_text, date_text, moment_text}
+use Rattle.item_terms.specs.Words.{are_words, first_is, is_letter_or_digit, is_word_byte}
 use Rattle.dirdoc_grammar.specs.Writing.{IsLineRest, NewItem}
 use Rattle.dirdoc_laws.specs.Written.{IsItem}
 use Rattle.frame_terms.specs.Keywords.{text_of}

@@ -1,7 +1,7 @@
 -- What a vote remembers with one more item: of a relay that there is one more, of an Ed25519 key that it stands, and of
 -- others nothing.
-use Rattle.std.proofs.Common.{◌≡◌, ℕ, ◌+◌, ◌<◌, ◌≤◌, Bool, true, false, List, [], Result, Ok, Err, refl}
-use Rattle.std.proofs.Common.{sym, ap, subst, ◌∙◌, arith}
+use Rattle.std.proofs.Common.{◌≡◌, ℕ, ◌+◌, ◌<◌, ◌≤◌, Bool, true, false, List, [], Result, Ok, Err, refl, sym, ap}
+use Rattle.std.proofs.Common.{subst, ◌∙◌, arith}
 use Rattle.std.specs.Prelude.{nat_lt, if◌then◌else◌}
 use Rattle.std.specs.Cmp.Lexicographic.{slice_cmp, texts_ties}
 use Rattle.std.specs.FinSet as set
@@ -18,9 +18,12 @@ use Rattle.frame_terms.specs.declared.fault.FrameReason.TheVariants.{DuplicateEd
 use Rattle.frame_terms.specs.declared.keyword.Keyword.TheVariants as the
 use Rattle.frame_terms.specs.declared.row.Count.TheVariants.{One}
 use Rattle.frame_terms.specs.declared.row.Limit.TheVariants.{Entries}
-use Rattle.frame_laws.proofs.KnownWords.{same-sym}
 use Rattle.frame_values.specs.declared.values.Value.{Value}
 use Rattle.frame_values.specs.declared.values.Value.TheVariants as value
+use Rattle.random_lines.specs.declared.line.RandomLine.{RandomLine}
+use Rattle.random_lines.specs.declared.line.RandomLine.TheVariants as random_line
+use Rattle.random_lines.specs.declared.value.SharedRandom.{SharedRandom}
+use Rattle.frame_laws.proofs.KnownWords.{same-sym}
 use Rattle.relay_entries.specs.Lines.{ed_of, micro_of, relay_of}
 use Rattle.relay_entries.specs.Listing.{fault_at, is_next, with_key, with_relay}
 use Rattle.relay_entries.specs.declared.listed.Listed.{Listed}
@@ -31,10 +34,6 @@ use Rattle.relay_entries.specs.declared.said.EntryValue.{EntryValue}
 use Rattle.relay_entries.specs.declared.said.EntryValue.TheVariants as entry_said
 use Rattle.relay_entries.specs.declared.said.MicroLine.{MicroLine}
 use Rattle.relay_entries.specs.declared.said.RelayLine.{RelayLine}
-use Rattle.table_laws.specs.Items.{IsItemOf}
-use Rattle.random_lines.specs.declared.line.RandomLine.{RandomLine}
-use Rattle.random_lines.specs.declared.line.RandomLine.TheVariants as random_line
-use Rattle.random_lines.specs.declared.value.SharedRandom.{SharedRandom}
 use Rattle.vote_frame.specs.Across.{has_line, keyword_of, unless_wrong, with_line, with_listed}
 use Rattle.vote_frame.specs.declared.across.Across.{Across}
 use Rattle.vote_frame.specs.Tables.{note_value, over_limit, value_at, vote_tables}
@@ -46,9 +45,10 @@ use Rattle.vote_frame.specs.declared.frame.VoteValue.{VoteValue}
 use Rattle.vote_frame.specs.declared.frame.VoteValue.TheVariants as own
 use Rattle.vote_laws.proofs.EntryNotes.{knowing}
 use Rattle.vote_laws.proofs.Heard.{is_quiet, kinds_pass}
+use Rattle.table_laws.specs.Items.{IsItemOf}
+use Rattle.row_laws.proofs.ReadSteps.{any_reads, no_fault, was_read}
+use Rattle.row_laws.proofs.Saying.{by_own_row}
 use Rattle.range_laws.proofs.EntrySays.{lifted_reads}
-use Rattle.range_laws.proofs.ReadSteps.{any_reads, no_fault, was_read}
-use Rattle.range_laws.proofs.Saying.{by_own_row}
 use Rattle.range_laws.proofs.VoteStands.{VoteTaken}
 
 -- ---- by what an item says

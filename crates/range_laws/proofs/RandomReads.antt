@@ -1,33 +1,30 @@
 -- A shared random value that is read is in range, in whichever section of a vote it stands.
-use Rattle.std.proofs.Common.{◌≡◌, ℕ, ◌≤◌, List, Option, Some, None, Result, Ok, Err}
+use Rattle.std.proofs.Common.{ℕ, ◌≤◌, List, Option, Some, None, Result, Ok, Err, Bool, true, false}
 use Rattle.std.specs.Prelude.{IfSome, length, slice_index, take, ◌==◌, ◌&&◌, if◌then◌else◌}
-use Rattle.std.proofs.Common.{Bool, true, false}
 use Rattle.std.specs.Option.{option_or}
 use Rattle.base64.specs.GeneralPurpose.{IsBytes}
 use Rattle.item_terms.specs.Items.{Item}
-use Rattle.dir_values.specs.Arguments.{Argument}
 use Rattle.dir_values.specs.Numbers.{number_of}
 use Rattle.dir_values.specs.declared.digest.Digest2.{Digest2}
 use Rattle.frame_values.specs.Arguments.{arguments_of, field, front, next, others}
 use Rattle.frame_values.specs.Values.{own_of_value}
 use Rattle.frame_values.specs.declared.values.Value.{Value}
 use Rattle.frame_values.specs.declared.values.Value.TheVariants as value
-use Rattle.entry_laws.specs.Ranges.{AreThirtyTwo}
-use Rattle.line_laws.specs.Again.{IsRandomInRange}
 use Rattle.random_lines.specs.Lines.{random_of}
 use Rattle.random_lines.specs.Values.{padded_digest, without_padding}
 use Rattle.random_lines.specs.declared.line.RandomLine.{RandomLine}
 use Rattle.random_lines.specs.declared.value.SharedRandom.{SharedRandom}
-use Rattle.vote_doc.specs.Saying.{random_in, random_of_value}
+use Rattle.line_laws.specs.Again.{IsRandomInRange}
+use Rattle.entry_laws.specs.Ranges.{AreThirtyTwo}
 use Rattle.vote_frame.specs.Tables.{value_at}
 use Rattle.vote_frame.specs.declared.frame.VoteKind.TheVariants as kind
 use Rattle.vote_frame.specs.declared.frame.VoteValue.{VoteValue}
 use Rattle.vote_frame.specs.declared.frame.VoteValue.TheVariants as own
+use Rattle.vote_doc.specs.Saying.{random_in, random_of_value}
+use Rattle.row_laws.proofs.ItemArguments.{IsSound, are_found, others_found}
+use Rattle.row_laws.proofs.ReadBytes.{bytes_take}
+use Rattle.row_laws.proofs.ReadSteps.{ReadAs, field_reads, next_reads, number_within, was_read, front_bytes}
 use Rattle.range_laws.proofs.EntryReads.{thirty_two}
-use Rattle.range_laws.proofs.ItemArguments.{IsSound, are_found, others_found}
-use Rattle.range_laws.proofs.ReadBytes.{bytes_take}
-use Rattle.range_laws.proofs.ReadSteps.{ReadAs, field_reads, next_reads, number_within, was_read}
-use Rattle.range_laws.proofs.RelayReads.{front_bytes}
 use Rattle.range_laws.proofs.VoteReads.{VoteSays, said}
 use Rattle.range_laws.proofs.VoteStands.{VoteTaken}
 
@@ -48,7 +45,8 @@ IsValue value = AreThirtyTwo value.0
 abbrev random_made : ℕ → Digest2 → Result SharedRandom ℕ
 random_made count value = Ok (record { count = count; value = value })
 
-random_reads : (bytes : List ℕ) (item : Item) → IsBytes bytes → IsSound bytes item → ReadAs IsRandomInRange (random_of item)
+-- what is read of its line, in any document that has such
+pub random_reads : (bytes : List ℕ) (item : Item) → IsBytes bytes → IsSound bytes item → ReadAs IsRandomInRange (random_of item)
 random_reads bytes item are sound =
     let first = front item.place (arguments_of item) in
     let behind = others (arguments_of item) in

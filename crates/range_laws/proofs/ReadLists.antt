@@ -1,8 +1,8 @@
 -- What texts list is in range: params, versions of protocols and versions of Tor.
-use Rattle.std.proofs.Common.{◌≡◌, ℕ, zero, suc, ◌+◌, ◌<◌, ◌≤◌, Bool, true, false, cond, List, [], ◌∷◌, length, map, drop}
-use Rattle.std.proofs.Common.{Option, Some, None, refl, subst, arith}
-use Rattle.std.specs.Prelude.{All, AllPairs, filter, is_some, not, unwrap_or, option_map, ℤ, pos, neg_ℤ}
-use Rattle.std.specs.Prelude.{FitsSigned, if◌then◌else◌}
+use Rattle.std.proofs.Common.{◌≡◌, ℕ, zero, suc, ◌+◌, ◌<◌, ◌≤◌, Bool, true, false, cond, List, [], ◌∷◌, length, map}
+use Rattle.std.proofs.Common.{drop, Option, Some, None, refl, subst, arith}
+use Rattle.std.specs.Prelude.{All, AllPairs, filter, is_some, not, unwrap_or, option_map, ℤ, pos, neg_ℤ, FitsSigned}
+use Rattle.std.specs.Prelude.{if◌then◌else◌}
 use Rattle.std.specs.Int.{w32}
 use Rattle.std.specs.List.{find, fold, range_with_len}
 use Rattle.std.specs.Str.{bytes_eq}
@@ -11,8 +11,8 @@ use Rattle.std.proofs.lemmas.Bool.{and_parts, false≢true}
 use Rattle.std.proofs.lemmas.List.Elements.{All-cons, All-head, All-nil, All-tail, All-weaker}
 use Rattle.std.proofs.lemmas.Int.{ints}
 use Rattle.std.proofs.lemmas.List.Sums.{AllPass-from_list_all}
-use Rattle.item_terms.specs.Words.{words_of}
 use Rattle.dir_bytes.specs.Fields.{number, signed}
+use Rattle.item_terms.specs.Words.{words_of}
 use Rattle.dir_values.specs.Arguments.{Argument, arguments_at, texts_of}
 use Rattle.dir_values.specs.Digests.{bytes_below}
 use Rattle.dir_values.specs.FlagSets.{is_name, unless_wrong}
@@ -29,12 +29,12 @@ use Rattle.list_values.specs.Protocols.{as_protocols, is_protocol, ranges_in, wr
 use Rattle.list_values.specs.VersionLists.{are_versions, is_version}
 use Rattle.list_values.specs.VersionLists as version
 use Rattle.list_values.proofs.Maps.{Ascend-nil, Ascend-with_value}
+use Rattle.list_values.specs.Parts.{parts_of}
 use Rattle.list_laws.specs.Ranges.{AreNumbersInRange, AreParamsInRange, AreProtocolsInRange, AreVersionsInRange}
 use Rattle.list_laws.specs.Ranges.{IsParamInRange, IsProtocolInRange}
-use Rattle.list_values.specs.Parts.{parts_of}
 use Rattle.list_lines.specs.Listed.{members_of, params_in, protocols_in, versions_in}
+use Rattle.row_laws.proofs.ReadSteps.{number_within}
 use Rattle.range_laws.proofs.ReadNames.{IsName, names_if}
-use Rattle.range_laws.proofs.ReadSteps.{number_within}
 
 -- ---- values by their names
 

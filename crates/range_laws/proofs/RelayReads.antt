@@ -1,12 +1,13 @@
 -- What the line of a relay, of an address and of flags says is in range.
-use Rattle.std.proofs.Common.{◌≡◌, ℕ, ◌+◌, ◌*◌, ◌<◌, ◌≤◌, ◌^◌, true, List, [], ◌∷◌, Option, Some, None, Result, Ok, refl}
-use Rattle.std.proofs.Common.{sym, ap, subst, ◌∙◌}
-use Rattle.std.specs.Prelude.{All, option_map}
+use Rattle.std.proofs.Common.{◌≡◌, ℕ, ◌+◌, ◌*◌, ◌<◌, ◌≤◌, ◌^◌, true, List, [], ◌∷◌, Result, Ok, refl, sym, ap, subst}
+use Rattle.std.proofs.Common.{◌∙◌}
+use Rattle.std.specs.Prelude.{All}
 use Rattle.std.proofs.lemmas.Bool.{false≢true}
 use Rattle.base64.specs.GeneralPurpose.{IsBytes}
+use Rattle.dir_bytes.specs.Fields.{address, date, time_of_day}
 use Rattle.item_terms.specs.Items.{Item}
 use Rattle.item_terms.specs.Words.{words_of}
-use Rattle.dir_bytes.specs.Fields.{address, base64, date, time_of_day}
+use Rattle.dirdoc_grammar.specs.Writers.{is_argument}
 use Rattle.dir_values.specs.Arguments.{Argument}
 use Rattle.dir_values.specs.Digests.{digest1}
 use Rattle.dir_values.specs.FlagSets.{wrong_flag}
@@ -14,9 +15,8 @@ use Rattle.dir_values.specs.Names.{is_nickname}
 use Rattle.dir_values.specs.Numbers.{port_of}
 use Rattle.dir_values.specs.declared.digest.Digest1.{Digest1}
 use Rattle.dir_values.specs.declared.digest.Fingerprint.{Fingerprint}
-use Rattle.dirdoc_grammar.specs.Writers.{is_argument}
 use Rattle.frame_values.specs.Arguments.{arguments_of, field, front, next, others}
-use Rattle.frame_values.specs.Fields.{is_there, span_if, span_of}
+use Rattle.frame_values.specs.Fields.{is_there, span_if}
 use Rattle.frame_values.specs.Lines.{flags_of}
 use Rattle.frame_values.specs.Parts.{part}
 use Rattle.frame_values.specs.Ranges.{AreTwenty}
@@ -26,42 +26,26 @@ use Rattle.relay_entries.specs.Fields.{identity, is_address}
 use Rattle.relay_entries.specs.Lines.{address_of, relay_of}
 use Rattle.relay_entries.specs.declared.said.RelayLine.{RelayLine}
 use Rattle.entry_laws.specs.Ranges.{IsAddressInRange, IsRelayInRange}
-use Rattle.range_laws.proofs.ItemArguments.{AreFound, IsFound, IsSound, are_found, found_word, front_found, others_found}
-use Rattle.range_laws.proofs.ReadBytes.{base64_bytes, bytes_by_test, part_bytes}
+use Rattle.row_laws.proofs.ItemArguments.{AreFound, IsSound, are_found, found_word, front_found, others_found}
+use Rattle.row_laws.proofs.ReadSteps.{base64_made, front_bytes, ReadAs, address_within, any_reads, field_reads}
+use Rattle.row_laws.proofs.ReadSteps.{next_reads, number_within, rest_reads, span_reads}
 use Rattle.range_laws.proofs.ReadNames.{IsName, names_of_words}
-use Rattle.range_laws.proofs.ReadSteps.{ReadAs, address_within, any_reads, field_reads}
-use Rattle.range_laws.proofs.ReadSteps.{next_reads, number_within, rest_reads, span_reads}
 
 -- ---- texts of arguments
 
--- what is found is bytes
-pub found_bytes : (bytes : List ℕ) (argument : Argument) → IsBytes bytes → IsFound bytes argument → IsBytes argument.text
-found_bytes bytes argument are found = subst IsBytes found.part (part_bytes bytes (span_of argument) are)
-
-pub front_bytes : (bytes : List ℕ) (item : ℕ) (arguments : List Argument) → IsBytes bytes → AreFound bytes arguments
-    → IsBytes (front item arguments).text
-front_bytes bytes item [] are found = bytes_by_test [] refl
-front_bytes bytes item (argument ∷ rest) are found = found_bytes bytes argument are found.0
-
-twenty_reads : (argument : Argument) (text : List ℕ) → IsBytes text
+-- an identity in base64
+pub twenty_reads : (argument : Argument) (text : List ℕ) → IsBytes text
     → ReadAs (λ (key : Fingerprint). AreTwenty key.0) (field argument (identity text))
-twenty_reads argument text are = by (base64 20 text) refl
-  where
-    by : (found : Option (List ℕ)) → base64 20 text ≡ found
-        → ReadAs (λ (key : Fingerprint). AreTwenty key.0)
-        (field argument (option_map (λ bytes. record { 0 = bytes }) found))
-    by None is = tt
-    by (Some b) is = let both = base64_bytes 20 text b are is in record { count = both.0; each = both.1 }
+twenty_reads argument text are =
+    base64_made (λ (key : Fingerprint). AreTwenty key.0) (λ b. record { 0 = b }) 20 argument text are
+    (λ b count each. record { count = count; each = each })
 
-digest_reads : (argument : Argument) (text : List ℕ) → IsBytes text
+-- a SHA-1 digest in base64
+pub digest_reads : (argument : Argument) (text : List ℕ) → IsBytes text
     → ReadAs (λ (digest : Digest1). AreTwenty digest.0) (field argument (digest1 text))
-digest_reads argument text are = by (base64 20 text) refl
-  where
-    by : (found : Option (List ℕ)) → base64 20 text ≡ found
-        → ReadAs (λ (digest : Digest1). AreTwenty digest.0)
-        (field argument (option_map (λ bytes. record { 0 = bytes }) found))
-    by None is = tt
-    by (Some b) is = let both = base64_bytes 20 text b are is in record { count = both.0; each = both.1 }
+digest_reads argument text are =
+    base64_made (λ (digest : Digest1). AreTwenty digest.0) (λ b. record { 0 = b }) 20 argument text are
+    (λ b count each. record { count = count; each = each })
 
 -- ---- a relay
 

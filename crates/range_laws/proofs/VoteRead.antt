@@ -1,6 +1,6 @@
 -- What is read of a vote is in range, but for the limits.
-use Rattle.std.proofs.Common.{◌≡◌, ◌⊎◌, ℕ, true, List, [], ◌∷◌, ◌++◌, drop, length, map, take}
-use Rattle.std.proofs.Common.{refl, sym, subst, arith, inl, inr}
+use Rattle.std.proofs.Common.{◌≡◌, ◌⊎◌, ℕ, true, List, [], ◌∷◌, ◌++◌, drop, length, map, take, refl, sym, subst, arith}
+use Rattle.std.proofs.Common.{inl, inr}
 use Rattle.std.specs.Prelude.{All, AllPairs, replicate}
 use Rattle.std.specs.List.{fold}
 use Rattle.std.proofs.lemmas.List.Elements.{All-head, All-map, All-tail, All-weaker}
@@ -9,28 +9,29 @@ use Rattle.item_terms.specs.Items.{Item, items_of}
 use Rattle.dir_values.specs.Digests.{identity_below}
 use Rattle.dir_values.proofs.Orders.{AllPairs-cons, AllPairs-head, AllPairs-nil, AllPairs-tail}
 use Rattle.frame_values.specs.declared.values.Value.{Value}
-use Rattle.table_laws.specs.Items.{AreItemsIn}
-use Rattle.table_laws.specs.Order.{AreInOrder, BeginsWithOpener, Part, sections_of}
-use Rattle.table_laws.proofs.Ordering.{stand_in_order}
-use Rattle.vote_kinds.proofs.ClearVotes.{vote_kinds_are_clear}
-use Rattle.table_laws.proofs.Taking.{are_said}
 use Rattle.vote_terms.specs.Votes.{ReadVote}
 use Rattle.vote_terms.specs.declared.entry.EntryFacts.{EntryFacts}
-use Rattle.vote_entries.specs.Entries.{entry_in}
-use Rattle.vote_entries.specs.Kept.{KeptEntry}
 use Rattle.vote_text.specs.Texts.{vote_items}
-use Rattle.vote_doc.specs.Kept.{kept_with, none_kept}
-use Rattle.vote_doc.specs.Reading.{max_vote}
-use Rattle.vote_parts.specs.Own.{IsOwn}
-use Rattle.vote_parts.proofs.OwnVotes.{own_read, placed_read}
-use Rattle.vote_doc.specs.declared.head.Head.{Head}
-use Rattle.vote_doc.specs.declared.kept.Kept.{Kept}
 use Rattle.vote_frame.specs.Tables.{vote_tables}
 use Rattle.vote_frame.specs.declared.frame.VoteSection.{VoteSection}
 use Rattle.vote_frame.specs.declared.frame.VoteSection.TheVariants as section
 use Rattle.vote_frame.specs.declared.frame.VoteValue.{VoteValue}
-use Rattle.vote_laws.specs.Again.{AreEntriesInRange, DifferInKey}
-use Rattle.vote_laws.specs.Again.{IsEntryInRange}
+use Rattle.vote_entries.specs.Entries.{entry_in}
+use Rattle.vote_entries.specs.Kept.{KeptEntry}
+use Rattle.vote_doc.specs.Kept.{kept_with, none_kept}
+use Rattle.vote_doc.specs.Reading.{max_vote}
+use Rattle.vote_doc.specs.declared.head.Head.{Head}
+use Rattle.vote_doc.specs.declared.kept.Kept.{Kept}
+use Rattle.vote_laws.specs.Again.{AreEntriesInRange, DifferInKey, IsEntryInRange}
+use Rattle.table_laws.specs.Items.{AreItemsIn}
+use Rattle.table_laws.specs.Order.{AreInOrder, BeginsWithOpener, Part, sections_of}
+use Rattle.table_laws.proofs.Ordering.{stand_in_order}
+use Rattle.table_laws.proofs.Taking.{are_said}
+use Rattle.row_laws.proofs.ReadBytes.{bytes_drop, bytes_take}
+use Rattle.row_laws.proofs.Saying.{EachSound, all_sound, each_stands}
+use Rattle.vote_kinds.proofs.ClearVotes.{vote_kinds_are_clear}
+use Rattle.vote_parts.specs.Own.{IsOwn}
+use Rattle.vote_parts.proofs.OwnVotes.{own_read, placed_read}
 use Rattle.range_laws.specs.Votes.{IsInRangeButForLimits, VotesReadAreInRange, VotesWithinLimitsAreInRange}
 use Rattle.range_laws.proofs.CertRead.{items_writable}
 use Rattle.range_laws.proofs.EntryKeys.{keys_apart}
@@ -38,8 +39,6 @@ use Rattle.range_laws.proofs.EntryRoom.{VoteGroup, few_entries}
 use Rattle.range_laws.proofs.KeptEntries.{AreKept, IsKept, count_map}
 use Rattle.range_laws.proofs.KeptHeads.{AuthorityOf, HasAuthority, KeptIs, nothing_kept, one_more}
 use Rattle.range_laws.proofs.KeptSome.{AreSome, none_some, some_kept}
-use Rattle.range_laws.proofs.ReadBytes.{bytes_drop, bytes_take}
-use Rattle.range_laws.proofs.Saying.{EachSound, all_sound, each_stands}
 use Rattle.range_laws.proofs.KeptFacts.{facts_ranged}
 
 -- ---- the sections of a vote

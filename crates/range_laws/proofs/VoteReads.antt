@@ -3,9 +3,9 @@ use Rattle.std.proofs.Common.{◌≡◌, ℕ, ◌≤◌, true, List, [], length,
 use Rattle.std.specs.Prelude.{All, IfSome, is_some}
 use Rattle.item_terms.specs.Items.{Item}
 use Rattle.item_terms.specs.Words.{words_of}
+use Rattle.dirdoc_grammar.specs.Writing.{IsLineRest}
 use Rattle.dir_values.specs.FlagSets.{wrong_flag}
 use Rattle.dir_values.specs.Numbers.{wrong_number}
-use Rattle.dirdoc_grammar.specs.Writing.{IsLineRest}
 use Rattle.frame_terms.specs.declared.document.Taken.{Taken}
 use Rattle.frame_terms.specs.declared.row.Limit.TheVariants as limit
 use Rattle.frame_values.specs.Arguments.{arguments_of}
@@ -13,21 +13,22 @@ use Rattle.frame_values.specs.Values.{own_of_value}
 use Rattle.frame_values.specs.declared.values.Value.{Value}
 use Rattle.frame_values.specs.declared.values.Value.TheVariants as value
 use Rattle.list_values.specs.Params.{wrong_param}
-use Rattle.vote_doc.specs.Saying.{delays_in, delays_of_value, signature_in, signature_of_value, source_in}
-use Rattle.vote_doc.specs.Saying.{source_of_value}
 use Rattle.vote_frame.specs.Tables.{over_limit, value_at, vote_tables}
 use Rattle.vote_frame.specs.declared.frame.VoteKind.{VoteKind}
 use Rattle.vote_frame.specs.declared.frame.VoteKind.TheVariants as kind
 use Rattle.vote_frame.specs.declared.frame.VoteValue.{VoteValue}
 use Rattle.vote_frame.specs.declared.frame.VoteValue.TheVariants as own
+use Rattle.vote_doc.specs.Saying.{delays_in, delays_of_value, signature_in, signature_of_value, source_in}
+use Rattle.vote_doc.specs.Saying.{source_of_value}
 use Rattle.vote_laws.proofs.VoteItems.{has_flags, has_lists, has_methods, has_rests, has_signature, has_sources}
 use Rattle.vote_laws.proofs.VoteItems.{has_times}
-use Rattle.range_laws.proofs.CertRanges.{TextIs, twenty_zeros}
+use Rattle.row_laws.proofs.ReadBytes.{twenty_zeros}
+use Rattle.row_laws.proofs.ReadSteps.{no_fault}
+use Rattle.row_laws.proofs.Saying.{Says}
+use Rattle.range_laws.proofs.ValueTexts.{TextIs}
 use Rattle.range_laws.proofs.LineReads.{AreDelays, IsSigned, IsSourceIn, delays_read, few_words, reads_say, rests_say}
 use Rattle.range_laws.proofs.LineReads.{signature_reads, source_reads, texts_say}
 use Rattle.range_laws.proofs.ReadNames.{IsName, names_of_words}
-use Rattle.range_laws.proofs.ReadSteps.{no_fault}
-use Rattle.range_laws.proofs.Saying.{Says}
 
 -- ---- values of their own
 

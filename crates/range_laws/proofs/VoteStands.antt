@@ -1,6 +1,6 @@
 -- What stands in a section of a vote says what the row of its keyword has.
-use Rattle.std.proofs.Common.{◌≡◌, ℕ, Bool, true, false, List, [], ◌∷◌, Option, Some, None, refl, sym, ap, ◌∙◌}
-use Rattle.std.proofs.Common.{Result, Ok, inl, inr}
+use Rattle.std.proofs.Common.{◌≡◌, ℕ, Bool, true, false, List, [], ◌∷◌, Option, Some, None, refl, sym, ap, ◌∙◌, Result}
+use Rattle.std.proofs.Common.{Ok, inl, inr}
 use Rattle.std.specs.Prelude.{IfSome, is_some, if◌then◌else◌}
 use Rattle.frame_terms.specs.declared.document.Taken.{Taken}
 use Rattle.frame_terms.specs.declared.fault.FrameFault.{FrameFault}
@@ -10,17 +10,18 @@ use Rattle.frame_terms.specs.declared.row.Row.{Row}
 use Rattle.frame_terms.specs.Keywords.{same}
 use Rattle.frame_terms.specs.Order.{inner, opener}
 use Rattle.frame_terms.specs.Sections.{row_of}
+use Rattle.frame_terms.specs.Tables.{Tables}
 use Rattle.frame_values.specs.Values.{item_at}
 use Rattle.frame_values.specs.declared.values.Value.{Value}
 use Rattle.frame_laws.proofs.KnownWords.{same-sym}
-use Rattle.table_laws.specs.Items.{IsItemIn}
-use Rattle.table_laws.specs.Order.{BeginsWithOpener}
 use Rattle.vote_frame.specs.Tables.{vote_tables}
 use Rattle.vote_frame.specs.declared.frame.VoteKind.{VoteKind}
 use Rattle.vote_frame.specs.declared.frame.VoteSection.{VoteSection}
 use Rattle.vote_frame.specs.declared.frame.VoteSection.TheVariants as section
 use Rattle.vote_frame.specs.declared.frame.VoteValue.{VoteValue}
-use Rattle.range_laws.proofs.Saying.{EachStands, Stands, found, of_row}
+use Rattle.table_laws.specs.Items.{IsItemIn}
+use Rattle.table_laws.specs.Order.{BeginsWithOpener}
+use Rattle.row_laws.proofs.Saying.{EachStands, Says, Stands, found, of_row}
 use Rattle.range_laws.proofs.VoteReads.{VoteSays}
 
 abbrev pub VoteTaken : Type 0
@@ -77,22 +78,22 @@ item_says bytes P name taken keyword own_row other there is each =
     by (Some one) stands =
         is one.value (stands_for bytes name one keyword own_row other there stands.0 stands.1)
 
-abbrev as_read : Value VoteValue → Result (Value VoteValue) FrameFault
+abbrev as_read : {V : Type 0} → V → Result V FrameFault
 as_read v = Ok v
 
--- an item says what one of the kinds has, whichever
-pub any_says : {bytes : List ℕ} {name : VoteSection} {one : VoteTaken} → VoteStands bytes name one
-    → (of : VoteKind) × VoteSays bytes of one.value
-any_says {bytes} {name} {one} stands = by stands.within
+-- an item says what one of the kinds has, whichever, whatever the tables
+pub any_says : {S K V X : Type 0} {tables : Tables S K V X} {bytes : List ℕ} {name : S} {one : Taken V}
+    → Stands tables bytes name one → (of : K) × Says tables bytes of one.value
+any_says {K = K} {V = V} {tables = tables} {bytes = bytes} {name = name} {one = one} stands = by stands.within
   where
-    by : IsItemIn vote_tables stands.remembered name stands.item one → (of : VoteKind) × VoteSays bytes of one.value
+    by : IsItemIn tables stands.remembered name stands.item one → (of : K) × Says tables bytes of one.value
     by (inl is) = (
       is.row.kind,
       record {
         remembered = stands.remembered;
         item = stands.item;
         sound = stands.sound;
-        says = is.says ∙ ap (λ (o : VoteTaken). as_read o.value) (sym is.stands);
+        says = is.says ∙ ap (λ (o : Taken V). as_read o.value) (sym is.stands);
       },
     )
     by (inr is) = (
@@ -101,7 +102,7 @@ any_says {bytes} {name} {one} stands = by stands.within
         remembered = stands.remembered;
         item = stands.item;
         sound = stands.sound;
-        says = is.taken.says ∙ ap (λ (o : VoteTaken). as_read o.value) (sym is.taken.stands);
+        says = is.taken.says ∙ ap (λ (o : Taken V). as_read o.value) (sym is.taken.stands);
       },
     )
 

@@ -1,25 +1,27 @@
 -- The items of a vote that says what is in range may be written, but for the limits.
-use Rattle.std.proofs.Common.{◌≡◌, ℕ, true, List, [], ◌∷◌, ◌++◌, Option, refl, sym, ap, subst}
-use Rattle.std.proofs.Common.{◌∙◌, append_assoc}
+use Rattle.std.proofs.Common.{◌≡◌, ℕ, true, List, [], ◌∷◌, ◌++◌, Option, refl, sym, ap, subst, ◌∙◌, append_assoc}
 use Rattle.std.specs.Prelude.{All, IfSome, codes, decimal, map, option_map, ℤ}
 use Rattle.std.proofs.lemmas.List.Elements.{All-append, All-cons}
 use Rattle.base64.specs.GeneralPurpose.{IsBytes}
 use Rattle.dir_bytes.specs.FieldTexts.{address_text, hex_text}
+use Rattle.dirdoc_grammar.specs.Writers.{is_argument}
+use Rattle.dirdoc_grammar.specs.Writing.{IsLineRest}
+use Rattle.dirdoc_laws.proofs.LineRests.{rest_of_argument, rest_of_nothing}
+use Rattle.dirdoc_laws.specs.Written.{IsItem}
 use Rattle.dir_values.specs.FlagSets.{set_text}
 use Rattle.dir_values.specs.Names.{is_nickname}
 use Rattle.dir_values.specs.Numbers.{numbers_text}
 use Rattle.dir_values.specs.declared.algorithm.Algorithm.{Algorithm}
 use Rattle.dir_values.specs.declared.algorithm.Algorithm.TheVariants.{Sha1, Sha256}
-use Rattle.dirdoc_grammar.specs.Writers.{is_argument}
-use Rattle.dirdoc_grammar.specs.Writing.{IsLineRest}
-use Rattle.dirdoc_laws.proofs.LineRests.{rest_of_argument, rest_of_nothing}
-use Rattle.dirdoc_laws.specs.Written.{IsItem}
 use Rattle.frame_terms.specs.declared.keyword.Keyword.{Keyword}
 use Rattle.frame_terms.specs.declared.keyword.Keyword.TheVariants as the
 use Rattle.frame_values.specs.Items.{bare, item_if, timed, with_object}
 use Rattle.frame_values.specs.Ranges.{AreTwenty}
+use Rattle.random_lines.specs.Values.{random_text}
+use Rattle.random_lines.specs.declared.value.SharedRandom.{SharedRandom}
 use Rattle.frame_laws.proofs.WordTexts.{IsWord, two_words, word_of_address, word_of_identity, word_of_nickname}
 use Rattle.frame_laws.proofs.WordTexts.{word_of_number, words_of_flags, words_of_numbers}
+use Rattle.line_laws.specs.Again.{IsRandomInRange}
 use Rattle.list_values.specs.declared.named.Named.{Named}
 use Rattle.list_values.specs.Params.{params_text}
 use Rattle.list_values.specs.Protocols.{protocols_text}
@@ -37,13 +39,10 @@ use Rattle.vote_terms.specs.declared.lists.VoteLists.{VoteLists}
 use Rattle.vote_text.specs.Entries.{entries_items}
 use Rattle.vote_text.specs.Lists.{param_items, protocol_items, recommended_items, required_items, version_items}
 use Rattle.vote_text.specs.Texts.{algorithm_text, authority_items, delays_text, flag_items, footer_items, kind_items}
-use Rattle.vote_text.specs.Texts.{random_items}
-use Rattle.vote_text.specs.Texts.{preamble_items, signer_text, source_text, time_items, vote_items}
-use Rattle.line_laws.specs.Again.{IsRandomInRange}
-use Rattle.random_lines.specs.Values.{random_text}
-use Rattle.random_lines.specs.declared.value.SharedRandom.{SharedRandom}
+use Rattle.vote_text.specs.Texts.{random_items, preamble_items, signer_text, source_text, time_items, vote_items}
 use Rattle.vote_laws.proofs.VoteRandoms.{random_fills}
-use Rattle.vote_laws.specs.Again.{AreFlags, AreListsInRange, AreMethods, AreVoteParams, IsEntryInRange, IsSignatureInRange}
+use Rattle.vote_laws.specs.Again.{AreFlags, AreListsInRange, AreMethods, AreVoteParams, IsEntryInRange}
+use Rattle.vote_laws.specs.Again.{IsSignatureInRange}
 use Rattle.range_laws.proofs.CertItems.{HasBytes, cert_may}
 use Rattle.range_laws.proofs.EntryTexts as entry
 use Rattle.range_laws.proofs.EntryTexts.{entries_may, made_rest}

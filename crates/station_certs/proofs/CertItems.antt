@@ -33,7 +33,7 @@ use Rattle.given_certs.specs.Lifted.{moved_taken}
 use Rattle.given_certs.proofs.Holding.{CertTaken, Said, alone_rows, row_inside, row_there}
 use Rattle.given_certs.proofs.MovedValues.{object_said}
 use Rattle.given_certs.proofs.Simulated.{taken_of_moved}
-use Rattle.range_laws.proofs.ReadSteps.{placed}
+use Rattle.row_laws.proofs.ReadSteps.{placed}
 use Rattle.vote_frame.specs.Tables.{vote_tables}
 use Rattle.vote_frame.specs.declared.frame.VoteSection.TheVariants as vote
 use Rattle.station_frame.specs.Tables.{station_tables}

@@ -32,8 +32,8 @@ use Rattle.table_laws.specs.Counts.{RowsStand}
 use Rattle.table_laws.specs.Items.{AreItemsIn}
 use Rattle.table_laws.proofs.Counting.{stand_as_often}
 use Rattle.table_laws.proofs.Taking.{are_said}
-use Rattle.range_laws.proofs.CertRanges.{TextIs, text_ranged}
-use Rattle.range_laws.proofs.Saying.{EachSound, all_sound}
+use Rattle.range_laws.proofs.ValueTexts.{TextIs, text_ranged}
+use Rattle.row_laws.proofs.Saying.{EachSound, all_sound}
 use Rattle.station_frame.specs.Tables.{station_tables}
 use Rattle.station_frame.specs.declared.frame.StationKind.TheVariants as kind
 use Rattle.station_frame.specs.declared.frame.StationSection.{StationSection}

@@ -21,8 +21,8 @@ use Rattle.frame_values.specs.declared.found.DirSource.{DirSource}
 use Rattle.frame_values.specs.declared.found.Span.{Span}
 use Rattle.frame_values.specs.declared.values.Value.{Value}
 use Rattle.frame_values.specs.declared.values.Value.TheVariants as value
-use Rattle.range_laws.proofs.ItemArguments.{IsSound, are_found, front_found, others_found}
-use Rattle.range_laws.proofs.ReadSteps.{ReadAs, any_reads, next_reads, no_fault, span_reads, was_read}
+use Rattle.row_laws.proofs.ItemArguments.{IsSound, are_found, front_found, others_found}
+use Rattle.row_laws.proofs.ReadSteps.{ReadAs, any_reads, next_reads, no_fault, span_reads, was_read}
 use Rattle.station_frame.specs.Lines.{own_of}
 use Rattle.station_frame.specs.Sources.{fits_line, names_part, ports_part, source_line}
 use Rattle.station_frame.specs.Tables.{over_limit, value_at}

@@ -23,10 +23,10 @@ use Rattle.list_values.specs.Protocols.{wrong_protocol}
 use Rattle.list_values.specs.VersionLists.{wrong_version_list}
 use Rattle.frame_laws.proofs.StandingParts.{rest_part}
 use Rattle.table_laws.specs.Items.{AreItemsIn, IsItemIn}
-use Rattle.range_laws.proofs.CertRanges.{TextIs}
-use Rattle.range_laws.proofs.ItemArguments.{IsSound}
-use Rattle.range_laws.proofs.ReadSteps.{no_fault}
-use Rattle.range_laws.proofs.Saying.{EachSound, by_own_row}
+use Rattle.range_laws.proofs.ValueTexts.{TextIs}
+use Rattle.row_laws.proofs.ItemArguments.{IsSound}
+use Rattle.row_laws.proofs.ReadSteps.{no_fault}
+use Rattle.row_laws.proofs.Saying.{EachSound, by_own_row}
 use Rattle.signed_laws.proofs.KeywordTexts.{text_as}
 use Rattle.station_frame.specs.Tables.{over_limit, station_tables, value_at}
 use Rattle.station_frame.specs.declared.across.Across.{Across}

@@ -1,22 +1,19 @@
 -- What is read of a station input is in range.
-use Rattle.std.proofs.Common.{◌≡◌, ℕ, true, List, [], ◌∷◌, length, Option, Some, None, refl, sym, subst}
+use Rattle.std.proofs.Common.{◌≡◌, ℕ, List, [], ◌∷◌, length, Option, Some, None, refl, sym, subst}
 use Rattle.std.proofs.Common.{Result, Ok, Err, arith, inl, inr}
-use Rattle.std.specs.Prelude.{All, IfSome, is_some, option_map}
+use Rattle.std.specs.Prelude.{All, IfSome, option_map}
 use Rattle.std.proofs.lemmas.List.Elements.{All-head, All-tail}
 use Rattle.base64.specs.GeneralPurpose.{IsBytes}
 use Rattle.item_terms.specs.Items.{Item, items_of}
 use Rattle.dirdoc_grammar.specs.Writing.{IsLineRest}
 use Rattle.frame_terms.specs.Documents.{Document, document_of, finish, group}
 use Rattle.frame_terms.specs.Keywords.{same}
-use Rattle.frame_terms.specs.Rows.{row}
 use Rattle.frame_terms.specs.declared.fault.ReadRefusal.{ReadRefusal}
 use Rattle.frame_terms.specs.declared.keyword.Keyword.TheVariants as the
-use Rattle.frame_terms.specs.declared.row.Count.TheVariants.{One, Optional}
 use Rattle.frame_values.specs.Parts.{part}
-use Rattle.frame_values.specs.Values.{item_at, own_of_value, text_if}
+use Rattle.frame_values.specs.Values.{item_at, text_if}
 use Rattle.frame_values.specs.declared.found.Span.{Span}
 use Rattle.frame_values.specs.declared.values.Value.{Value}
-use Rattle.frame_values.specs.declared.values.Value.TheVariants as value
 use Rattle.list_laws.specs.Ranges.{AreProtocolsInRange, AreVersionsInRange}
 use Rattle.list_lines.specs.Listed.{params_in, protocols_in, versions_in}
 use Rattle.authority_certs.specs.Certs.{cert_in}
@@ -28,56 +25,49 @@ use Rattle.table_laws.specs.Items.{AreItemsIn}
 use Rattle.table_laws.proofs.Counting.{stand_as_often}
 use Rattle.table_laws.proofs.Taking.{are_said}
 use Rattle.vote_laws.specs.Again.{AreListsInRange, AreVoteParams}
-use Rattle.range_laws.proofs.CertRanges.{TextIs, has_bytes, section_says, text_ranged, twenty_zeros}
+use Rattle.range_laws.proofs.CertRanges.{has_bytes, nothing_says, section_says}
 use Rattle.range_laws.proofs.LineReads.{IsSourceIn}
 use Rattle.range_laws.proofs.ReadLists.{params_ranged, protocols_ranged, versions_ranged}
-use Rattle.range_laws.proofs.Saying.{EachSound, all_sound, each_stands}
+use Rattle.row_laws.proofs.Saying.{EachSound, all_sound, each_stands}
 use Rattle.range_laws.proofs.VoteReads.{AreFew}
 use Rattle.station_frame.specs.Tables.{station_tables}
 use Rattle.station_frame.specs.declared.frame.StationKind.TheVariants as kind
 use Rattle.station_frame.specs.declared.frame.StationSection.{StationSection}
 use Rattle.station_frame.specs.declared.frame.StationSection.TheVariants as its
 use Rattle.station_frame.specs.declared.said.StationValue.{StationValue}
-use Rattle.station_frame.specs.declared.said.StationValue.TheVariants as own
 use Rattle.station_input.specs.Kept.{kept_with, none_kept}
 use Rattle.station_input.specs.Lists.{lists_in, vote_lists}
 use Rattle.station_input.specs.Reading.{max_station, with_facts}
-use Rattle.station_input.specs.Saying.{measured_in, source_in, source_of_value}
+use Rattle.station_input.specs.Saying.{measured_in, source_in}
 use Rattle.station_laws.proofs.KeptLines.{AreSections, facts_in, groups_are, same_facts, sections_are}
 use Rattle.station_laws.proofs.NamedOnce.{StationGroup}
 use Rattle.station_ranges.specs.Ranges.{HasKeyBytes, IsMeasuredInRange, IsStationInRange, StationsReadAreInRange}
-use Rattle.station_ranges.proofs.StationReads.{SourceIs, params_say, rest_says, source_says}
-use Rattle.station_ranges.proofs.StationStands.{EachStationStands, StationTaken, certificates, item_says}
-use Rattle.station_ranges.proofs.StationStands.{measured_ranged}
-use Rattle.station_ranges.proofs.StationStands.{own_there}
+use Rattle.station_input.specs.Facts.{facts_of}
+use Rattle.row_laws.proofs.KindRanges.{field_is, once_there}
+use Rattle.row_laws.proofs.Saying.{EachStands}
+use Rattle.station_ranges.proofs.StationStands.{StationTaken, certificates, measured_ranged, never_station}
+use Rattle.station_ranges.proofs.StationReads.{params_are, rest_is, source_is}
 
 -- ---- lists
-
-made_if : {A : Type 0} (P : List ℕ → Type 0) (Q : A → Type 0) (of : List ℕ → A) (text : Option (List ℕ))
-    → IfSome text P
-    → ((t : List ℕ) → P t → Q (of t)) → IfSome (option_map of text) Q
-made_if P Q of None is made = tt
-made_if P Q of (Some text) is made = made text is
-
-any_text : (text : Option (List ℕ)) → IfSome text (λ t. Unit {0})
-any_text None = tt
-any_text (Some text) = tt
 
 params_few : (text : List ℕ) → AreFew 1024 text → AreVoteParams (params_in text)
 params_few text few =
     let are = params_ranged text in record { count = omega (arith, few, are.1); each = are.0 }
 
-versions_at : (bytes : List ℕ) (span : Option Span)
-    → IfSome (option_map versions_in (option_map (part bytes) span)) AreVersionsInRange
-versions_at bytes span =
-    let text = option_map (part bytes) span in
-    made_if (λ t. Unit {0}) AreVersionsInRange versions_in text (any_text text) (λ t is. versions_ranged t)
+module _ (bytes : List ℕ) where
+  versions_at : (span : Option Span) → IfSome (option_map versions_in (option_map (part bytes) span)) AreVersionsInRange
+  versions_at None = tt
+  versions_at (Some span) = versions_ranged (part bytes span)
 
-protocols_at : (bytes : List ℕ) (span : Option Span)
-    → IfSome (option_map protocols_in (option_map (part bytes) span)) AreProtocolsInRange
-protocols_at bytes span =
-    let text = option_map (part bytes) span in
-    made_if (λ t. Unit {0}) AreProtocolsInRange protocols_in text (any_text text) (λ t is. protocols_ranged t)
+  protocols_at : (span : Option Span)
+      → IfSome (option_map protocols_in (option_map (part bytes) span)) AreProtocolsInRange
+  protocols_at None = tt
+  protocols_at (Some span) = protocols_ranged (part bytes span)
+
+  params_at : (span : Option Span) → IfSome (option_map (part bytes) span) (AreFew 1024)
+      → IfSome (option_map params_in (option_map (part bytes) span)) AreVoteParams
+  params_at None few = tt
+  params_at (Some span) few = params_few (part bytes span) few
 
 -- ---- the station's section
 
@@ -88,28 +78,20 @@ record SectionSays (bytes : List ℕ) (taken : List StationTaken) : Type 0 where
   params : IfSome (option_map (part bytes) (text_if (item_at taken the.Params))) (AreFew 1024)
   measured : All IsMeasuredInRange (measured_in taken)
 
-source_ranged : (bytes : List ℕ) (one : Option StationTaken) → is_some one ≡ true
-    → IfSome one (λ o. SourceIs bytes o.value) → IsSourceIn bytes (source_in one)
-source_ranged bytes None some is = absurd (cc (some))
-source_ranged bytes (Some one) some is = by one.value is
-  where
-    by : (v : Value StationValue) → SourceIs bytes v → IsSourceIn bytes (source_of_value (own_of_value v))
-    by (value.Own (own.Source source)) it = it
-    by _ it = absurd it
-
-section_ranged : (bytes : List ℕ) (taken : List StationTaken) → EachStationStands bytes its.Station taken
-    → RowsStand station_tables its.Station taken → SectionSays bytes taken
+section_ranged : (bytes : List ℕ) → IsBytes bytes → (taken : List StationTaken)
+    → EachStands station_tables bytes its.Station taken → RowsStand station_tables its.Station taken
+    → SectionSays bytes taken
 unfolding same
-section_ranged bytes taken each counts = record {
-  source = source_ranged bytes (item_at taken the.Own) (own_there taken counts)
-      (item_says bytes (SourceIs bytes) taken the.Own (row the.Own One kind.Source) refl
-      (λ v says. source_says says) each);
-  contact = text_ranged IsLineRest bytes (item_at taken the.Contact)
-      (item_says bytes (TextIs IsLineRest bytes) taken the.Contact (row the.Contact Optional kind.Rest) refl
-      (λ v says. rest_says says) each);
-  params = text_ranged (AreFew 1024) bytes (item_at taken the.Params)
-      (item_says bytes (TextIs (AreFew 1024) bytes) taken the.Params (row the.Params Optional kind.Params) refl
-      (λ v says. params_say says) each);
+section_ranged bytes are taken each counts = record {
+  source = field_is station_tables bytes are its.Station taken each the.Own _ refl (never_station the.Own) source_is
+      source_in (IsSourceIn bytes)
+      (λ none. absurd (once_there station_tables its.Station taken the.Own kind.Source refl counts none))
+      (λ one source is. is);
+  contact = field_is station_tables bytes are its.Station taken each the.Contact _ refl (never_station the.Contact)
+      rest_is (λ o. option_map (part bytes) (text_if o)) (λ o. IfSome o IsLineRest) (λ none. tt) (λ one span is. is);
+  params = field_is station_tables bytes are its.Station taken each the.Params _ refl (never_station the.Params)
+      params_are (λ o. option_map (part bytes) (text_if o)) (λ o. IfSome o (AreFew 1024)) (λ none. tt)
+      (λ one span is. is);
   measured = measured_ranged bytes its.Station taken each;
 }
 
@@ -123,9 +105,7 @@ lists_ranged bytes taken few = record {
   recommended_relay_protocols = protocols_at bytes (text_if (item_at taken the.RecommendedRelayProtocols));
   required_client_protocols = protocols_at bytes (text_if (item_at taken the.RequiredClientProtocols));
   required_relay_protocols = protocols_at bytes (text_if (item_at taken the.RequiredRelayProtocols));
-  params = made_if (AreFew 1024) AreVoteParams params_in (option_map (part bytes) (text_if
-      (item_at taken the.Params))) few
-      params_few;
+  params = params_at bytes (text_if (item_at taken the.Params)) few;
 }
 
 -- ---- all that is read
@@ -140,42 +120,45 @@ keys_of bytes head are =
       certification = keys.certification;
     }
 
--- of a certificate that was not read too
-none_says : (bytes : List ℕ) → SaysInRange (cert_in bytes no_head)
-none_says bytes =
-    record { address = tt; fingerprint = twenty_zeros; published = omega arith; expires = omega arith }
-
 abbrev AreFrom : List Item → StationGroup → Type 0
 AreFrom items g = AreItemsIn station_tables g.section items g.taken
 
 abbrev CountsOf : StationGroup → Type 0
 CountsOf g = RowsStand station_tables g.section g.taken
 
+-- what is kept of the station's section, where the head of its certificate is in range
+made_ranged : (bytes : List ℕ) → IsBytes bytes → (taken : List StationTaken) → SectionSays bytes taken
+    → (head : CertHead) → SaysInRange (cert_in bytes head)
+    → IsStationInRange
+    (facts_of bytes (kept_with (record none_kept { head = record none_kept.head { certificate = head } }) its.Station
+    taken))
+made_ranged bytes are taken says head certificate = record {
+  nickname = says.source.nickname;
+  identity = says.source.identity;
+  address = says.source.address;
+  ip = says.source.ip;
+  dir_port = says.source.dir_port;
+  or_port = says.source.or_port;
+  contact = says.contact;
+  lists = lists_ranged bytes taken says.params;
+  measured = says.measured;
+  certificate = certificate;
+  keys = keys_of bytes head are;
+}
+
 facts_ranged : (bytes : List ℕ) (items : List Item) (groups : List StationGroup) (taken : List StationTaken)
     → IsBytes bytes → EachSound bytes items → AreSections groups taken → All (AreFrom items) groups
     → All CountsOf groups
     → IsStationInRange (facts_in bytes groups)
 facts_ranged bytes items groups taken are sound (inl is) from counts =
-    let one : List StationGroup = group its.Station taken ∷ [] in
     let here = All-head (AreFrom items) (group its.Station taken) []
     (subst (λ (l : List StationGroup). All (AreFrom items) l) is from) in
     let often = All-head CountsOf (group its.Station taken) []
     (subst (λ (l : List StationGroup). All CountsOf l) is counts) in
-    let says = section_ranged bytes taken
+    let says = section_ranged bytes are taken
     (each_stands station_tables bytes its.Station items taken sound here) often in
-    subst (λ (l : List StationGroup). IsStationInRange (facts_in bytes l)) (sym is) (record {
-      nickname = says.source.nickname;
-      identity = says.source.identity;
-      address = says.source.address;
-      ip = says.source.ip;
-      dir_port = says.source.dir_port;
-      or_port = says.source.or_port;
-      contact = says.contact;
-      lists = lists_ranged bytes taken says.params;
-      measured = says.measured;
-      certificate = none_says bytes;
-      keys = keys_of bytes no_head are;
-    })
+    subst (λ (l : List StationGroup). IsStationInRange (facts_in bytes l)) (sym is)
+    (made_ranged bytes are taken says no_head (nothing_says bytes))
 facts_ranged bytes items groups taken are sound (inr (inside, is)) from counts =
     let first : StationGroup = group its.Certificate inside in
     let second : StationGroup = group its.Station taken in
@@ -184,24 +167,12 @@ facts_ranged bytes items groups taken are sound (inr (inside, is)) from counts =
     let there = All-head (AreFrom items) first (second ∷ []) all_from in
     let here = All-head (AreFrom items) second [] (All-tail (AreFrom items) first (second ∷ []) all_from) in
     let often = All-head CountsOf second [] (All-tail CountsOf first (second ∷ []) all_counts) in
-    let says = section_ranged bytes taken
+    let says = section_ranged bytes are taken
     (each_stands station_tables bytes its.Station items taken sound here) often in
-    let certificate : SaysInRange (cert_in bytes (head_of inside)) =
-    section_says station_tables its.Certificate kind.Certificate certificates bytes inside
-    (each_stands station_tables bytes its.Certificate items inside sound there) in
-    subst (λ (l : List StationGroup). IsStationInRange (facts_in bytes l)) (sym is) (record {
-      nickname = says.source.nickname;
-      identity = says.source.identity;
-      address = says.source.address;
-      ip = says.source.ip;
-      dir_port = says.source.dir_port;
-      or_port = says.source.or_port;
-      contact = says.contact;
-      lists = lists_ranged bytes taken says.params;
-      measured = says.measured;
-      certificate = certificate;
-      keys = keys_of bytes (head_of inside) are;
-    })
+    subst (λ (l : List StationGroup). IsStationInRange (facts_in bytes l)) (sym is)
+    (made_ranged bytes are taken says (head_of inside)
+    (section_says station_tables its.Certificate kind.Certificate certificates bytes are inside
+    (each_stands station_tables bytes its.Certificate items inside sound there)))
 
 -- ---- the law
 

@@ -17,8 +17,6 @@ use Rattle.frame_values.specs.declared.values.Value.{Value}
 use Rattle.frame_values.specs.declared.values.Value.TheVariants as value
 use Rattle.list_lines.specs.Lines.{params_of, protocols_of, versions_of}
 use Rattle.list_values.specs.Params.{wrong_param}
-use Rattle.group_laws.proofs.Readings.{Reads, text_at}
-use Rattle.group_laws.proofs.SourceRows.{HasRests}
 use Rattle.authority_certs.specs.Tables.{cert_value}
 use Rattle.authority_certs.specs.declared.frame.CertKind.{CertKind}
 use Rattle.authority_certs.specs.declared.frame.CertKind.TheVariants as cert
@@ -33,21 +31,23 @@ use Rattle.station_frame.specs.declared.said.MeasuredRelay.{MeasuredRelay}
 use Rattle.station_frame.specs.declared.said.StationValue.{StationValue}
 use Rattle.station_frame.specs.declared.said.StationValue.TheVariants as own
 use Rattle.station_input.specs.Saying.{measured_if}
-use Rattle.range_laws.proofs.CertRanges.{TextIs}
-use Rattle.range_laws.proofs.ItemArguments.{IsSound}
-use Rattle.range_laws.proofs.LineReads.{IsSourceIn, few_words, reads_say, rests_say, source_reads, texts_say}
-use Rattle.range_laws.proofs.ReadSteps.{ReadAs, any_reads, field_reads, if_reads, next_reads, no_fault, number_within}
-use Rattle.range_laws.proofs.ReadSteps.{was_read}
-use Rattle.range_laws.proofs.Saying.{Says}
+use Rattle.row_laws.proofs.ItemArguments.{IsSound}
+use Rattle.range_laws.proofs.LineReads.{IsSourceIn, few_words, source_reads}
+use Rattle.row_laws.proofs.ReadSteps.{ReadAs, any_reads, field_reads, if_reads, next_reads, no_fault, number_within}
+use Rattle.row_laws.proofs.ReadSteps.{was_read}
+use Rattle.row_laws.proofs.Saying.{Says}
 use Rattle.range_laws.proofs.VoteReads.{AreFew}
 use Rattle.station_ranges.specs.Ranges.{IsMeasuredInRange}
+use Rattle.frame_values.specs.Faults.{too_many}
+use Rattle.frame_values.specs.Lines.{rest_of}
+use Rattle.frame_values.specs.Parts.{part}
+use Rattle.frame_laws.proofs.StandingParts.{rest_part}
+use Rattle.std.proofs.Common.{sym}
+use Rattle.row_laws.proofs.KindRanges.{KindIs, kind_read, kind_unless}
+use Rattle.row_laws.proofs.ReadSteps.{rest_reads}
+use Rattle.range_laws.proofs.LineReads.{rest_read}
 
 -- ---- values
-
--- an authority
-abbrev pub SourceIs : List ℕ → Value StationValue → Type 0
-SourceIs bytes (value.Own (own.Source source)) = IsSourceIn bytes source
-SourceIs bytes _ = ⊥
 
 -- what was measured of a relay, where a value says that
 abbrev pub MeasuredIs : Value StationValue → Type 0
@@ -58,15 +58,6 @@ MeasuredIs v = IfSome (measured_if v) IsMeasuredInRange
 -- an item of this kind says this
 abbrev pub StationSays : List ℕ → StationKind → Value StationValue → Type 0
 StationSays bytes of v = Says station_tables bytes of v
-
-has_sources : Reads station_tables kind.Source None (λ across. own_of) (λ found. value.Own (own.Source found))
-has_sources = record { known = λ item. refl; values = λ across item. refl }
-
-has_rests : HasRests station_tables kind.Rest
-has_rests = record { known = λ item. refl; values = λ across item. refl }
-
-has_params : Reads station_tables kind.Params (Some limit.Params) (λ across. params_of) text_at
-has_params = record { known = λ item. refl; values = λ across item. refl }
 
 abbrev own_if : Bool → ℕ → DirSource → Result DirSource ℕ
 own_if fits place source = if fits then Ok source else Err place
@@ -80,19 +71,22 @@ own_reads bytes item sound =
     (λ source. own_if (fits_line name.text host.text source) item.place source) (source_reads bytes item sound)
     (λ source is. if_reads Source (fits_line name.text host.text source) (Ok source) item.place is)
 
-pub source_says : {bytes : List ℕ} {v : Value StationValue} → StationSays bytes kind.Source v → SourceIs bytes v
-source_says {bytes} says =
-    reads_say has_sources (IsSourceIn bytes) (SourceIs bytes)
-    (λ across item sound passes. own_reads bytes item sound) (λ s is. is) says
+pub source_is : KindIs station_tables kind.Source (λ (source : DirSource). value.Own (own.Source source)) IsSourceIn
+source_is = kind_read own_of (λ across item. refl) (λ bytes are item sound. own_reads bytes item sound)
 
-pub rest_says : {bytes : List ℕ} {v : Value StationValue} → StationSays bytes kind.Rest v → TextIs IsLineRest bytes v
-rest_says says = rests_say has_rests says
+pub rest_is : KindIs station_tables kind.Rest (λ (span : Span). value.Text span)
+    (λ bytes span. IsLineRest (part bytes span))
+rest_is =
+    kind_read (λ item. Ok (rest_of item)) (λ across item. refl)
+    (λ bytes are item sound. rest_read StationValue bytes item sound)
 
-pub params_say : {bytes : List ℕ} {v : Value StationValue} → StationSays bytes kind.Params v
-    → TextIs (AreFew 1024) bytes v
-params_say says =
-    texts_say (λ (item : Item). wrong_param (arguments_of item)) has_params (AreFew 1024)
-    (λ item passes right. few_words limit.Params item passes) says
+pub params_are : KindIs station_tables kind.Params (λ (span : Span). value.Text span)
+    (λ bytes span. AreFew 1024 (part bytes span))
+params_are =
+    kind_unless (λ across item. too_many limit.Params item) (λ across item. params_of item) (λ across item. refl)
+    (λ bytes are across item sound passes.
+    rest_reads (λ (span : Span). AreFew 1024 (part bytes span)) item (wrong_param (arguments_of item))
+    (λ right. subst (AreFew 1024) (sym (rest_part sound.in_place)) (few_words limit.Params item passes)))
 
 -- ---- measured relays
 
