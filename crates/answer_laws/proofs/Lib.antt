@@ -4,3 +4,5 @@ pub mod VotesRead
 pub mod TextsAgain
 pub mod MadeBasis
 pub mod MadeVotes
+mod ReportStanding
+pub mod FewRelays

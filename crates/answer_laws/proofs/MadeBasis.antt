@@ -19,7 +19,7 @@ use Rattle.vote_schedule.specs.Schedules.{IsSchedule}
 use Rattle.schedule_laws.proofs.Sound.{schedules_such}
 use Rattle.station_input.specs.declared.facts.StationFacts.{StationFacts}
 use Rattle.vote_maker.specs.Made.{Basis, schedule_in}
-use Rattle.range_laws.proofs.ReadBytes.{bytes_drop}
+use Rattle.row_laws.proofs.ReadBytes.{bytes_drop}
 use Rattle.maker_laws.specs.Given.{IsBasis, IsDescriptor, IsStation}
 use Rattle.station_commands.specs.Descriptors.{IsPoolOf, Stand, found_from, no_pool, pool_with}
 use Rattle.station_commands.specs.Voting.{IsBasisOf}

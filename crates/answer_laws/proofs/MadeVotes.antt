@@ -11,12 +11,12 @@ use Rattle.flag_rules.specs.declared.ruling.Ruling.{Ruling}
 use Rattle.station_input.specs.Reading.{station_of}
 use Rattle.station_input.specs.declared.facts.StationFacts.{StationFacts}
 use Rattle.vote_terms.specs.Votes.{ReadVote}
-use Rattle.vote_doc.specs.Behind.{behind}
+use Rattle.blank_lines.specs.Behind.{behind}
 use Rattle.vote_doc.specs.Reading.{max_vote, vote_of}
 use Rattle.vote_maker.specs.Made.{Basis}
 use Rattle.vote_maker.specs.Relays.{known_of}
 use Rattle.descriptor_ranges.proofs.DescriptorRead.{descriptors_in_range}
-use Rattle.range_laws.proofs.ReadBytes.{bytes_drop}
+use Rattle.row_laws.proofs.ReadBytes.{bytes_drop}
 use Rattle.maker_laws.specs.Given.{IsBasis, IsStation}
 use Rattle.maker_laws.specs.FileVotes.{IsToldStation}
 use Rattle.maker_laws.specs.ReadAsMade.{IsSigning, signed_made_text}

@@ -1,11 +1,11 @@
 -- The votes of an input of bytes are fit.
-use Rattle.std.proofs.Common.{ℕ, List, [], ◌∷◌}
+use Rattle.std.proofs.Common.{◌≡◌, ℕ, List, [], ◌∷◌, Ok}
 use Rattle.std.specs.Prelude.{All, Contains}
 use Rattle.std.proofs.lemmas.List.Elements.{All-cons, All-contains, All-contains_itself, All-nil, All-weaker}
-use Rattle.base64.specs.GeneralPurpose.{IsBytes}
 use Rattle.vote_terms.specs.Held.{held}
 use Rattle.vote_terms.specs.Votes.{ReadVote}
 use Rattle.vote_terms.proofs.HeldLaw.{held_law}
+use Rattle.vote_doc.specs.Reading.{vote_from}
 use Rattle.range_laws.proofs.VoteRead.{vote_in_range}
 use Rattle.answer_laws.specs.Inputs.{AreVotes, InputsAreVotes}
 use Rattle.answer_laws.specs.Votes.{IsFit, VotesInRangeAreFit, VotesOfInputsAreFit, VotesReadAreFit}
@@ -39,22 +39,24 @@ in_range_fit vote is = record {
 pub read_fit : VotesReadAreFit
 read_fit start bytes vote after are is = in_range_fit vote (vote_in_range start bytes vote after are is)
 
--- votes that stand in the input from a place on
-standing_fit : (place : ℕ) (votes : List ReadVote) (bytes : List ℕ) → IsBytes bytes → AreVotes place votes bytes
-    → All IsFit votes
-standing_fit place [] bytes are stand = All-nil IsFit
-standing_fit place (vote ∷ votes) bytes are stand =
-    All-cons IsFit vote votes (read_fit place bytes vote stand.1 are stand.2)
-    (standing_fit stand.1 votes bytes are stand.3)
+-- what holds of each vote that is read from the bytes holds of those that stand in them from a place on
+pub standing_all : (P : ReadVote → Type 0) (bytes : List ℕ)
+    → ((place : ℕ) (vote : ReadVote) (end : ℕ) → vote_from place bytes ≡ Ok (vote, end) → P vote) → (place : ℕ)
+    (votes : List ReadVote) → AreVotes place votes bytes → All P votes
+standing_all P bytes each place [] stand = All-nil P
+standing_all P bytes each place (vote ∷ votes) stand =
+    All-cons P vote votes (each place vote stand.1 stand.2) (standing_all P bytes each stand.1 votes stand.3)
 
--- of votes that are fit each that is held is
-held_fit : (votes : List ReadVote) → All IsFit votes → All IsFit (held votes)
-held_fit votes all =
-    All-weaker (Contains (held votes)) IsFit (λ vote has. All-contains IsFit votes vote all ((held_law votes).from vote has))
+-- what holds of each vote holds of each that is held
+pub held_all : (P : ReadVote → Type 0) (votes : List ReadVote) → All P votes → All P (held votes)
+held_all P votes all =
+    All-weaker (Contains (held votes)) P (λ vote has. All-contains P votes vote all ((held_law votes).from vote has))
     (held votes) (All-contains_itself (held votes))
 
 -- by what an input of votes is
 pub inputs_fit : InputsAreVotes → VotesOfInputsAreFit
 inputs_fit inputs bytes votes are is =
-    let all = standing_fit 0 votes bytes are ((inputs bytes votes).0 is).0 in
-    (all, held_fit votes all)
+    let all =
+    standing_all IsFit bytes (λ place vote end read. read_fit place bytes vote end are read) 0 votes
+    ((inputs bytes votes).0 is).0 in
+    (all, held_all IsFit votes all)

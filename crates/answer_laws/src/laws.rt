@@ -1,5 +1,7 @@
 // What an input of votes is, and that what is computed of it can be read.
 ghost use Rattle.answer_laws.specs.Inputs.{InputsAreVotes};
+ghost use Rattle.answer_laws.specs.Relays.{RelaysOfInputsAreFew, RelaysOfVotesAreFew};
+ghost use Rattle.answer_laws.specs.ReportInputs.{ReportInputsAreVotes};
 ghost use Rattle.answer_laws.specs.Texts.{AnswersAreReadAgain};
 ghost use Rattle.answer_laws.specs.Votes.{VotesInRangeAreFit, VotesOfInputsAreFit, VotesReadAreFit};
 
@@ -7,6 +9,13 @@ ghost use Rattle.answer_laws.specs.Votes.{VotesInRangeAreFit, VotesOfInputsAreFi
 /// before, between and behind them (dir-spec, "Vote and consensus status document formats").
 pub fn inputs_are_votes()
     ensures { InputsAreVotes }
+{}
+
+/// A law: an input of `report` begins with these votes, and its consensus at a place, exactly where they stand in it one behind the
+/// other, at most 64, with nothing but blank lines before, between and behind them, and then the line `report-consensus`, behind
+/// which that place is (dir-spec, "Vote and consensus status document formats").
+pub fn report_inputs_are_votes()
+    ensures { ReportInputsAreVotes }
 {}
 
 /// A law: a vote that is in range, but for the limits, is in range where a consensus takes something of it, and its texts may be
@@ -33,4 +42,17 @@ pub fn answers_are_read_again()
     ensures { AnswersAreReadAgain }
 {
     votes_of_inputs_are_fit();
+}
+
+/// A law: the consensus of 64 votes or fewer, each of which was read from bytes, lists fewer than 2^22 relays, since a vote has 65,535
+/// entries at most. So computing it never answers that there are too many.
+pub fn relays_of_votes_are_few()
+    ensures { RelaysOfVotesAreFew }
+{}
+
+/// A law: so does that of the votes that are held of an input of bytes.
+pub fn relays_of_inputs_are_few()
+    ensures { RelaysOfInputsAreFew }
+{
+    inputs_are_votes();
 }

@@ -1,13 +1,12 @@
 -- A date and a time of day that are read make a moment of the calendar.
-use Rattle.std.proofs.Common.{◌≡◌, ◌∙◌, ℕ, ◌+◌, ◌*◌, ◌<◌, ◌≤◌, Bool, true, false, List, length, Option, Some, None, Result, Ok, Err}
-use Rattle.std.proofs.Common.{refl, sym, ap, subst, arith, ℤ, pos, unsigned_abs}
+use Rattle.std.proofs.Common.{◌≡◌, ℕ, ◌+◌, ◌*◌, ◌<◌, ◌≤◌, Bool, true, false, List, length, Option, Some, None, Result, Ok, Err}
+use Rattle.std.proofs.Common.{refl, ap, subst, arith, pos, unsigned_abs}
 use Rattle.std.specs.Prelude.{◌==◌, ◌&&◌, nat_le, slice_index, slice_range, if◌then◌else◌}
 use Rattle.std.specs.Str.Parse.{digits_value}
 use Rattle.std.proofs.lemmas.Bool.{and_parts, leb-true}
 use Rattle.jiff_core.specs.Calendar.{IsCivilDate, days_from_civil, days_in_month}
 use Rattle.jiff_core.proofs.SignedLemmas.{signed_arith}
 use Rattle.item_terms.specs.Items.{Item}
-use Rattle.dir_bytes.specs.Causes.{last_moment}
 use Rattle.dir_bytes.specs.Fields.{address, date, day_of, day_of_parts, is_numeral, number, seconds_of, time_of_day}
 use Rattle.dir_bytes.proofs.Calendars.{day_number}
 use Rattle.dir_values.specs.Arguments.{Argument}

@@ -1,7 +1,7 @@
 -- The object of each item is base64, and so spells bytes.
-use Rattle.std.proofs.Common.{◌≡◌, ◌∙◌, ℕ, ◌+◌, Bool, true, false, List, [], ◌∷◌, length, take, drop, Option, Some, None}
-use Rattle.std.proofs.Common.{Result, Ok, Err, refl, sym, ap, subst}
-use Rattle.std.specs.Prelude.{◌&&◌, IfSome, is_ok, nat_lt, unwrap_or, if◌then◌else◌}
+use Rattle.std.proofs.Common.{◌≡◌, ℕ, ◌+◌, Bool, true, false, List, [], ◌∷◌, length, take, drop, Option, Some, None}
+use Rattle.std.proofs.Common.{Result, Ok, Err, refl, sym, subst}
+use Rattle.std.specs.Prelude.{IfSome, is_ok, nat_lt, unwrap_or, if◌then◌else◌}
 use Rattle.std.specs.Result.{result_ok}
 use Rattle.std.proofs.lemmas.Bool.{and_parts}
 use Rattle.base64.specs.Engines.{standard}
@@ -13,18 +13,18 @@ use Rattle.item_terms.specs.Faults.{at, line_fault, max_object, object_line_faul
 use Rattle.item_terms.specs.Items.{Contents, Item, Object, Open, Step, also, contents_of, items_from, keyword_line, nothing, object_lines}
 use Rattle.item_terms.specs.Items.{proceed, step}
 use Rattle.item_terms.specs.Lines.{Line, lines, size}
-use Rattle.item_terms.specs.Steps.{first_object_line, item_unless, keyword_item, line_item, object_step, open_item, open_unless, read_line}
+use Rattle.item_terms.specs.Steps.{first_object_line, item_unless, keyword_item, object_step, open_item, open_unless, read_line}
 use Rattle.item_terms.specs.Steps.{starts_dash, step_unless, with_line, with_object}
 use Rattle.item_terms.specs.Words.{begin_words, is_blank_line, is_end_line, is_keyword_line}
 use Rattle.dirdoc_grammar.specs.Bodies.{decoded}
-use Rattle.dirdoc_grammar.specs.InPlace.{EachInPlace, InPlace}
+use Rattle.dirdoc_grammar.specs.InPlace.{EachInPlace}
 use Rattle.dirdoc_grammar.proofs.Places.{stand_in_place}
 use Rattle.frame_laws.proofs.StandingParts.{at_span}
 use Rattle.frame_values.specs.Fields.{span}
 use Rattle.frame_values.specs.Parts.{bytes_in, part}
-use Rattle.frame_values.specs.Signatures.{object_if, object_of}
+use Rattle.frame_values.specs.Signatures.{object_if}
 use Rattle.frame_values.specs.declared.found.Span.{Span}
-use Rattle.lossless_laws.specs.Spelling.{EachSpellsBytes, ObjectsSpellBytes, SpellsBytes}
+use Rattle.lossless_laws.specs.Spelling.{EachSpellsBytes, ObjectsSpellBytes}
 
 -- ---- each object is base64
 
