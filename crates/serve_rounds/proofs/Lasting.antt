@@ -30,10 +30,10 @@ if_earlier P lasts a b c goes None p = tt
 if_earlier P lasts a b c goes (Some e) p = lasts.earlier a b c e goes p
 
 module _ {X : Type 0} where
-  seen_earlier : (a b c place : List (ℕ × X)) → IsPrefix a b → WasSeen b c place → WasSeen a c place
+  pub seen_earlier : (a b c place : List (ℕ × X)) → IsPrefix a b → WasSeen b c place → WasSeen a c place
   seen_earlier a b c place on w = record { longer = prefix_on a b place on w.longer; here = w.here }
 
-  seen_later : (a b c place : List (ℕ × X)) → IsPrefix b c → WasSeen a b place → WasSeen a c place
+  pub seen_later : (a b c place : List (ℕ × X)) → IsPrefix b c → WasSeen a b place → WasSeen a c place
   seen_later a b c place on w = record { longer = w.longer; here = prefix_on place b c w.here on }
 
 -- ---- kinds that last
@@ -109,7 +109,7 @@ module _ {N : Type 0} (rules : Rules) (gives : Relation) (steps : SignerSteps N)
     (station : StationFacts) (board : Locks) where
   module _ (a b c : Parts) (valid_after now : ℕ) where
     -- the own vote's text
-    text_earlier : (text : List ℕ) → Goes a b
+    pub text_earlier : (text : List ℕ) → Goes a b
         → IsTextOfBoard rules gives steps allows station board b c valid_after now text
         → IsTextOfBoard rules gives steps allows station board a c valid_after now text
     text_earlier text goes p = record {
@@ -119,7 +119,7 @@ module _ {N : Type 0} (rules : Rules) (gives : Relation) (steps : SignerSteps N)
       made = p.made;
     }
 
-    text_later : (text : List ℕ) → Goes b c
+    pub text_later : (text : List ℕ) → Goes b c
         → IsTextOfBoard rules gives steps allows station board a b valid_after now text
         → IsTextOfBoard rules gives steps allows station board a c valid_after now text
     text_later text goes p = record {

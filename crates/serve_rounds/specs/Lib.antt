@@ -1,3 +1,5 @@
 pub mod Duties
+pub mod Exchanges
 pub mod OwnVotes
+pub mod Plans
 pub mod Spans

@@ -1,9 +1,10 @@
 // A station that is advanced until nothing more comes of a moment.
-ghost use Rattle.std.specs.Prelude.{◌≡◌, ◌≤◌, Ok, IsTrue};
+ghost use Rattle.std.specs.Prelude.{◌≡◌, ◌≤◌, ◌⊎◌, Ok, true, IsTrue};
 ghost use Rattle.dir_bytes.specs.Causes.{Rose};
 ghost use Rattle.key_port.specs.Answers.{rules};
 ghost use Rattle.board_terms.specs.Boards.{IsAt, Advances, Parts};
 ghost use Rattle.serve_rounds.specs.Duties.{AdvancesAll, IsAdvance, Settles};
+ghost use Rattle.serve_rounds.specs.Exchanges.{HasSigned};
 ghost use Rattle.serve_rounds.specs.Spans.{Adds};
 
 use dir_bytes::Memory;
@@ -29,7 +30,9 @@ fn settles(answer: &Result<Advance, Memory>) -> bool
 }
 
 /// Whether the authority signed in the period, as an answer tells: before, or now; and not where the next period began.
-fn signed_after(before: bool, answer: &Result<Advance, Memory>) -> bool {
+fn signed_after(before: bool, answer: &Result<Advance, Memory>) -> bool
+    ensures { result ≡ true → (answer.now ≡ Ok Advance.Signed) ⊎ (before ≡ true) }
+{
     match answer {
         Ok(Advance::Signed) => true,
         Ok(Advance::Began { .. }) => false,
@@ -55,6 +58,7 @@ fn advance_once<H: Wait, V: Verifier, N: Signer>(
     ensures adds { (a : Parts)
         → Adds (IsAdvance N.may_give (rules V.may_accept V.may_refuse) board.now now) a pass.old
         → Adds (IsAdvance N.may_give (rules V.may_accept V.may_refuse) board.now now) a pass.new }
+    ensures signed { result ≡ Ok Advance.Signed → HasSigned pass.old pass.new }
     ensures at { IsAt board.now pass.new }
     ensures signer_fault { result ≡ Ok Advance.SignerFault → Rose (N.faults signer.old) (N.faults signer.new) }
     ensures signer_faults { N.faults signer.old ≤ N.faults signer.new }
@@ -78,6 +82,7 @@ pub(crate) fn advance_all<H: Wait, V: Verifier, N: Signer>(
     requires at { IsAt board.now pass.old }
     ensures advanced { AdvancesAll N.may_give (rules V.may_accept V.may_refuse) board.now pass.old pass.new now
         result.0 }
+    ensures signed { result.1 ≡ true → HasSigned pass.old pass.new }
     ensures at { IsAt board.now pass.new }
     ensures signer_fault { result.0 ≡ Ok Advance.SignerFault → Rose (N.faults signer.old) (N.faults signer.new) }
     ensures signer_faults { N.faults signer.old ≤ N.faults signer.new }

@@ -1,10 +1,13 @@
 // The votes that an authority lacks, fetched from its peers.
-ghost use Rattle.std.specs.Prelude.{◌≡◌, ◌≤◌, ◌++◌, IfOk, IfSome, codes};
+ghost use Rattle.std.specs.Prelude.{◌≡◌, ◌≤◌, ◌++◌, ◌∷◌, [], None, IfOk, IfSome, codes};
 ghost use Rattle.key_port.specs.Answers.{rules};
 ghost use Rattle.dir_values.specs.Digests.{fingerprint_text};
 ghost use Rattle.vote_terms.specs.Acceptable.{IsVerified};
 ghost use Rattle.board_terms.specs.Boards.{IsAt, Parts};
+ghost use Rattle.vote_schedule.specs.declared.phase.Phase.TheVariants as phases;
 ghost use Rattle.serve_rounds.specs.Duties.{IsFetched, StandsAlone};
+ghost use Rattle.serve_rounds.specs.Exchanges.{AsksSome, IsDue, MayAsk};
+ghost use Rattle.serve_rounds.specs.Plans.{GetVote, all_votes, marked_phase, plan_of_phase, request_of, votes_at};
 ghost use Rattle.serve_rounds.specs.Spans.{Adds, Anywhere};
 
 use crate::peers::{address_of, body_of};
@@ -13,6 +16,7 @@ use crate::turns::is_held;
 use dir_bytes::Memory;
 use dir_http::Link;
 use dir_values::Fingerprint;
+use http_words::VOTE_RESPONSE_LIMIT;
 use key_port::Verifier;
 use lone_vote::lone_vote;
 use period_terms::Via;
@@ -22,9 +26,6 @@ use std::alloc::Global;
 use std::sync::Wait;
 use vote_doc::{CheckedVote, check_vote};
 
-/// The most bytes of a response with a vote.
-const VOTE_LIMIT: u64 = 16_793_600;
-
 /// The path of the vote of an authority.
 fn path_of(alloc: Global, authority: &Fingerprint) -> Result<Vec<u8>, Memory>
     ensures { IfOk result (λ path. path.items ≡ codes "/tor/status-vote/next/" ++ fingerprint_text authority.now) }
@@ -32,6 +33,22 @@ fn path_of(alloc: Global, authority: &Fingerprint) -> Result<Vec<u8>, Memory>
     let mut path = Vec::from_slice(alloc, b"/tor/status-vote/next/")?;
     authority.push(&mut path)?;
     Ok(path)
+}
+
+/// The body of a peer's response to the request for the vote of an authority, where its code is 200.
+fn vote_body<L: Link>(
+    alloc: Global,
+    link: &mut L,
+    address: &[u8],
+    authority: &Fingerprint,
+) -> Option<Vec<u8>>
+    ensures asks { MayAsk L.steps address.now (request_of (GetVote authority.now)) 16793600 link.old link.new }
+    ensures faults { L.faults link.old ≤ L.faults link.new }
+{
+    match path_of(alloc, authority) {
+        Ok(path) => body_of(alloc, link, address, &path, VOTE_RESPONSE_LIMIT),
+        Err(_) => None,
+    }
 }
 
 /// The vote of an authority that a peer gives, with nothing but blank lines behind it, checked for the period. None where it
@@ -48,12 +65,10 @@ fn vote_of_peer<V: Verifier, L: Link>(
     ensures alone { IfSome result (λ vote. StandsAlone vote) }
     ensures verified { IfSome result (λ vote. IsVerified (rules V.may_accept V.may_refuse) vote) }
     ensures verifier { V.faults verifier.old ≤ V.faults verifier.new }
+    ensures asks { MayAsk L.steps address.now (request_of (GetVote authority.now)) 16793600 link.old link.new }
     ensures link { L.faults link.old ≤ L.faults link.new }
 {
-    let Ok(path) = path_of(alloc, authority) else {
-        return None;
-    };
-    let Some(body) = body_of(alloc, link, address, &path, VOTE_LIMIT) else {
+    let Some(body) = vote_body(alloc, link, address, authority) else {
         return None;
     };
     let Ok(Some(vote)) = lone_vote(alloc, &body) else {
@@ -84,6 +99,8 @@ fn fetch_vote<H: Wait, V: Verifier, L: Link>(
         → Adds (Anywhere (IsFetched (rules V.may_accept V.may_refuse) now)) a pass.new }
     ensures at { IsAt board.now pass.new }
     ensures verifier { V.faults verifier.old ≤ V.faults verifier.new }
+    ensures asks { AsksSome L.steps (IsDue (rules V.may_accept V.may_refuse) board.now pass.old pass.new)
+        ((address.now, GetVote authority.now) ∷ []) link.old link.new }
     ensures link { L.faults link.old ≤ L.faults link.new }
 {
     if is_held(rt, board, pass, *authority) {
@@ -122,6 +139,8 @@ fn fetch_from<H: Wait, V: Verifier, L: Link>(
         → Adds (Anywhere (IsFetched (rules V.may_accept V.may_refuse) now)) a pass.new }
     ensures at { IsAt board.now pass.new }
     ensures verifier { V.faults verifier.old ≤ V.faults verifier.new }
+    ensures asks { AsksSome L.steps (IsDue (rules V.may_accept V.may_refuse) board.now pass.old pass.new)
+        (votes_at station.now.authorities address.now) link.old link.new }
     ensures link { L.faults link.old ≤ L.faults link.new }
 {
     'votes: for member in station.authorities.as_slice() {
@@ -159,6 +178,8 @@ fn fetch_all<H: Wait, V: Verifier, L: Link>(
         → Adds (Anywhere (IsFetched (rules V.may_accept V.may_refuse) now)) a pass.new }
     ensures at { IsAt board.now pass.new }
     ensures verifier { V.faults verifier.old ≤ V.faults verifier.new }
+    ensures asks { AsksSome L.steps (IsDue (rules V.may_accept V.may_refuse) board.now pass.old pass.new)
+        (all_votes station.now) link.old link.new }
     ensures link { L.faults link.old ≤ L.faults link.new }
 {
     'peers: for peer in station.authorities.as_slice() {
@@ -197,6 +218,9 @@ pub(crate) fn fetch_once<H: Wait, V: Verifier, L: Link>(
         → Adds (Anywhere (IsFetched (rules V.may_accept V.may_refuse) now)) a pass.new }
     ensures at { IsAt board.now pass.new }
     ensures verifier { V.faults verifier.old ≤ V.faults verifier.new }
+    ensures asks { AsksSome L.steps (IsDue (rules V.may_accept V.may_refuse) board.now pass.old pass.new)
+        (plan_of_phase station.now None phases.Fetching round.old) link.old link.new }
+    ensures marks { round.new ≡ marked_phase None phases.Fetching round.old }
     ensures link { L.faults link.old ≤ L.faults link.new }
 {
     if round.fetched {

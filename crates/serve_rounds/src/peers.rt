@@ -1,12 +1,18 @@
 // What is asked of the peers of an authority, and brought to them.
-ghost use Rattle.std.specs.Prelude.{◌≤◌};
+ghost use Rattle.std.specs.Prelude.{◌≡◌, ◌≤◌, option_map};
+ghost use Rattle.dir_http.specs.Responses.{get_text, post_text};
+ghost use Rattle.serve_rounds.specs.Plans as plans;
+ghost use Rattle.serve_rounds.specs.Exchanges.{AsksSome, MayAsk, Whatever};
+ghost use Rattle.serve_rounds.specs.Plans.{Asking, limit_of, peers_of, request_of, to_each};
 
 use dir_http::{Link, fetch, post};
 use station_input::{Peer, StationFacts};
 use std::alloc::Global;
 
 /// The address of an authority that is a peer: one that has an address, and is not the own one.
-pub(crate) fn address_of<'a>(station: &StationFacts, peer: &'a Peer) -> Option<&'a [u8]> {
+pub(crate) fn address_of<'a>(station: &StationFacts, peer: &'a Peer) -> Option<&'a [u8]>
+    ensures { option_map (λ address. address.now) result ≡ plans.address_of station.now.identity peer.now }
+{
     if peer.identity.is_same(&station.identity) {
         return None;
     }
@@ -14,6 +20,14 @@ pub(crate) fn address_of<'a>(station: &StationFacts, peer: &'a Peer) -> Option<&
         Some(address) => Some(address.as_bytes()),
         None => None,
     }
+}
+
+/// Brings a body to a path of a peer, by one exchange or none. What it answers is passed over.
+fn bring<L: Link>(alloc: Global, link: &mut L, address: &[u8], path: &[u8], body: &[u8])
+    ensures asks { MayAsk L.steps address.now (post_text path.now body.now) 65536 link.old link.new }
+    ensures faults { L.faults link.old ≤ L.faults link.new }
+{
+    let _ = post(alloc, link, address, path, body);
 }
 
 /// Brings a body to a path of each peer, in the input's order. A failing peer is passed over.
@@ -24,11 +38,13 @@ pub(crate) fn post_to_peers<L: Link>(
     path: &[u8],
     body: &[u8],
 )
+    ensures asks { (asking : Asking) → request_of asking ≡ post_text path.now body.now → limit_of asking ≡ 65536
+        → AsksSome L.steps Whatever (to_each (peers_of station.now) asking) link.old link.new }
     ensures faults { L.faults link.old ≤ L.faults link.new }
 {
     'peers: for peer in station.authorities.as_slice() {
         if let Some(address) = address_of(station, peer) {
-            let _ = post(alloc, link, address, path, body);
+            bring(alloc, link, address, path, body);
         }
     }
 }
@@ -41,6 +57,7 @@ pub(crate) fn body_of<L: Link>(
     path: &[u8],
     limit: u64,
 ) -> Option<Vec<u8>>
+    ensures asks { MayAsk L.steps address.now (get_text path.now) limit link.old link.new }
     ensures faults { L.faults link.old ≤ L.faults link.new }
 {
     match fetch(alloc, link, address, path, limit) {

@@ -1,5 +1,7 @@
 // Which duties of a period are done.
 ghost use Rattle.std.specs.Prelude.{◌≡◌};
+ghost use Rattle.serve_rounds.specs.Plans as plans;
+ghost use Rattle.serve_rounds.specs.Plans.{empty_round, turned};
 
 /// Which duties of a period are done. A new round has done none, of no period.
 #[derive(Clone, Copy, Debug, PartialEq, Eq)]
@@ -20,7 +22,7 @@ pub struct Round {
 
 /// A round of a period of which nothing is done.
 fn of_period(valid_after: u64) -> Round
-    ensures { result.valid_after ≡ valid_after }
+    ensures { result ≡ empty_round valid_after }
 {
     Round {
         valid_after,
@@ -34,13 +36,16 @@ fn of_period(valid_after: u64) -> Round
 
 impl Round {
     /// A round that has done nothing.
-    pub fn new() -> Round {
+    pub fn new() -> Round
+        ensures { result ≡ empty_round 0 }
+    {
         of_period(0)
     }
 
     /// Turns to the period that begins then, where it is another one, and remembers whether the authority signed.
     pub(crate) fn turn_to(&mut self, valid_after: u64, signed: bool)
-        ensures { self.new.valid_after ≡ valid_after }
+        ensures is { self.new ≡ turned valid_after signed self.old }
+        ensures period { self.new.valid_after ≡ valid_after }
     {
         if self.valid_after != valid_after {
             *self = of_period(valid_after);
@@ -48,5 +53,12 @@ impl Round {
         if signed {
             self.signed = true;
         }
+    }
+
+    /// Whether the signatures that are held are still to be brought to the peers: the authority signed, and they were not.
+    pub(crate) fn must_bring(&self) -> bool
+        ensures { result ≡ plans.must_bring self.now }
+    {
+        self.signed && !self.posted
     }
 }

@@ -3,6 +3,7 @@ ghost use Rattle.std.specs.Prelude.{◌≡◌, ◌≤◌, IfSome};
 ghost use Rattle.key_port.specs.Answers.{rules};
 ghost use Rattle.board_terms.specs.Boards.{IsAt, Parts};
 ghost use Rattle.serve_rounds.specs.Duties.{IsGathered, TellsAccepted};
+ghost use Rattle.serve_rounds.specs.Exchanges.{BringsSignatures};
 ghost use Rattle.serve_rounds.specs.Spans.{Adds, AddsNone, Anywhere};
 
 use crate::peers::post_to_peers;
@@ -10,15 +11,13 @@ use crate::round::Round;
 use crate::turns::signatures_held;
 use checked_sigs::check_signatures;
 use dir_http::Link;
+use http_words::SIGNATURES_RESPONSE_LIMIT;
 use key_port::Verifier;
 use serve_board::{Board, Pass};
 use signature_terms::{CheckedSig, PeriodView};
 use station_input::StationFacts;
 use std::alloc::Global;
 use std::sync::Wait;
-
-/// The most bytes of signatures that are read.
-const MOST_BYTES: usize = 1_064_960;
 
 /// The signatures of a body that the verifier accepted. None where the body is no document of them for the period, or they can't be
 /// checked.
@@ -32,7 +31,7 @@ pub(crate) fn checked_of<V: Verifier>(
         view.now signatures.items verifier.old verifier.new) }
     ensures verifier { V.faults verifier.old ≤ V.faults verifier.new }
 {
-    if body.len() > MOST_BYTES {
+    if body.len() as u64 > SIGNATURES_RESPONSE_LIMIT {
         return None;
     }
     match check_signatures(alloc, body, view, verifier) {
@@ -91,10 +90,12 @@ pub(crate) fn post_once<H: Wait, V: Verifier, L: Link>(
     requires at { IsAt board.now pass.old }
     ensures none { (a : Parts) → AddsNone a pass.old → AddsNone a pass.new }
     ensures at { IsAt board.now pass.new }
+    ensures brings { BringsSignatures (rules V.may_accept V.may_refuse) station.now board.now L.steps pass.old pass.new
+        round.old round.new link.old link.new }
     ensures round { round.new.valid_after ≡ round.old.valid_after }
     ensures link { L.faults link.old ≤ L.faults link.new }
 {
-    if !round.signed || round.posted {
+    if !round.must_bring() {
         return;
     }
     let Ok(Some(text)) = signatures_held(rt, alloc, board, pass) else {

@@ -4,6 +4,8 @@ ghost use Rattle.key_port.specs.Answers.{rules};
 ghost use Rattle.board_terms.specs.Boards.{IsAt, Parts};
 ghost use Rattle.board_laws.specs.Going.{Goes};
 ghost use Rattle.serve_rounds.specs.Duties.{IsOwn};
+ghost use Rattle.vote_schedule.specs.declared.phase.Phase.TheVariants as phases;
+ghost use Rattle.serve_rounds.specs.Exchanges.{DoesPhase, IsOwnText};
 ghost use Rattle.serve_rounds.specs.OwnVotes.{IsOwnVote, IsPeriodOf};
 ghost use Rattle.serve_rounds.specs.Spans.{Adds, AddsNone, Since};
 
@@ -38,6 +40,8 @@ fn own_vote<H: Wait, W: Rulers, V: Verifier, N: Signer>(
     requires at { IsAt board.now pass.old }
     ensures own { IfSome result (λ found. IsOwnVote (rules V.may_accept V.may_refuse) N.may_give N.steps (W.allows
         ruler.now) station.now board.now pass.old pass.new valid_after now found.0) }
+    ensures text { IfSome result (λ found. IsOwnText (rules V.may_accept V.may_refuse) N.may_give N.steps (W.allows ruler.now)
+        station.now board.now pass.old pass.new valid_after now found.1.items) }
     ensures none { (a : Parts) → AddsNone a pass.old → AddsNone a pass.new }
     ensures at { IsAt board.now pass.new }
     ensures verifier { V.faults verifier.old ≤ V.faults verifier.new }
@@ -94,6 +98,8 @@ fn offer_own<H: Wait, W: Rulers, V: Verifier, N: Signer>(
         station.now board.now now)) a pass.old
         → Adds (Since from (IsOwn (rules V.may_accept V.may_refuse) N.may_give N.steps (W.allows ruler.now)
         station.now board.now now)) a pass.new }
+    ensures text { IfSome result (λ text. IsOwnText (rules V.may_accept V.may_refuse) N.may_give N.steps (W.allows ruler.now)
+        station.now board.now pass.old pass.new valid_after now text.items) }
     ensures at { IsAt board.now pass.new }
     ensures verifier { V.faults verifier.old ≤ V.faults verifier.new }
     ensures signer { N.faults signer.old ≤ N.faults signer.new }
@@ -141,6 +147,8 @@ pub(crate) fn vote_once<H: Wait, W: Rulers, V: Verifier, N: Signer, L: Link>(
     ensures at { IsAt board.now pass.new }
     ensures verifier { V.faults verifier.old ≤ V.faults verifier.new }
     ensures signer { N.faults signer.old ≤ N.faults signer.new }
+    ensures does { DoesPhase (rules V.may_accept V.may_refuse) N.may_give N.steps (W.allows ruler.now) station.now
+        board.now L.steps pass.old pass.new phases.Voting now round.old round.new link.old link.new }
     ensures link { L.faults link.old ≤ L.faults link.new }
 {
     if round.voted {

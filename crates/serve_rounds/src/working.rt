@@ -5,7 +5,9 @@ ghost use Rattle.key_port.specs.Answers.{rules};
 ghost use Rattle.board_terms.specs.Boards.{IsAt, Parts};
 ghost use Rattle.board_laws.specs.Going.{Goes};
 ghost use Rattle.serve_rounds.specs.Duties.{Duties, IsRound};
+ghost use Rattle.serve_rounds.specs.Exchanges.{AsksAs, AsksPeers, DoesPhase};
 ghost use Rattle.serve_rounds.specs.OwnVotes.{IsPeriodOf};
+ghost use Rattle.serve_rounds.specs.Plans.{phase_in};
 ghost use Rattle.serve_rounds.specs.Spans.{Adds, Since};
 
 use crate::advancing::advance_all;
@@ -13,7 +15,6 @@ use crate::fetching::fetch_once;
 use crate::gathering::gather_once;
 use crate::round::Round;
 use crate::ruling::Rulers;
-use crate::schedule::schedule_of;
 use crate::signatures::post_once;
 use crate::voting::vote_once;
 use dir_bytes::{Clock, Memory};
@@ -25,13 +26,15 @@ use serve_board::{Board, Pass};
 use station_input::StationFacts;
 use std::alloc::Global;
 use std::sync::Wait;
-use vote_schedule::{Phase, phase_at};
+use vote_schedule::{Config, Phase, phase_at};
 
 /// The phase of a station's period at a moment. `Waiting` where its three numbers are no schedule.
-fn phase_of(station: &StationFacts, valid_after: u64, now: u64) -> Phase {
-    match schedule_of(station) {
-        Some(schedule) => phase_at(&schedule, valid_after, now),
-        None => Phase::Waiting,
+fn phase_of(station: &StationFacts, valid_after: u64, now: u64) -> Phase
+    ensures { result ≡ phase_in station.now valid_after now }
+{
+    match Config::new(station.interval, station.vote_seconds, station.dist_seconds) {
+        Ok(schedule) => phase_at(&schedule, valid_after, now),
+        Err(_) => Phase::Waiting,
     }
 }
 
@@ -59,6 +62,9 @@ fn work_in_phase<H: Wait, W: Rulers, V: Verifier, N: Signer, L: Link>(
     ensures at { IsAt board.now pass.new }
     ensures verifier { V.faults verifier.old ≤ V.faults verifier.new }
     ensures signer { N.faults signer.old ≤ N.faults signer.new }
+    ensures does { DoesPhase (rules V.may_accept V.may_refuse) N.may_give N.steps (W.allows ruler.now) station.now
+        board.now L.steps pass.old pass.new (phase_in station.now round.old.valid_after now) now round.old round.new
+        link.old link.new }
     ensures link { L.faults link.old ≤ L.faults link.new }
 {
     match phase_of(station, round.valid_after, now) {
@@ -98,6 +104,8 @@ fn work<H: Wait, W: Rulers, V: Verifier, N: Signer, L: Link>(
     ensures at { IsAt board.now pass.new }
     ensures verifier { V.faults verifier.old ≤ V.faults verifier.new }
     ensures signer { N.faults signer.old ≤ N.faults signer.new }
+    ensures asks { AsksAs (rules V.may_accept V.may_refuse) N.may_give N.steps (W.allows ruler.now) station.now
+        board.now L.steps pass.old pass.new now signed round.old round.new link.old link.new }
     ensures link { L.faults link.old ≤ L.faults link.new }
 {
     let valid_after = board.valid_after(rt, pass);
@@ -133,6 +141,8 @@ pub fn duties<H: Wait, R: Rulers, F, C: Clock, V: Verifier, N: Signer, L: Link>(
     requires at { IsAt board.now pass.old }
     ensures duties { Duties (rules V.may_accept V.may_refuse) N.may_give N.steps (R.allows hook.now.rules)
         station.now board.now pass.old pass.new (C.last clock.new) result }
+    ensures asked { AsksPeers (rules V.may_accept V.may_refuse) N.may_give N.steps (R.allows hook.now.rules) station.now
+        board.now L.steps pass.old pass.new (C.last clock.new) round.old round.new link.old link.new }
     ensures goes { Goes pass.old pass.new }
     ensures at { IsAt board.now pass.new }
     ensures asks { Counts (C.asks clock.old) (C.asks clock.new) }

@@ -1,7 +1,8 @@
-use Rattle.std.proofs.Common.{◌≤◌}
+use Rattle.std.proofs.Common.{◌≡◌, ◌≤◌, true}
 use Rattle.key_port.specs.Answers.{rules}
 use Rattle.board_terms.specs.Boards.{IsAt}
 use Rattle.serve_rounds.specs.Duties.{IsAdvance}
+use Rattle.serve_rounds.specs.Exchanges.{HasSigned}
 use Rattle.serve_rounds.specs.Spans.{Adds}
 use Rattle.serve_rounds.proofs.advancing.advance_all.Given as goal
 
@@ -13,6 +14,7 @@ invariant-steps g l = record {
   adds : Adds
       (IsAdvance g.N.Signer.may_give (rules g.V.Verifier.may_accept g.V.Verifier.may_refuse) l.board l.now) l.fn.pass
       l.pass;
+  signed : l.signed ≡ true → HasSigned l.fn.pass l.pass;
   signer : g.N.Signer.faults l.fn.signer ≤ g.N.Signer.faults l.signer;
   verifier : g.V.Verifier.faults l.fn.verifier ≤ g.V.Verifier.faults l.verifier;
 }

@@ -1,4 +1,4 @@
-use Rattle.std.proofs.Common.{refl}
+use Rattle.std.proofs.Common.{refl, [], ◌∷◌}
 use Rattle.key_port.specs.Answers as keys
 use Rattle.period_terms.specs.declared.answer.Answer.TheVariants.{Vote}
 use Rattle.period_terms.specs.declared.event.Event.TheVariants.{Offered}
@@ -7,6 +7,10 @@ use Rattle.serve_rounds.specs.Duties.{IsFetched}
 use Rattle.serve_rounds.specs.Spans.{Anywhere}
 use Rattle.serve_rounds.proofs.Adding.{adds_makes, adds_still, entry_kind}
 use Rattle.serve_rounds.proofs.Lasting.{anywhere_lasts}
+use Rattle.board_laws.proofs.Going.{goes_makes}
+use Rattle.serve_rounds.specs.Exchanges.{IsDue}
+use Rattle.serve_rounds.specs.Plans.{GetVote}
+use Rattle.serve_rounds.proofs.Exchanges.{asks_none, asks_one, lacks, stood_later}
 use Rattle.serve_rounds.proofs.fetching.fetch_vote.Goals as goal
 
 pub returns-then-is_held-clause-adds : goal.returns-then-is_held-clause-adds
@@ -30,3 +34,31 @@ returns-clause-adds g c = λ a adds.
     (entry_kind P (Offered vote Fetched c.args.now) (Vote c.offer.result)
     (record { vote = vote; event = refl; alone = c.in-Some.ensures.alone; verified = c.in-Some.ensures.verified }))
     c.offer.ensures.event
+
+pub returns-then-is_held-clause-asks : goal.returns-then-is_held-clause-asks
+returns-then-is_held-clause-asks g c =
+    asks_none g.L.Link.steps
+    (IsDue (keys.rules g.V.Verifier.may_accept g.V.Verifier.may_refuse) c.args.board.now c.args.pass.now
+    c.is_held.new.pass) ((c.args.address.now, GetVote c.args.authority.now) ∷ []) c.args.link.now
+
+pub returns-in_default-clause-asks : goal.returns-in_default-clause-asks
+returns-in_default-clause-asks g c =
+    let its = keys.rules g.V.Verifier.may_accept g.V.Verifier.may_refuse in
+    asks_one g.L.Link.steps (IsDue its c.args.board.now c.args.pass.now c.is_held.new.pass) c.args.address.now
+    (GetVote c.args.authority.now) c.args.link.now c.vote_of_peer.new.link
+    (lacks its c.args.board.now c.args.pass.now c.is_held.new.pass c.args.authority.now c.is_held.result
+    c.is_held.ensures.reading c.if-is_held.false)
+    c.vote_of_peer.ensures.asks
+
+pub returns-clause-asks : goal.returns-clause-asks
+returns-clause-asks g c =
+    let its = keys.rules g.V.Verifier.may_accept g.V.Verifier.may_refuse in
+    let event = Offered c.in-Some.vote Fetched c.args.now in
+    let on = goes_makes its c.args.board.now c.is_held.new.pass c.offer.new.pass event (Vote c.offer.result)
+    c.offer.ensures.event in
+    asks_one g.L.Link.steps (IsDue its c.args.board.now c.args.pass.now c.offer.new.pass) c.args.address.now
+    (GetVote c.args.authority.now) c.args.link.now c.vote_of_peer.new.link
+    (stood_later its c.args.board.now c.args.pass.now c.is_held.new.pass c.offer.new.pass _ on
+    (lacks its c.args.board.now c.args.pass.now c.is_held.new.pass c.args.authority.now c.is_held.result
+    c.is_held.ensures.reading c.if-is_held.false))
+    c.vote_of_peer.ensures.asks

@@ -8,6 +8,7 @@ use Rattle.serve_rounds.specs.Duties.{IsOwn}
 use Rattle.serve_rounds.specs.Spans.{Since}
 use Rattle.serve_rounds.proofs.Adding.{adds_makes, adds_still, entry_kind, none_same}
 use Rattle.serve_rounds.proofs.Lasting.{own_lasts, period_later, since_lasts, vote_earlier, vote_later}
+use Rattle.serve_rounds.proofs.Exchanges.{own_text_later}
 use Rattle.serve_rounds.proofs.voting.offer_own.Goals as goal
 
 pub returns-in_default-clause-adds : goal.returns-in_default-clause-adds
@@ -82,3 +83,14 @@ returns-else-is_taken-clause-adds g c = λ from a goes period adds.
           c.own_vote.new.pass c.offer-answer.new.pass c.args.valid_after c.args.now vote on c.in-Some.ensures.own);
     }))
     c.offer-answer.ensures.event
+
+pub returns-then-is_taken-clause-text : goal.returns-then-is_taken-clause-text
+returns-then-is_taken-clause-text g c =
+    let its = keys.rules g.V.Verifier.may_accept g.V.Verifier.may_refuse in
+    let allows = g.W.Rules.allows c.args.ruler.now in
+    let board = c.args.board.now in
+    let event = Offered c.in-Some.vote Own c.args.now in
+    let on = goes_makes its board c.own_vote.new.pass c.offer-answer.new.pass event (Vote c.offer-answer.result)
+    c.offer-answer.ensures.event in
+    own_text_later its g.N.Signer.may_give g.N.Signer.steps allows c.args.station.now board c.args.pass.now
+    c.own_vote.new.pass c.offer-answer.new.pass c.args.valid_after c.args.now on _ c.in-Some.ensures.text

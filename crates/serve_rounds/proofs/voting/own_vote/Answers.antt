@@ -1,4 +1,4 @@
-use Rattle.std.proofs.Common.{List, ℕ, sym, subst}
+use Rattle.std.proofs.Common.{List, ℕ, refl, sym, subst}
 use Rattle.key_port.specs.Answers.{rules}
 use Rattle.lone_vote.specs.Alone.{IsFound, IsVote}
 use Rattle.serve_rounds.specs.OwnVotes.{IsOwnVote}
@@ -16,3 +16,16 @@ returns-in-Ok-clause-own g c =
           (subst (IsFound (IsVote c.deref.result.now)) c.in-Ok-Some.field-0-is c.in-Ok-Some.ensures);
       verified = c.in-Ok.ensures.accepted.1.verified;
     }
+
+pub returns-in-Ok-clause-text : goal.returns-in-Ok-clause-text
+returns-in-Ok-clause-text g c = record {
+  vote = c.in-Ok-Some.vote;
+  own = record {
+    text = c.in-Some.text.items;
+    text_is = c.in-Some.ensures.text;
+    is = subst (λ (b : List ℕ). IsVote b c.in-Ok-Some.vote) c.deref.ensures.value
+        (subst (IsFound (IsVote c.deref.result.now)) c.in-Ok-Some.field-0-is c.in-Ok-Some.ensures);
+    verified = c.in-Ok.ensures.accepted.1.verified;
+  };
+  same = refl;
+}

@@ -1,10 +1,15 @@
-use Rattle.std.proofs.Common.{◌∙◌, sym, subst}
+use Rattle.std.proofs.Common.{◌∙◌, ℕ, sym, subst}
 use Rattle.key_port.specs.Answers as keys
 use Rattle.board_laws.proofs.Going.{goes_on, goes_sees}
 use Rattle.serve_rounds.specs.Duties.{IsRound}
+use Rattle.serve_rounds.specs.declared.round.Round.{Round}
+use Rattle.serve_rounds.specs.Exchanges.{BringsSignatures, DoesPhase}
+use Rattle.serve_rounds.specs.Plans.{phase_in}
+use Rattle.serve_rounds.specs.Spans.{Since}
 use Rattle.serve_rounds.specs.OwnVotes.{IsPeriodOf}
-use Rattle.serve_rounds.proofs.Adding.{adds_sees, adds_still, here_since, none_same, since_here}
+use Rattle.serve_rounds.proofs.Adding.{adds_same, adds_sees, adds_still, here_since, none_same, since_here}
 use Rattle.serve_rounds.proofs.Lasting.{period_earlier, period_later, period_seen, round_lasts}
+use Rattle.serve_rounds.proofs.Exchanges.{brings_earlier, brings_later, does_earlier}
 use Rattle.serve_rounds.proofs.working.work.Goals as goal
 
 pub returns-clause-adds : goal.returns-clause-adds
@@ -25,5 +30,47 @@ returns-clause-adds g c = λ a adds.
     (period_seen its board c.args.pass.now read.new.pass read.result read.ensures.reading)) in
     here_since P a c.work_in_phase.new.pass
     (c.work_in_phase.ensures.adds a a before.goes
-    (subst (IsPeriodOf its board a posted) (sym (c.post_once.ensures.round ∙ c.turn_to.ensures)) period)
+    (subst (IsPeriodOf its board a posted) (sym (c.post_once.ensures.round ∙ c.turn_to.ensures.period)) period)
     (since_here P a posted before))
+
+pub returns-clause-asks : goal.returns-clause-asks
+returns-clause-asks g c =
+    let its = keys.rules g.V.Verifier.may_accept g.V.Verifier.may_refuse in
+    let gives = g.N.Signer.may_give in
+    let steps = g.N.Signer.steps in
+    let allows = g.W.Rules.allows c.args.ruler.now in
+    let board = c.args.board.now in
+    let station = c.args.station.now in
+    let exchanges = g.L.Link.steps in
+    let P = IsRound its gives steps allows station board c.args.now in
+    let read = c.valid_after-valid_after in
+    let a = c.args.pass.now in
+    let b = read.new.pass in
+    let p = c.post_once.new.pass in
+    let d = c.work_in_phase.new.pass in
+    let ab = goes_sees its board a b _ read.result read.ensures.reading in
+    let bp = (c.post_once.ensures.none b (none_same b)).goes in
+    let ap = goes_on a b p ab bp in
+    let seen = period_seen its board a b read.result read.ensures.reading in
+    let same = c.post_once.ensures.round ∙ c.turn_to.ensures.period in
+    let there = subst (IsPeriodOf its board a p) (sym same) (period_later its board a b p read.result bp seen) in
+    let pd = (c.work_in_phase.ensures.adds a p ap there (adds_same (Since a P) p)).goes in
+    let bd = goes_on b p d bp pd in
+    let does = does_earlier its gives steps allows station board exchanges a p d _ c.args.now _ _ _ _ ap
+    c.work_in_phase.ensures.does in
+    record {
+      valid_after = read.result;
+      period = period_later its board a b d read.result bd seen;
+      marked = c.post_once.new.round;
+      between = c.post_once.new.link;
+      brings =
+          subst (λ (r : Round). BringsSignatures its station board exchanges a d r c.post_once.new.round c.args.link.now
+          c.post_once.new.link)
+          c.turn_to.ensures.is
+          (brings_earlier its station board exchanges a b d _ _ _ _ ab
+          (brings_later its station board exchanges b p d _ _ _ _ pd c.post_once.ensures.brings));
+      does =
+          subst (λ (n : ℕ). DoesPhase its gives steps allows station board exchanges a d
+          (phase_in station n c.args.now) c.args.now c.post_once.new.round c.work_in_phase.new.round
+          c.post_once.new.link c.work_in_phase.new.link) same does;
+    }

@@ -1,0 +1,25 @@
+use Rattle.std.proofs.Common.{List, None, [], subst, sym}
+use Rattle.key_port.specs.Answers as keys
+use Rattle.vote_schedule.specs.declared.phase.Phase.TheVariants as phases
+use Rattle.serve_rounds.specs.Exchanges.{AsksSome, IsDue}
+use Rattle.serve_rounds.specs.Plans.{Planned, all_votes, plan_of_phase}
+use Rattle.serve_rounds.proofs.Exchanges.{asks_none, fetched_already, if_false}
+use Rattle.serve_rounds.proofs.fetching.fetch_once.Goals as goal
+
+pub returns-then-round-clause-asks : goal.returns-then-round-clause-asks
+returns-then-round-clause-asks g c =
+    asks_none g.L.Link.steps
+    (IsDue (keys.rules g.V.Verifier.may_accept g.V.Verifier.may_refuse) c.args.board.now c.args.pass.now
+    c.args.pass.now)
+    (plan_of_phase c.args.station.now None phases.Fetching c.args.round.now) c.args.link.now
+
+pub returns-then-round-clause-marks : goal.returns-then-round-clause-marks
+returns-then-round-clause-marks g c = fetched_already None c.args.round.now c.if-round.true
+
+pub returns-clause-asks : goal.returns-clause-asks
+returns-clause-asks g c =
+    let its = keys.rules g.V.Verifier.may_accept g.V.Verifier.may_refuse in
+    subst (λ (p : List Planned). AsksSome g.L.Link.steps
+    (IsDue its c.args.board.now c.args.pass.now c.fetch_all.new.pass) p c.args.link.now c.fetch_all.new.link)
+    (sym (if_false c.args.round.now.fetched [] (all_votes c.args.station.now) c.if-round.false))
+    c.fetch_all.ensures.asks
