@@ -1,0 +1,15 @@
+mod Twenty
+mod ThirtyTwo
+mod Names
+mod Sizes
+mod FlagNames
+mod Listed
+mod VotersApart
+mod EntrySizes
+mod EntriesSound
+mod CertGiven
+mod MadeSizes
+mod MadeRanges
+mod ReadAgain
+mod AllHeld
+mod HeldLaws

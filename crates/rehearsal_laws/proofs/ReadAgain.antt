@@ -1,0 +1,152 @@
+-- The text of an authority that votes in a rehearsal is read as the vote that it means.
+use Rattle.std.proofs.Common.{◌≡◌, ℕ, ◌+◌, ◌≤◌, ◌<◌, ◌^◌, List, [], ◌++◌, length, Result, Ok, Err, refl, sym, ap, ap₂}
+use Rattle.std.proofs.Common.{subst, ◌∙◌, append-nil, arith}
+use Rattle.std.specs.Prelude.{All, AllPairs, codes}
+use Rattle.std.proofs.lemmas.List.Elements.{All-weaker}
+use Rattle.frame_terms.specs.declared.fault.ReadRefusal.{ReadRefusal}
+use Rattle.vote_terms.specs.Votes.{ReadVote}
+use Rattle.vote_terms.specs.declared.facts.VoteFacts.{VoteFacts}
+use Rattle.vote_text.specs.Made.{made_signed, made_text}
+use Rattle.blank_lines.specs.Behind.{behind}
+use Rattle.vote_doc.specs.Reading.{max_vote, vote_of}
+use Rattle.vote_frame.specs.Tables.{vote_tables}
+use Rattle.vote_frame.specs.declared.frame.VoteSection.TheVariants as section
+use Rattle.given_certs.specs.Given.{IsGiven}
+use Rattle.made_laws.specs.Made.{MadeVotesAreRead}
+use Rattle.made_laws.proofs.MadeAgain.{made_again}
+use Rattle.vote_rehearsal.specs.Authorities.{authority_of, voters}
+use Rattle.vote_rehearsal.specs.Certificates.{certificate_bytes, certificate_of}
+use Rattle.vote_rehearsal.specs.Relays.{ascending_relays, relay_of, seeded}
+use Rattle.vote_rehearsal.specs.Votes.{facts_of, signed_text, vote_text}
+use Rattle.rehearsal_laws.specs.Rehearsed.{IsRead, RehearsedVotesAreRead, meant_vote}
+use Rattle.rehearsal_laws.specs.Rehearsed.{signed_facts}
+use Rattle.rehearsal_laws.specs.Types.{Authority, Relay}
+use Rattle.rehearsal_laws.proofs.CertGiven.{cert_given}
+use Rattle.rehearsal_laws.proofs.EntrySizes.{IsSound}
+use Rattle.rehearsal_laws.proofs.Listed.{IsBefore, IsRelay, listed}
+use Rattle.rehearsal_laws.proofs.MadeRanges.{made_in_range}
+use Rattle.rehearsal_laws.proofs.MadeSizes.{whole_size}
+use Rattle.rehearsal_laws.proofs.ThirtyTwo.{thirty_two}
+use Rattle.rehearsal_laws.proofs.Twenty.{twenty}
+use Rattle.rehearsal_laws.proofs.VotersApart.{IsVoter, all_voters}
+
+-- ---- relays
+
+relay_sound : (seed authorities count : ℕ) (relay : Relay) → count ≤ 20000 → IsRelay seed authorities count relay
+    → IsSound relay
+relay_sound seed authorities count relay few is =
+    let n = is.number in
+    let its : IsSound (relay_of seed authorities n) = record {
+      number = omega (arith, few, is.small);
+      identity = twenty (seeded (codes "relay-") n seed);
+      digest = twenty (seeded (codes "desc-") n seed);
+      ed = thirty_two (seeded (codes "ed-") n seed);
+      micro = thirty_two (seeded (codes "micro-") n seed);
+    } in
+    subst IsSound (sym is.is) its
+
+-- the relays that votes list, for any vote
+pub record AreSound (relays : List Relay) : Type 0 where
+  pub each : All IsSound relays
+  pub before : AllPairs IsBefore relays
+  pub few : length relays ≤ 20000
+
+pub listed_sound : (seed authorities count : ℕ) → count ≤ 20000 → AreSound (ascending_relays seed authorities count)
+listed_sound seed authorities count few =
+    let are = listed seed authorities count in
+    let relays = ascending_relays seed authorities count in
+    record {
+      each =
+          All-weaker (IsRelay seed authorities count) IsSound
+          (λ relay is. relay_sound seed authorities count relay few is) relays are.each;
+      before = are.before;
+      few = omega (arith, are.few, few);
+    }
+
+-- ---- the text
+
+-- the text is that of what is meant, and the part that is signed is its part
+text_is : (relays : List Relay) (a : Authority)
+    → vote_text relays a ≡ made_text (signed_facts relays a) (certificate_bytes a)
+unfolding vote_text signed_text
+text_is relays a = refl
+
+signed_is : (relays : List Relay) (a : Authority)
+    → signed_text relays a ≡ made_signed (signed_facts relays a) (certificate_bytes a)
+unfolding signed_text
+signed_is relays a = refl
+
+certificate_is : (relays : List Relay) (a : Authority) → (signed_facts relays a).certificate ≡ certificate_of a
+unfolding facts_of
+certificate_is relays a = refl
+
+-- what stands behind nothing is what stands alone
+from_start : (read : Result (ReadVote × ℕ) ReadRefusal) (vote : ReadVote) (end : ℕ) → behind 0 read ≡ Ok (vote, end)
+    → read ≡ Ok (vote, end)
+from_start (Ok (found, used)) vote end is =
+    let zero : 0 + used ≡ used = omega arith in
+    ap (λ (n : ℕ). Ok (found, n)) (sym zero) ∙ is
+from_start (Err why) vote end is = absurd cc
+
+-- votes that have the same parts are one
+abbrev vote_of_parts : List ℕ → List ℕ → List ℕ → VoteFacts → ReadVote
+vote_of_parts w s c f = record { whole = w; signed = s; certificate_bytes = c; says = f }
+
+same_vote : (a b : ReadVote) → a.whole ≡ b.whole → a.signed ≡ b.signed → a.certificate_bytes ≡ b.certificate_bytes
+    → a.says ≡ b.says → a ≡ b
+same_vote a b whole signed bytes says =
+    ap₂ (λ (w s : List ℕ). vote_of_parts w s a.certificate_bytes a.says) whole signed
+    ∙ ap₂ (λ (c : List ℕ) (f : VoteFacts). vote_of_parts b.whole b.signed c f) bytes says
+
+module _ (seed n : ℕ) (relays : List Relay) (small : seed < 2 ^ 64) (few : n ≤ 33) (sound : AreSound relays) where
+  abbrev one : Authority
+  one = authority_of seed n
+
+  pub text_fits : length (vote_text relays (authority_of seed n)) ≤ max_vote
+  text_fits =
+      omega (
+        arith,
+        ap (λ (l : List ℕ). length l) (text_is relays one),
+        whole_size seed n relays small few sound.each sound.few,
+      )
+
+  given : IsGiven vote_tables section.Certificate (certificate_bytes one) (signed_facts relays one).certificate
+  given =
+      subst (IsGiven vote_tables section.Certificate (certificate_bytes one)) (sym (certificate_is relays one))
+      (cert_given seed n small few)
+
+  pub is_read : IsRead relays (authority_of seed n)
+  is_read =
+      let facts = signed_facts relays one in
+      let bytes = certificate_bytes one in
+      let text = made_text facts bytes in
+      let law : MadeVotesAreRead = made_again in
+      let made =
+      law [] facts bytes [] (omega arith) given
+      (made_in_range seed n relays small few sound.each sound.before sound.few) in
+      let read = from_start (vote_of (text ++ [])) made.0 (0 + length text) made.1 in
+      let ends : 0 + length text ≡ length text = omega arith in
+      let vote : made.0 ≡ meant_vote relays one =
+      same_vote made.0 (meant_vote relays one) (made.2.whole ∙ sym (text_is relays one))
+      (made.2.signed ∙ sym (signed_is relays one)) made.2.certificate_bytes made.2.says in
+      ap (λ (l : List ℕ). vote_of l) (text_is relays one ∙ sym (append-nil text)) ∙ read
+      ∙ ap₂ (λ (v : ReadVote) (k : ℕ). Ok (v, k)) vote
+      (ends ∙ ap (λ (l : List ℕ). length l) (sym (text_is relays one)))
+
+pub voter_read : (seed count : ℕ) (relays : List Relay) (a : Authority) → seed < 2 ^ 64 → count ≤ 32 → AreSound relays
+    → IsVoter seed (1 + count) a → IsRead relays a
+voter_read seed count relays a small few sound is =
+    subst (IsRead relays) (sym is.is) (is_read seed is.number relays small (omega (arith, few, is.small)) sound)
+
+pub voter_fits : (seed count : ℕ) (relays : List Relay) (a : Authority) → seed < 2 ^ 64 → count ≤ 32 → AreSound relays
+    → IsVoter seed (1 + count) a → length (vote_text relays a) ≤ max_vote
+voter_fits seed count relays a small few sound is =
+    subst (λ (x : Authority). length (vote_text relays x) ≤ max_vote) (sym is.is)
+    (text_fits seed is.number relays small (omega (arith, few, is.small)) sound)
+
+pub rehearsed_are_read : RehearsedVotesAreRead
+rehearsed_are_read seed relays authorities asked =
+    let listed_ = ascending_relays seed authorities relays in
+    All-weaker (IsVoter seed (1 + authorities)) (IsRead listed_)
+    (λ a is. voter_read seed authorities listed_ a asked.seed_fits asked.few
+    (listed_sound seed authorities relays asked.few_relays) is) (voters seed authorities) (all_voters seed authorities)

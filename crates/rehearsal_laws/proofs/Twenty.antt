@@ -1,0 +1,48 @@
+-- A SHA-1 digest has twenty bytes.
+use Rattle.std.proofs.Common.{◌≡◌, ℕ, zero, suc, ◌*◌, ◌/◌, ◌<◌, List, [], ◌∷◌, length, arith, length-append}
+use Rattle.std.specs.Prelude.{All, slice_index}
+use Rattle.std.specs.Int.{byte_at, to_be_bytes, w32}
+use Rattle.std.proofs.lemmas.List.Elements.{All-append, All-cons, All-head, All-nil, All-tail}
+use Rattle.base64.specs.GeneralPurpose.{IsBytes}
+use Rattle.frame_values.specs.Ranges.{AreTwenty}
+use Rattle.sha1.specs.Sha1.{digest_bytes, hash_after, padded_message, sha1}
+
+abbrev IsByte : ℕ → Type 0
+IsByte n = n < 256
+
+are_bytes : (bytes : List ℕ) → All IsByte bytes → IsBytes bytes
+are_bytes [] all i = omega arith
+are_bytes (b ∷ rest) all zero = All-head IsByte b rest all
+are_bytes (b ∷ rest) all (suc i) = are_bytes rest (All-tail IsByte b rest all) i
+
+a_byte : (i n : ℕ) → IsByte (byte_at i n)
+a_byte zero n = omega arith
+a_byte (suc i) n = omega arith
+
+word_bytes : (n : ℕ) → All IsByte (to_be_bytes w32 n)
+word_bytes n =
+    All-cons IsByte (byte_at 3 n) (byte_at 2 n ∷ byte_at 1 n ∷ byte_at 0 n ∷ []) (a_byte 3 n)
+    (All-cons IsByte (byte_at 2 n) (byte_at 1 n ∷ byte_at 0 n ∷ []) (a_byte 2 n)
+    (All-cons IsByte (byte_at 1 n) (byte_at 0 n ∷ []) (a_byte 1 n)
+    (All-cons IsByte (byte_at 0 n) [] (a_byte 0 n) (All-nil IsByte))))
+
+each_byte : (hash : List ℕ) (words : ℕ) → All IsByte (digest_bytes hash words)
+unfolding digest_bytes
+each_byte hash zero = All-nil IsByte
+each_byte hash (suc n) =
+    All-append IsByte (digest_bytes hash n) (to_be_bytes w32 (slice_index hash n)) (each_byte hash n)
+    (word_bytes (slice_index hash n))
+
+count : (hash : List ℕ) (words : ℕ) → length (digest_bytes hash words) ≡ 4 * words
+unfolding digest_bytes
+count hash zero = omega arith
+count hash (suc n) =
+    let before = count hash n in
+    omega (arith, before, length-append (digest_bytes hash n) (to_be_bytes w32 (slice_index hash n)))
+
+pub twenty : (message : List ℕ) → AreTwenty (sha1 message)
+unfolding sha1
+twenty message =
+    let padded = padded_message message in
+    let hash = hash_after padded (length padded / 64) in
+    record { count = count hash 5; each = are_bytes (digest_bytes hash 5) (each_byte hash 5) }
