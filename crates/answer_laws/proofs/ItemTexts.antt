@@ -4,7 +4,7 @@ use Rattle.std.specs.Prelude.{All, Contains, IfSome, option_map}
 use Rattle.std.proofs.lemmas.List.Elements.{All-cons, All-contains, All-contains_itself, All-head, All-nil, All-tail, All-weaker}
 use Rattle.std.proofs.lemmas.List.Elements.{Contains-append_left, Contains-append_right}
 use Rattle.dirdoc_grammar.specs.Writing.{IsLineRest, NewItem}
-use Rattle.dirdoc_laws.specs.Written.{IsItem}
+use Rattle.grammar_laws.specs.Written.{IsItem}
 use Rattle.frame_terms.specs.declared.keyword.Keyword.{Keyword}
 use Rattle.frame_terms.specs.declared.keyword.Keyword.TheVariants as the
 use Rattle.frame_values.specs.Items.{bare, item_if}

@@ -1,3 +1,16 @@
+pub mod Sound
+pub mod Phases
+pub mod RankOrder
+pub mod Answers
+pub mod HeldNewest
+pub mod Members
+pub mod ListedLaw
+pub mod EmptyFlags
+mod Order
+mod Alike
+mod Joined
+pub mod OneAnswer
+pub mod Agreement
 mod Standing
 pub mod ItemTexts
 pub mod VotesRead

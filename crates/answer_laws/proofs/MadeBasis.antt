@@ -10,13 +10,13 @@ use Rattle.frame_terms.specs.declared.fault.ReadRefusal.{ReadRefusal}
 use Rattle.descriptor_doc.specs.Reading.{descriptor_of}
 use Rattle.descriptor_doc.specs.declared.descriptor.Descriptor.{Descriptor}
 use Rattle.vote_pool.specs.Pools.{DescriptorsAscend, Pooled, most_relays, pool_after}
-use Rattle.pool_laws.specs.Newest.{AscendAndFit, pool_of}
-use Rattle.pool_laws.proofs.HeldNewest.{pools_ascend}
-use Rattle.pool_laws.proofs.Members.{all_held}
+use Rattle.answer_laws.specs.Newest.{AscendAndFit, pool_of}
+use Rattle.answer_laws.proofs.HeldNewest.{pools_ascend}
+use Rattle.answer_laws.proofs.Members.{all_held}
 use Rattle.dir_bytes.specs.Causes.{last_moment}
 use Rattle.vote_schedule.specs.Moments.{valid_until}
 use Rattle.vote_schedule.specs.Schedules.{IsSchedule}
-use Rattle.schedule_laws.proofs.Sound.{schedules_such}
+use Rattle.answer_laws.proofs.Sound.{schedules_such}
 use Rattle.station_input.specs.declared.facts.StationFacts.{StationFacts}
 use Rattle.vote_maker.specs.Made.{Basis, schedule_in}
 use Rattle.row_laws.proofs.ReadBytes.{bytes_drop}

@@ -15,7 +15,7 @@ use Rattle.blank_lines.specs.Behind.{behind}
 use Rattle.vote_doc.specs.Reading.{max_vote, vote_of}
 use Rattle.vote_maker.specs.Made.{Basis}
 use Rattle.vote_maker.specs.Relays.{known_of}
-use Rattle.descriptor_ranges.proofs.DescriptorRead.{descriptors_in_range}
+use Rattle.descriptor_laws.proofs.DescriptorInRange.{descriptors_in_range}
 use Rattle.row_laws.proofs.ReadBytes.{bytes_drop}
 use Rattle.maker_laws.specs.Given.{IsBasis, IsStation}
 use Rattle.maker_laws.specs.FileVotes.{IsToldStation}
@@ -23,7 +23,7 @@ use Rattle.maker_laws.specs.ReadAsMade.{IsSigning, signed_made_text}
 use Rattle.maker_laws.proofs.FileVotes.{told_stations}
 use Rattle.maker_laws.proofs.MadeRead.{read_as_made, stations_read}
 use Rattle.station_commands.specs.Voting.{IsVoteOf, VoteAnswers}
-use Rattle.bandwidth_commands.specs.WithFile.{BeginsWithFile, station_behind, told_from, told_station}
+use Rattle.station_commands.specs.WithFile.{BeginsWithFile, station_behind, told_from, told_station}
 use Rattle.answer_laws.specs.MadeVotes.{AnsweredFileVotesAreRead, AnsweredVotesAreRead, IsReadAsMade, IsVoteRead}
 use Rattle.answer_laws.proofs.MadeBasis.{of_basis}
 

@@ -1,3 +1,9 @@
+pub mod Timeline
+pub mod Newest
+pub mod Listed
+pub mod Ranks
+pub mod Deliveries
+pub mod Agreement
 pub mod Inputs
 pub mod Texts
 pub mod Votes

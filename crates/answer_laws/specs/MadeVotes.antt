@@ -11,10 +11,10 @@ use Rattle.station_input.specs.declared.facts.StationFacts.{StationFacts}
 use Rattle.vote_terms.specs.Votes.{ReadVote}
 use Rattle.vote_doc.specs.Reading.{vote_of}
 use Rattle.vote_maker.specs.Made.{Basis}
-use Rattle.made_laws.specs.Made.{IsMadeVote}
+use Rattle.vote_laws.specs.Made.{IsMadeVote}
 use Rattle.maker_laws.specs.ReadAsMade.{signed_facts}
 use Rattle.station_commands.specs.Voting.{IsBasisOf, IsVoteOf, MakeVoteAnswers}
-use Rattle.bandwidth_commands.specs.WithFile.{BeginsWithFile, FileVoteAnswers, station_behind}
+use Rattle.station_commands.specs.WithFile.{BeginsWithFile, FileVoteAnswers, station_behind}
 
 -- The text is read as a vote, with nothing behind it, which says what is made of the basis under these rulings with this
 -- signature, and has the bytes of the station's certificate.

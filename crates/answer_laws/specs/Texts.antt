@@ -2,7 +2,7 @@
 -- consensus from a set of votes").
 use Rattle.std.specs.Prelude.{◌≡◌, ℕ, List, [], ◌++◌, length, All, Ok}
 use Rattle.base64.specs.GeneralPurpose.{IsBytes}
-use Rattle.dirdoc_laws.specs.Written.{AreWithinLimits}
+use Rattle.grammar_laws.specs.Written.{AreWithinLimits}
 use Rattle.key_port.specs.Answers.{Rules}
 use Rattle.vote_terms.specs.Held.{held}
 use Rattle.vote_terms.specs.Votes.{ReadVote}

@@ -10,11 +10,11 @@ use Rattle.exit_status.specs.declared.status.Status.{Status}
 use Rattle.exit_status.specs.declared.status.Status.TheVariants as status
 use Rattle.document_commands.proofs.NotRefused as document
 use Rattle.compute_command.proofs.NotRefused as votes
-use Rattle.station_command_laws.proofs.NotRefused as stations
-use Rattle.station_command_laws.specs.Answerable as station
+use Rattle.station_commands.proofs.NotRefused as stations
+use Rattle.station_commands.specs.Answerable as station
 use Rattle.station_commands.specs.declared.refusal.MakeVoteRefusal.{MakeVoteRefusal}
 use Rattle.exit_status.specs.Told.{by_compute, by_file_vote, by_make_vote, by_report}
-use Rattle.station_command_laws.proofs.FilesNotRefused as file
+use Rattle.station_commands.proofs.FilesNotRefused as file
 use Rattle.report_command.proofs.NotRefused as report
 use Rattle.authority_daemon.specs.Commands.{Answers, Answerable, May}
 use Rattle.authority_daemon.specs.Runs.{Ends, KeepsLimit, Told}

@@ -13,9 +13,9 @@ use Rattle.report_command.specs.declared.refusal.ReportRefusal.TheVariants as re
 use Rattle.station_commands.specs.Voting as station
 use Rattle.station_commands.specs.declared.refusal.MakeVoteRefusal.{MakeVoteRefusal}
 use Rattle.station_commands.specs.declared.refusal.MakeVoteRefusal.TheVariants as vote
-use Rattle.bandwidth_commands.specs.WithFile as behind
-use Rattle.bandwidth_commands.specs.declared.refusal.FileVoteRefusal.{FileVoteRefusal}
-use Rattle.bandwidth_commands.specs.declared.refusal.FileVoteRefusal.TheVariants as file
+use Rattle.station_commands.specs.WithFile as behind
+use Rattle.station_commands.specs.declared.file_refusal.FileVoteRefusal.{FileVoteRefusal}
+use Rattle.station_commands.specs.declared.file_refusal.FileVoteRefusal.TheVariants as file
 use Rattle.serve_command.specs.declared.refusal.ServeRefusal.{ServeRefusal}
 use Rattle.serve_command.specs.declared.refusal.ServeRefusal.TheVariants as serve
 use Rattle.exit_status.specs.Told.{by_file_vote, by_make_vote, by_report, by_serve, by_subject}

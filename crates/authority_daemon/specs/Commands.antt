@@ -13,8 +13,8 @@ use Rattle.exit_status.specs.declared.status.Refusal.TheVariants as refusal
 use Rattle.document_commands.specs.Answers.{CheckAnswers, IsSubject, ShowAnswers}
 use Rattle.compute_command.specs.Answers.{CanCompute, ComputeAnswers}
 use Rattle.station_commands.specs.Voting.{IsBeforeDescriptors, MakeVoteAnswers}
-use Rattle.bandwidth_commands.specs.WithFile.{FileVoteAnswers}
-use Rattle.station_command_laws.specs.Answerable.{CanMakeVote, CanMakeVoteWithFile}
+use Rattle.station_commands.specs.WithFile.{FileVoteAnswers}
+use Rattle.station_commands.specs.Answerable.{CanMakeVote, CanMakeVoteWithFile}
 use Rattle.report_command.specs.Answers.{CanReport, ReportAnswers}
 use Rattle.report_command.specs.declared.refusal.NoReport.TheVariants as report
 use Rattle.vote_rehearsal.specs.Summaries.{summary_of}

@@ -9,14 +9,13 @@ ghost use Rattle.exit_status.specs.Told.{by_report, by_subject};
 ghost use Rattle.authority_daemon.specs.Commands.{IsBeforeSigner, IsEarly, MakeVoteBy, may};
 ghost use Rattle.authority_daemon.specs.Inside.{AsksNoKeys, OfRefusal};
 
-use bandwidth_commands::make_vote_with_file;
 use bytes::Bytes;
 use daemon_words::{Command, Measures, Report, Stop, Subject};
 use dir_bytes::Clock;
 use exit_status::{Refusal, by_file_vote, by_make_vote, by_report, by_subject};
 use key_port::{Signer, Verifier};
 use report_command::report;
-use station_commands::make_vote;
+use station_commands::{make_vote, make_vote_with_file};
 use std::alloc::Global;
 
 /// What `check` answers to an input.

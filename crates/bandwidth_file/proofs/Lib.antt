@@ -5,3 +5,6 @@ pub mod Steps
 pub mod LastValues
 pub mod FirstLines
 pub mod Lineage
+pub mod Passing
+pub mod NoTimes
+pub mod OpenInputs

@@ -6,3 +6,4 @@ pub mod Refusals
 pub mod Lending
 pub mod Texts
 pub mod Ages
+pub mod Fronts

@@ -1,8 +1,11 @@
-//! Bandwidth files, as scanners write them: the measured bandwidths of relays.
+//! Bandwidth files, as scanners write them: the measured bandwidths of relays. A bandwidth file that stands in front of
+//! other input, up to a line that ends it.
 #![tactic(auto)]
 
+mod ends;
 mod feeder;
 mod file;
+mod front;
 mod items;
 mod line;
 mod reading;
@@ -14,6 +17,7 @@ mod text;
 
 pub use feeder::BandFeeder;
 pub use file::{BandFile, Header};
+pub use front::{Front, read_front};
 pub use reading::read;
 pub use refusal::{BandFault, BandReason, BandRefusal};
 pub use relays::Relays;

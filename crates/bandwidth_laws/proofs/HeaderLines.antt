@@ -7,7 +7,7 @@ use Rattle.std.proofs.lemmas.Bool.{false≢true}
 use Rattle.std.proofs.lemmas.List.Elements.{All-cons, All-head, All-nil, All-tail}
 use Rattle.item_terms.specs.Lines.{Line}
 use Rattle.item_terms.specs.Words.{is_blank, is_blank_line}
-use Rattle.list_laws.proofs.Marks.{behind_again, front_again, mark_is_there}
+use Rattle.value_laws.proofs.Marks.{behind_again, front_again, mark_is_there}
 use Rattle.bandwidth_file.specs.declared.file.Header.{Header}
 use Rattle.bandwidth_file.specs.declared.refusal.BandReason.TheVariants as reason
 use Rattle.bandwidth_file.specs.declared.said.Said.TheVariants as said

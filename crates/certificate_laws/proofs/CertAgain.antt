@@ -4,7 +4,7 @@ use Rattle.std.proofs.Common.{arith}
 use Rattle.std.specs.Prelude.{◌&&◌, map}
 use Rattle.item_terms.specs.Items.{Contents, contents, nothing}
 use Rattle.item_terms.specs.Words.{begins_dash}
-use Rattle.dirdoc_laws.proofs.ItemsAgain.{items_again}
+use Rattle.grammar_laws.proofs.ItemsAgain.{items_again}
 use Rattle.dirdoc_grammar.specs.Writing.{AreWritable, NewItem, all_written, in_front, is_open, items_text}
 use Rattle.frame_terms.specs.Documents.{Document, document_of, finish}
 use Rattle.frame_terms.specs.Keywords.{same}

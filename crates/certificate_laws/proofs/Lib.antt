@@ -1,3 +1,16 @@
 pub mod CertRows
 pub mod CertSays
 pub mod CertAgain
+pub mod Holding
+pub mod MovedValues
+pub mod Simulated
+pub mod CertMakes
+pub mod Embedded
+pub mod FirstItem
+pub mod TakenIn
+pub mod AllTakenIn
+pub mod Lone
+pub mod StandInside
+pub mod MovedParts
+pub mod InVotes
+pub mod CertCut

@@ -13,7 +13,7 @@ use Rattle.detached_sigs.proofs.Asking.{parted, taken}
 use Rattle.detached_doc.specs.declared.detached.Detached.{Detached}
 use Rattle.detached_doc.specs.declared.detached.DetachedLine.{DetachedLine}
 use Rattle.period_terms.specs.declared.signature.OfferedSignature.{OfferedSignature}
-use Rattle.signature_terms.specs.declared.view.PeriodView.{PeriodView}
+use Rattle.period_terms.specs.declared.view.PeriodView.{PeriodView}
 use Rattle.checked_sigs.specs.Asking.{offered_by, offered_lines}
 use Rattle.checked_sigs.specs.declared.report.SigRefusal.{SigRefusal}
 use Rattle.checked_sigs.specs.declared.report.SigRefusal.TheVariants as the

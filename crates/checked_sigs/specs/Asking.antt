@@ -12,8 +12,8 @@ use Rattle.detached_doc.specs.declared.detached.DetachedLine.{DetachedLine}
 use Rattle.detached_sigs.specs.declared.key.SignerKey.{SignerKey}
 use Rattle.detached_sigs.specs.Signers.{is_line_of}
 use Rattle.period_terms.specs.declared.signature.OfferedSignature.{OfferedSignature}
-use Rattle.signature_terms.specs.Offered.{offered}
-use Rattle.signature_terms.specs.declared.view.PeriodView.{PeriodView}
+use Rattle.period_terms.specs.Offered.{offered}
+use Rattle.period_terms.specs.declared.view.PeriodView.{PeriodView}
 
 -- the flavour of these names of a flavour and an algorithm, where both are known: ns, which is not named, with SHA-1,
 -- and microdesc with SHA-256

@@ -12,7 +12,7 @@ use Rattle.detached_doc.specs.Reading.{detached_of}
 use Rattle.period_terms.specs.declared.signature.OfferedSignature.{OfferedSignature}
 use Rattle.checked_sigs.specs.declared.report.SigRefusal.{SigRefusal}
 use Rattle.checked_sigs.specs.declared.report.SigRefusal.TheVariants as refusal
-use Rattle.signature_terms.specs.declared.view.PeriodView.{PeriodView}
+use Rattle.period_terms.specs.declared.view.PeriodView.{PeriodView}
 use Rattle.checked_sigs.specs.Asking.{offered_by, offered_lines}
 
 -- ---- what the verifier answers

@@ -2,7 +2,7 @@
 use dir_bytes::Seq;
 use frame_terms::FrameFault;
 use key_port::Verifier;
-use signature_terms::CheckedSig;
+use period_terms::CheckedSig;
 
 /// What came of each line of detached signatures.
 #[derive(Drop)]

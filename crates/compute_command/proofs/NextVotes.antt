@@ -10,7 +10,7 @@ use Rattle.frame_terms.specs.declared.fault.ReadRefusal.TheVariants.{Frame}
 use Rattle.vote_terms.specs.Votes.{ReadVote}
 use Rattle.vote_doc.specs.Reading.{vote_from, vote_of}
 use Rattle.blank_lines.specs.Behind.{behind, fault_behind, refusal_behind}
-use Rattle.whole_votes.proofs.WholeVotes.{votes_same}
+use Rattle.vote_feed.proofs.WholeVotes.{votes_same}
 use Rattle.compute_command.specs.Rests.{AreVotes, EndsVote, Read, next_by, next_of, room_behind}
 use Rattle.compute_command.specs.Votes.{one_more, one_more_of, then_votes, unless_end}
 use Rattle.compute_command.specs.Votes.{unless_more, votes_from, votes_of, with_front}

@@ -9,9 +9,9 @@ use Rattle.frame_terms.specs.declared.fault.ReadRefusal.TheVariants.{Frame}
 use Rattle.vote_terms.specs.Votes.{ReadVote}
 use Rattle.vote_doc.specs.Reading.{vote_of}
 use Rattle.vote_feed.specs.Feeding.{IsFaulty, IsOpen, IsWhole}
-use Rattle.whole_votes.proofs.WholeVotes.{faulty_stay, whole_stay}
-use Rattle.ended_votes.proofs.BlankVotes.{blank_are_none}
-use Rattle.ended_votes.proofs.EndedVotes.{open_are_none}
+use Rattle.vote_feed.proofs.WholeVotes.{faulty_stay, whole_stay}
+use Rattle.vote_feed.proofs.BlankVotes.{blank_are_none}
+use Rattle.vote_feed.proofs.EndedVotes.{open_are_none}
 use Rattle.compute_command.specs.Beyonds.{HasTooMany}
 use Rattle.compute_command.specs.Rests.{EndsVote, HasFault, HasNoVote, Read, next_by, next_of, vote_if}
 use Rattle.compute_command.specs.Votes.{no_limit, one_more_of}

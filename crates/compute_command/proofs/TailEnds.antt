@@ -10,11 +10,11 @@ use Rattle.item_terms.specs.Lines.{Line, lines, size}
 use Rattle.item_terms.specs.Words.{is_blank, is_blank_line, nul_in}
 use Rattle.item_terms.specs.declared.fault.DocFault.{DocFault}
 use Rattle.item_terms.specs.declared.fault.DocReason.TheVariants.{DocumentTooLong, LineTooLong, Unterminated}
-use Rattle.dirdoc_laws.specs.Blocks.{AreBlankLines, AreLinesOfItems, IsBlankLine}
-use Rattle.dirdoc_laws.proofs.BlockFronts.{items_are_there}
-use Rattle.dirdoc_laws.proofs.BlockReading.{no_others_are}
-use Rattle.part_laws.specs.Moved.{sizes}
-use Rattle.part_laws.proofs.LinesTogether.{sizes_all}
+use Rattle.grammar_laws.specs.Blocks.{AreBlankLines, AreLinesOfItems, IsBlankLine}
+use Rattle.grammar_laws.proofs.BlockFronts.{items_are_there}
+use Rattle.grammar_laws.proofs.BlockReading.{no_others_are}
+use Rattle.grammar_laws.specs.Moved.{sizes}
+use Rattle.grammar_laws.proofs.LinesTogether.{sizes_all}
 use Rattle.frame_terms.specs.declared.fault.ReadRefusal.{ReadRefusal}
 use Rattle.compute_command.specs.Tails.{is_end, tail_of}
 use Rattle.compute_command.specs.Votes.{by_first, no_limit, one_more_of}

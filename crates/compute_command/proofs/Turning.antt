@@ -14,12 +14,12 @@ use Rattle.frame_terms.specs.declared.fault.ReadRefusal.{ReadRefusal}
 use Rattle.frame_terms.specs.declared.fault.ReadRefusal.TheVariants.{Frame}
 use Rattle.vote_terms.specs.Votes.{ReadVote}
 use Rattle.vote_doc.specs.Reading.{ReadsVote, vote_of}
-use Rattle.fault_laws.proofs.VoteFaults.{fault_of_vote}
+use Rattle.vote_parts.proofs.VoteFaults.{fault_of_vote}
 use Rattle.vote_feed.specs.declared.fed.Fed.{Fed}
 use Rattle.vote_feed.specs.declared.fed.Fed.TheVariants as fed
 use Rattle.vote_feed.specs.Feeding.{EndsSo, Feeds, IsFaulty, IsOpen, IsWhole, end_of}
 use Rattle.vote_feed.proofs.Votes.{nothing_known}
-use Rattle.whole_votes.proofs.FedVotes.{end_there}
+use Rattle.vote_feed.proofs.FedVotes.{end_there}
 use Rattle.compute_command.specs.declared.rest.Stage.{Stage}
 use Rattle.compute_command.specs.declared.rest.Stage.TheVariants as stage
 use Rattle.compute_command.specs.declared.rest.Turn.{Turn}

@@ -7,9 +7,9 @@ use Rattle.std.specs.List.{cons_option, filter_map, find, list_any}
 use Rattle.std.specs.Str.{bytes_eq}
 use Rattle.std.proofs.lemmas.List.Sums.{length-filter}
 use Rattle.std.proofs.lemmas.Bool.{and_parts, eqb-true, false≢true, ltb-true}
-use Rattle.random_lines.specs.Values.{same_random}
-use Rattle.random_lines.specs.declared.line.RandomLine.{RandomLine}
-use Rattle.random_lines.specs.declared.value.SharedRandom.{SharedRandom}
+use Rattle.value_groups.specs.Values.{same_random}
+use Rattle.value_groups.specs.declared.line.RandomLine.{RandomLine}
+use Rattle.value_groups.specs.declared.value.SharedRandom.{SharedRandom}
 use Rattle.vote_terms.specs.Votes.{ReadVote}
 use Rattle.compute_terms.specs.Randoms.{AgreedRandomsAreListed, RandomsAreAlone, is_agreed, is_random, random_of, votes_for}
 use Rattle.compute_terms.proofs.Majorities.{majorities_meet}

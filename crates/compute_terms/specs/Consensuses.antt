@@ -5,7 +5,7 @@ use Rattle.compute_terms.specs.Times.{median_of}
 use Rattle.compute_terms.specs.Flags.{known_flags}
 use Rattle.compute_terms.specs.Lists.{listed_params, lists_of}
 use Rattle.compute_terms.specs.Randoms.{agreed_random}
-use Rattle.random_lines.specs.declared.line.RandomLine.TheVariants.{Previous, Current}
+use Rattle.value_groups.specs.declared.line.RandomLine.TheVariants.{Previous, Current}
 use Rattle.compute_terms.specs.Methods.{chosen_method}
 use Rattle.bandwidth_rules.specs.Limits.{unmeasured_limit}
 use Rattle.compute_terms.specs.Routers.{routers}

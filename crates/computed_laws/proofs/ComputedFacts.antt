@@ -4,7 +4,7 @@ use Rattle.std.specs.Prelude.{All, IfSome}
 use Rattle.std.proofs.lemmas.List.Elements.{All-filter, All-weaker}
 use Rattle.dir_bytes.specs.Causes.{last_moment}
 use Rattle.list_values.specs.declared.named.Named.{Named}
-use Rattle.list_laws.specs.Ranges.{AreProtocolsInRange, AreVersionsInRange}
+use Rattle.value_laws.specs.Ranges.{AreProtocolsInRange, AreVersionsInRange}
 use Rattle.vote_terms.specs.Votes.{ReadVote}
 use Rattle.vote_terms.specs.declared.lists.VoteLists.{VoteLists}
 use Rattle.vote_laws.specs.Again as votes_
@@ -22,7 +22,7 @@ use Rattle.computed_laws.proofs.Kept.{AllPairs-filter}
 use Rattle.computed_laws.proofs.KnownFlags.{KnowNames, known_in_range}
 use Rattle.computed_laws.proofs.ListedParams.{params_in_range, protocols_in_range}
 use Rattle.computed_laws.proofs.ListedRandoms.{random_in_range}
-use Rattle.random_lines.specs.declared.line.RandomLine.TheVariants as line
+use Rattle.value_groups.specs.declared.line.RandomLine.TheVariants as line
 use Rattle.computed_laws.proofs.ListedVersions.{versions_in_range}
 use Rattle.computed_laws.proofs.RelayEntries.{AllEntries}
 use Rattle.computed_laws.proofs.RelayOrder.{Before, relays_ascend, relays_in_range}

@@ -7,8 +7,8 @@ use Rattle.item_terms.specs.Bytes.{space}
 use Rattle.item_terms.specs.Faults.{max_object}
 use Rattle.dirdoc_grammar.specs.Bodies.{object_text}
 use Rattle.dirdoc_grammar.specs.Writing.{AreWritable, IsLineRest, IsWritableObject, NewItem, NewObject, item_text}
-use Rattle.dirdoc_laws.specs.Written.{AreWithinLimits, IsItem, IsObject}
-use Rattle.dirdoc_laws.proofs.LineRests.{rest_of_nothing}
+use Rattle.grammar_laws.specs.Written.{AreWithinLimits, IsItem, IsObject}
+use Rattle.grammar_laws.proofs.LineRests.{rest_of_nothing}
 use Rattle.frame_terms.specs.declared.keyword.Keyword.TheVariants as the
 use Rattle.vote_terms.specs.Votes.{ReadVote}
 use Rattle.vote_laws.specs.Again as vote_laws

@@ -12,8 +12,8 @@ use Rattle.dir_bytes.specs.FieldTexts.{address_text, base64_text, hex_text, mome
 use Rattle.dir_values.specs.FlagSets.{set_text}
 use Rattle.dir_values.specs.declared.digest.Digest2.{Digest2}
 use Rattle.dirdoc_grammar.specs.Writing.{IsLineRest}
-use Rattle.dirdoc_laws.specs.Written.{IsItem}
-use Rattle.dirdoc_laws.proofs.LineRests.{rest_of_argument}
+use Rattle.grammar_laws.specs.Written.{IsItem}
+use Rattle.grammar_laws.proofs.LineRests.{rest_of_argument}
 use Rattle.frame_terms.specs.declared.keyword.Keyword.TheVariants as the
 use Rattle.frame_values.specs.Parts.{moment_of}
 use Rattle.frame_laws.proofs.WordTexts.{AreWords, IsWord, two_words, word_of_address, word_of_identity, word_of_nickname}
@@ -21,17 +21,17 @@ use Rattle.frame_laws.proofs.WordTexts.{word_of_number, words_of_flags}
 use Rattle.list_values.specs.Params.{params_text}
 use Rattle.list_values.specs.Protocols.{protocols_text}
 use Rattle.list_values.specs.VersionLists.{versions_text}
-use Rattle.list_laws.proofs.LineWords.{rest_of_words}
-use Rattle.list_laws.proofs.ParamsAgain.{params_fill}
-use Rattle.list_laws.proofs.ProtocolsAgain.{protocols_fill}
-use Rattle.list_laws.proofs.VersionsAgain.{versions_fill}
-use Rattle.line_laws.specs.Again.{AreFlagsInRange, IsRandomInRange}
-use Rattle.random_lines.specs.Values.{random_text}
-use Rattle.random_lines.specs.declared.value.SharedRandom.{SharedRandom}
+use Rattle.value_laws.proofs.LineWords.{rest_of_words}
+use Rattle.value_laws.proofs.ParamsAgain.{params_fill}
+use Rattle.value_laws.proofs.ProtocolsAgain.{protocols_fill}
+use Rattle.value_laws.proofs.VersionsAgain.{versions_fill}
+use Rattle.group_laws.specs.LineAgain.{AreFlagsInRange, IsRandomInRange}
+use Rattle.value_groups.specs.Values.{random_text}
+use Rattle.value_groups.specs.declared.value.SharedRandom.{SharedRandom}
 use Rattle.vote_laws.proofs.VoteRandoms.{random_fills}
-use Rattle.entry_laws.specs.Ranges.{IsAddressInRange}
-use Rattle.entry_laws.proofs.WrittenMicros.{word_of_thirty_two}
-use Rattle.entry_laws.proofs.WrittenRelays.{word_of_twenty}
+use Rattle.group_laws.specs.Ranges.{IsAddressInRange}
+use Rattle.group_laws.proofs.WrittenMicros.{word_of_thirty_two}
+use Rattle.group_laws.proofs.WrittenRelays.{word_of_twenty}
 use Rattle.consensus_terms.specs.Lines.{named_text}
 use Rattle.consensus_terms.specs.Routers.{digest_words, name_words, place_words, unmeasured_words}
 use Rattle.consensus_terms.specs.Signed.{signature_item}

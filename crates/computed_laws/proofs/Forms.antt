@@ -7,8 +7,8 @@ use Rattle.std.proofs.lemmas.List.Elements.{All-append, All-cons, All-head, All-
 use Rattle.item_terms.specs.Bytes.{space}
 use Rattle.dir_bytes.specs.FieldTexts.{clock_text, date_text, moment_text}
 use Rattle.dirdoc_grammar.specs.Writing.{IsKeyword, IsLineRest, NewItem}
-use Rattle.dirdoc_laws.specs.Written.{IsItem}
-use Rattle.dirdoc_laws.proofs.LineRests.{joined, rest_of_argument, rest_of_joined}
+use Rattle.grammar_laws.specs.Written.{IsItem}
+use Rattle.grammar_laws.proofs.LineRests.{joined, rest_of_argument, rest_of_joined}
 use Rattle.frame_terms.specs.Keywords.{text_of}
 use Rattle.frame_terms.specs.declared.keyword.Keyword.{Keyword}
 use Rattle.frame_values.specs.Items.{bare, item_if}

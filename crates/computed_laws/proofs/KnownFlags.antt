@@ -4,7 +4,7 @@ use Rattle.std.specs.Prelude.{All, codes, filter, if◌then◌else◌}
 use Rattle.std.proofs.lemmas.List.Elements.{All-append, All-cons, All-filter, All-nil}
 use Rattle.dir_values.specs.FlagSets.{as_set, has_flag, is_name}
 use Rattle.dir_values.proofs.Flags.{Ascend-as_set, Ascend-with_flag}
-use Rattle.line_laws.specs.Again.{AreFlagsInRange}
+use Rattle.group_laws.specs.LineAgain.{AreFlagsInRange}
 use Rattle.vote_terms.specs.Votes.{ReadVote}
 use Rattle.compute_terms.specs.Flags.{known_flags, listed_flags, with_own_flags}
 use Rattle.compute_terms.specs.Listings.{Listing}

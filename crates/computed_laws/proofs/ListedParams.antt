@@ -12,8 +12,8 @@ use Rattle.dir_values.specs.FlagSets.{is_name}
 use Rattle.list_values.specs.declared.named.Named.{Named}
 use Rattle.list_values.specs.Maps.{named}
 use Rattle.list_values.specs.NumberSets.{numbers_that}
-use Rattle.list_laws.specs.Ranges.{AreNumbersInRange, AreParamsInRange, AreProtocolsInRange, IsParamInRange, IsProtocolInRange}
-use Rattle.list_laws.proofs.NumbersAlone.{kept_in_range}
+use Rattle.value_laws.specs.Ranges.{AreNumbersInRange, AreParamsInRange, AreProtocolsInRange, IsParamInRange, IsProtocolInRange}
+use Rattle.value_laws.proofs.NumbersAlone.{kept_in_range}
 use Rattle.field_votes.specs.Lists.{all_names, is_listed_number, is_listed_param, is_listed_protocol, listed_numbers}
 use Rattle.field_votes.specs.Lists.{median_param, values_in}
 use Rattle.field_votes.specs.Private.{mask_that}

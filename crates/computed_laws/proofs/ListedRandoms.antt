@@ -2,8 +2,8 @@
 use Rattle.std.proofs.Common.{List, ℕ}
 use Rattle.std.specs.Prelude.{All, IfSome}
 use Rattle.std.specs.List.{filter_map}
-use Rattle.line_laws.specs.Again.{IsRandomInRange}
-use Rattle.random_lines.specs.declared.line.RandomLine.{RandomLine}
+use Rattle.group_laws.specs.LineAgain.{IsRandomInRange}
+use Rattle.value_groups.specs.declared.line.RandomLine.{RandomLine}
 use Rattle.compute_terms.specs.Randoms.{agreed_random, is_agreed, random_of}
 use Rattle.vote_terms.specs.Votes.{ReadVote}
 use Rattle.computed_laws.proofs.Kept.{All-filter_map, IfSome-find}

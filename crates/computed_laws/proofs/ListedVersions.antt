@@ -7,7 +7,7 @@ use Rattle.std.specs.List.{flat_map, fold}
 use Rattle.std.specs.Ordering.{match_ordering}
 use Rattle.std.proofs.lemmas.List.Elements.{All-cons, All-filter, All-head, All-map, All-nil, All-tail, All-weaker}
 use Rattle.list_values.specs.VersionLists.{is_version}
-use Rattle.list_laws.specs.Ranges.{AreVersionsInRange}
+use Rattle.value_laws.specs.Ranges.{AreVersionsInRange}
 use Rattle.field_votes.specs.Versions.{all_versions, is_listed_by_most, lists_there, text_order, with_version}
 use Rattle.vote_terms.specs.Votes.{ReadVote}
 use Rattle.vote_terms.specs.declared.lists.VoteLists.{VoteLists}

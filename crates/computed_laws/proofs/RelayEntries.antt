@@ -11,7 +11,7 @@ use Rattle.dir_values.specs.declared.digest.Digest2.{Digest2}
 use Rattle.dir_values.specs.declared.digest.Fingerprint.{Fingerprint}
 use Rattle.dir_values.specs.Digests.{same_identity}
 use Rattle.relay_entries.specs.declared.said.Bandwidths.{Bandwidths}
-use Rattle.entry_laws.specs.Ranges.{AreBandwidthsInRange, AreThirtyTwo, IsAddressInRange}
+use Rattle.group_laws.specs.Ranges.{AreBandwidthsInRange, AreThirtyTwo, IsAddressInRange}
 use Rattle.count_terms.specs.Choosing.{chosen, leads, text_order}
 use Rattle.vote_terms.specs.Votes.{ReadVote}
 use Rattle.vote_terms.specs.Entries.{bandwidth_of, first_address, gives, measured_of, micro_for}

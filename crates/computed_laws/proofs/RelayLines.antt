@@ -8,8 +8,8 @@ use Rattle.dir_values.specs.declared.digest.Digest1.{Digest1}
 use Rattle.dir_values.specs.declared.digest.Digest2.{Digest2}
 use Rattle.dir_values.specs.declared.digest.Fingerprint.{Fingerprint}
 use Rattle.frame_values.specs.Ranges.{AreTwenty}
-use Rattle.line_laws.specs.Again.{AreFlagsInRange}
-use Rattle.entry_laws.specs.Ranges.{AreThirtyTwo}
+use Rattle.group_laws.specs.LineAgain.{AreFlagsInRange}
+use Rattle.group_laws.specs.Ranges.{AreThirtyTwo}
 use Rattle.count_terms.specs.Counts.{low_median}
 use Rattle.vote_terms.specs.Votes.{ReadVote}
 use Rattle.vote_terms.specs.declared.entry.EntryFacts.{EntryFacts}

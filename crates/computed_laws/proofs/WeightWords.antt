@@ -7,7 +7,7 @@ use Rattle.item_terms.specs.Bytes.{space}
 use Rattle.bw_weights.specs.declared.position_weights.Weights.{Weights}
 use Rattle.dirdoc_grammar.specs.Writing.{IsLineRest}
 use Rattle.frame_laws.proofs.WordTexts.{AreWords, IsWord}
-use Rattle.list_laws.proofs.LineWords.{rest_of_words}
+use Rattle.value_laws.proofs.LineWords.{rest_of_words}
 use Rattle.consensus_terms.specs.Lines.{named_text}
 use Rattle.consensus_terms.specs.Weights.{directory_words, exit_words, guard_words, middle_words, weight_words}
 use Rattle.computed_laws.proofs.Forms.{named_word}

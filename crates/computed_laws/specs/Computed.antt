@@ -3,7 +3,7 @@ use Rattle.std.specs.Prelude.{◌≡◌, ℕ, ◌≤◌, true, List, length, All
 use Rattle.dir_bytes.specs.Causes.{last_moment}
 use Rattle.dir_values.specs.FlagSets.{is_name}
 use Rattle.dirdoc_grammar.specs.Writing.{AreWritable}
-use Rattle.line_laws.specs.Again.{IsRandomInRange, IsSourceInRange}
+use Rattle.group_laws.specs.LineAgain.{IsRandomInRange, IsSourceInRange}
 use Rattle.vote_terms.specs.Votes.{ReadVote}
 use Rattle.vote_terms.specs.declared.facts.VoteFacts.{VoteFacts}
 use Rattle.vote_laws.specs.Again as vote_laws

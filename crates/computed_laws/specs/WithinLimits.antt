@@ -3,7 +3,7 @@
 use Rattle.std.specs.Prelude.{◌≡◌, ℕ, List, length, All, IfSome, Ok}
 use Rattle.base64.specs.GeneralPurpose.{IsBytes}
 use Rattle.dirdoc_grammar.specs.Writing.{IsLineRest}
-use Rattle.dirdoc_laws.specs.Written.{AreWithinLimits, IsItem}
+use Rattle.grammar_laws.specs.Written.{AreWithinLimits, IsItem}
 use Rattle.vote_terms.specs.Votes.{ReadVote}
 use Rattle.vote_terms.specs.declared.entry.EntryFacts.{EntryFacts}
 use Rattle.vote_terms.specs.declared.facts.VoteFacts.{VoteFacts}

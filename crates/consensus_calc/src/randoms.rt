@@ -2,8 +2,8 @@
 ghost use Rattle.std.specs.Prelude.{◌≡◌, ◌≤◌, length};
 ghost use Rattle.compute_terms.specs.Randoms as terms;
 
-use random_lines::{RandomLine, SharedRandom};
 use relay_select::over;
+use value_groups::{RandomLine, SharedRandom};
 use vote_doc::{Accepted, Vote};
 
 /// What a vote says on a line.

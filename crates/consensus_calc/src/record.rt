@@ -8,14 +8,14 @@ use crate::lists::lists_of;
 use crate::methods::chosen_method;
 use crate::randoms::agreed_random;
 use crate::timing::{Timing, median};
+use crate::walk::routers;
 use crate::weights::weighted_consensus;
 use bandwidth_rules::unmeasured_limit;
 use consensus_terms::{Consensus, ConsensusFacts, SourceLine};
 use dir_bytes::{Memory, Seq, Text};
-use random_lines::RandomLine;
 use relay_select::over;
-use router_calc::routers;
 use std::alloc::Global;
+use value_groups::RandomLine;
 use vote_doc::{Accepted, HeldVote, Vote};
 
 /// Why there is no consensus.

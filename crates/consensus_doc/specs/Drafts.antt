@@ -7,7 +7,7 @@ use Rattle.dir_values.specs.FlagSets.{as_set}
 use Rattle.dir_values.specs.declared.algorithm.Algorithm.{Algorithm}
 use Rattle.dir_values.specs.declared.algorithm.Algorithm.TheVariants.{Sha1, Sha256}
 use Rattle.list_values.specs.declared.named.Named.{Named}
-use Rattle.list_lines.specs.Listed.{params_in, protocols_in, versions_in}
+use Rattle.value_groups.specs.Listed.{params_in, protocols_in, versions_in}
 use Rattle.frame_terms.specs.declared.document.Taken.{Taken}
 use Rattle.frame_terms.specs.declared.keyword.Keyword.{Keyword}
 use Rattle.frame_terms.specs.declared.keyword.Keyword.TheVariants as the

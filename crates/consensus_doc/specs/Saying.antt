@@ -8,7 +8,7 @@ use Rattle.frame_values.specs.declared.values.Value.{Value}
 use Rattle.frame_values.specs.Values.{own_in, nowhere, no_digest, no_identity}
 use Rattle.relay_entries.specs.declared.said.EntryValue.TheVariants.{Relay}
 use Rattle.relay_entries.specs.declared.said.RelayLine.{RelayLine}
-use Rattle.random_lines.specs.declared.value.SharedRandom.{SharedRandom}
+use Rattle.value_groups.specs.declared.value.SharedRandom.{SharedRandom}
 use Rattle.consensus_terms.specs.declared.router.Bandwidth.{Bandwidth}
 use Rattle.consensus_frame.specs.declared.value.ConsensusValue.{ConsensusValue}
 use Rattle.consensus_frame.specs.declared.value.ConsensusValue.TheVariants as own

@@ -13,9 +13,9 @@ use dir_bytes::{Memory, Seq};
 use dir_values::FlagSet;
 use frame_terms::{Keyword, Taken};
 use frame_values::{Value, moment, number_at, part, text_at};
-use list_lines::{params_in, protocols_in, versions_in};
 use list_values::{Params, ProtoRanges, VersionList};
 use std::alloc::Global;
+use value_groups::{params_in, protocols_in, versions_in};
 
 /// The set of the words of an item's text.
 ///

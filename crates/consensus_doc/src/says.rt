@@ -8,8 +8,8 @@ use consensus_terms::Bandwidth;
 use dir_values::{Digest1, Digest2, Fingerprint};
 use frame_terms::{Keyword, Taken};
 use frame_values::{DirSource, Value, nowhere, own_at};
-use random_lines::SharedRandom;
 use relay_entries::{EntryValue, RelayLine};
+use value_groups::SharedRandom;
 
 /// The seconds for exchanging votes and signatures.
 pub(crate) fn delays_at(taken: &[Taken<Value<ConsensusValue>>]) -> (u32, u32)

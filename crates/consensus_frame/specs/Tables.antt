@@ -19,7 +19,7 @@ use Rattle.frame_values.specs.Faults.{at_place}
 use Rattle.frame_values.specs.Arguments.{next}
 use Rattle.frame_values.specs.Lines.{literal, time_of, delays_of, flags_of, rest_of, source_of}
 use Rattle.frame_values.specs.Signatures.{known_signature_of, space_of}
-use Rattle.list_lines.specs.Lines.{params_of, protocols_of, versions_of}
+use Rattle.value_groups.specs.ListLines.{params_of, protocols_of, versions_of}
 use Rattle.relay_entries.specs.declared.listed.Listed.{Listed}
 use Rattle.relay_entries.specs.declared.said.EntryKind.{EntryKind}
 use Rattle.relay_entries.specs.declared.said.EntryKind.TheVariants as entry
@@ -27,7 +27,7 @@ use Rattle.relay_entries.specs.declared.said.EntryValue.TheVariants as said
 use Rattle.relay_entries.specs.Lines.{entry_value, is_ignored, lifted}
 use Rattle.relay_entries.specs.Listing.{none_listed, note_entry}
 use Rattle.relay_entries.specs.Tables.{entry_shape}
-use Rattle.random_lines.specs.Lines.{random_of}
+use Rattle.value_groups.specs.Lines.{random_of}
 use Rattle.consensus_terms.specs.declared.flavour.Flavour.{Flavour}
 use Rattle.consensus_terms.specs.declared.flavour.Flavour.TheVariants.{Ns, Microdesc}
 use Rattle.consensus_frame.specs.declared.across.Across.{Across}

@@ -20,9 +20,8 @@ use frame_values::{
     DirSource, Value, VoteSignature, at_place, delays_of, known_signature_of, literal, rest_of,
     source_of, space_of, time_of,
 };
-use list_lines::{params_of, protocols_of, versions_of};
-use random_lines::{SharedRandom, random_of};
 use relay_entries::{EntryValue, entry_value, flags_of, note_entry};
+use value_groups::{SharedRandom, params_of, protocols_of, random_of, versions_of};
 
 /// What only items of a consensus say.
 #[derive(Clone, Copy, Debug)]

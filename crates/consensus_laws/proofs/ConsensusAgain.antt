@@ -7,7 +7,7 @@ use Rattle.std.specs.List.{fold, join_with_byte}
 use Rattle.item_terms.specs.Items.{Contents, contents, contents_of, items_of, nothing}
 use Rattle.item_terms.specs.Words.{begins_dash}
 use Rattle.dir_values.specs.Arguments.{Argument}
-use Rattle.dirdoc_laws.proofs.ItemsAgain.{items_again}
+use Rattle.grammar_laws.proofs.ItemsAgain.{items_again}
 use Rattle.dirdoc_grammar.specs.Writing.{AreWritable, NewItem, all_written, in_front, is_open, items_text, written}
 use Rattle.frame_terms.specs.Documents.{document_of, finish, group}
 use Rattle.frame_terms.specs.Keywords.{same}

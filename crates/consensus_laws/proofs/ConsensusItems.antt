@@ -34,14 +34,14 @@ use Rattle.frame_laws.proofs.Sections.{Section}
 use Rattle.frame_laws.proofs.Words.{AreWords, IsWord, arguments_of_word, arguments_of_words, placed, two_words}
 use Rattle.frame_laws.proofs.Words.{word_of_identity, word_of_number}
 use Rattle.frame_laws.proofs.WrittenItems.{key_again, literal-written, start_of}
-use Rattle.line_laws.specs.Again.{source_at}
-use Rattle.line_laws.proofs.WrittenDelays.{flags_again}
+use Rattle.group_laws.specs.LineAgain.{source_at}
+use Rattle.group_laws.proofs.WrittenDelays.{flags_again}
 use Rattle.group_laws.proofs.ListRows.{HasLists, ListKinds}
 use Rattle.group_laws.proofs.Readings.{Reads}
 use Rattle.group_laws.proofs.SourceRows.{HasRests, HasSources}
 use Rattle.group_laws.proofs.SourceRows as group
 use Rattle.group_laws.proofs.TimeRows.{HasTimes}
-use Rattle.line_laws.specs.Again.{AreFlagsInRange}
+use Rattle.group_laws.specs.LineAgain.{AreFlagsInRange}
 use Rattle.consensus_terms.specs.Texts.{source_words, version_words}
 use Rattle.consensus_terms.specs.declared.consensus.SourceLine.{SourceLine}
 use Rattle.consensus_terms.specs.declared.flavour.Flavour.{Flavour}

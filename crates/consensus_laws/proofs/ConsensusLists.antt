@@ -17,11 +17,11 @@ use Rattle.list_values.specs.Params.{params_text}
 use Rattle.list_values.specs.Protocols.{protocols_text}
 use Rattle.list_values.specs.VersionLists.{versions_text}
 use Rattle.list_values.specs.declared.named.Named.{Named}
-use Rattle.list_lines.specs.Listed.{members_of, params_in, protocols_in, versions_in}
-use Rattle.list_laws.specs.Ranges.{AreParamsInRange, AreProtocolsInRange, AreVersionsInRange}
-use Rattle.list_laws.proofs.ParamsAgain.{params_again}
-use Rattle.list_laws.proofs.ProtocolsAgain.{protocols_again}
-use Rattle.list_laws.proofs.VersionsAgain.{versions_again}
+use Rattle.value_groups.specs.Listed.{members_of, params_in, protocols_in, versions_in}
+use Rattle.value_laws.specs.Ranges.{AreParamsInRange, AreProtocolsInRange, AreVersionsInRange}
+use Rattle.value_laws.proofs.ParamsAgain.{params_again}
+use Rattle.value_laws.proofs.ProtocolsAgain.{protocols_again}
+use Rattle.value_laws.proofs.VersionsAgain.{versions_again}
 use Rattle.consensus_terms.specs.declared.consensus.ConsensusLists.{ConsensusLists}
 use Rattle.consensus_terms.specs.declared.flavour.Flavour.{Flavour}
 use Rattle.consensus_frame.specs.Tables.{consensus_tables}

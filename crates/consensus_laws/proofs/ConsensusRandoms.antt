@@ -19,10 +19,10 @@ use Rattle.frame_laws.proofs.ReadRows.{IsRead, item_of_row}
 use Rattle.frame_laws.proofs.RowCounts.{said_none, said_once}
 use Rattle.frame_laws.proofs.RowValues.{own_entry}
 use Rattle.frame_laws.proofs.Words.{length-word, word_of_number}
-use Rattle.line_laws.specs.Again.{IsRandomInRange}
-use Rattle.line_laws.proofs.WrittenRandoms.{random_again}
-use Rattle.random_lines.specs.Values.{padded_text, random_text}
-use Rattle.random_lines.specs.declared.value.SharedRandom.{SharedRandom}
+use Rattle.group_laws.specs.LineAgain.{IsRandomInRange}
+use Rattle.group_laws.proofs.WrittenRandoms.{random_again}
+use Rattle.value_groups.specs.Values.{padded_text, random_text}
+use Rattle.value_groups.specs.declared.value.SharedRandom.{SharedRandom}
 use Rattle.consensus_terms.specs.Texts.{random_line}
 use Rattle.consensus_terms.specs.declared.flavour.Flavour.{Flavour}
 use Rattle.consensus_frame.specs.Tables.{consensus_tables}

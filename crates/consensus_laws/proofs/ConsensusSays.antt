@@ -16,8 +16,8 @@ use Rattle.frame_laws.proofs.RowValues.{moment_said, text_entry, text_if_said, t
 use Rattle.frame_laws.proofs.SaidRows.{row_once}
 use Rattle.frame_laws.proofs.Sections.{rows_in}
 use Rattle.frame_laws.proofs.StandingParts.{rest_part}
-use Rattle.line_laws.specs.Again.{AreFlagsInRange}
-use Rattle.line_laws.proofs.WrittenDelays.{flags_again}
+use Rattle.group_laws.specs.LineAgain.{AreFlagsInRange}
+use Rattle.group_laws.proofs.WrittenDelays.{flags_again}
 use Rattle.group_laws.proofs.SourceRows.{SourceIs, source_back}
 use Rattle.consensus_terms.specs.declared.consensus.ConsensusFacts.{ConsensusFacts}
 use Rattle.consensus_terms.specs.declared.consensus.SourceLine.{SourceLine}

@@ -19,9 +19,9 @@ use Rattle.frame_laws.proofs.Words.{length-word, word_of_identity, word_of_nickn
 use Rattle.list_values.specs.Params.{params_text}
 use Rattle.list_values.specs.VersionLists.{versions_text}
 use Rattle.list_values.specs.Protocols.{protocols_text}
-use Rattle.entry_laws.proofs.WrittenMicros.{word_of_thirty_two}
-use Rattle.line_laws.specs.Again.{AreFlagsInRange}
-use Rattle.random_lines.specs.Values.{random_text}
+use Rattle.group_laws.proofs.WrittenMicros.{word_of_thirty_two}
+use Rattle.group_laws.specs.LineAgain.{AreFlagsInRange}
+use Rattle.value_groups.specs.Values.{random_text}
 use Rattle.consensus_terms.specs.Lines.{line, named_text}
 use Rattle.consensus_terms.specs.Routers as lines
 use Rattle.consensus_terms.specs.Routers.{is_listed, listed_lines, unmeasured_words}

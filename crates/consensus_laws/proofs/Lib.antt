@@ -1,3 +1,10 @@
+pub mod SoundObjects
+pub mod Calendar
+pub mod ListTexts
+pub mod MemberPlaces
+pub mod WholeMethods
+pub mod ReadDigests
+pub mod StandingDigests
 pub mod ConsensusItems
 pub mod ConsensusLists
 pub mod RelayLines

@@ -13,8 +13,8 @@ use Rattle.list_values.specs.Params.{param_text, params_text}
 use Rattle.list_values.specs.Protocols.{protocol_text, protocols_text}
 use Rattle.list_values.specs.VersionLists.{is_version, versions_text}
 use Rattle.list_values.specs.declared.named.Named.{Named}
-use Rattle.list_laws.proofs.VersionBytes.{word_of_version}
-use Rattle.line_laws.proofs.WrittenSignatures.{tail_some}
+use Rattle.value_laws.proofs.VersionBytes.{word_of_version}
+use Rattle.group_laws.proofs.WrittenSignatures.{tail_some}
 use Rattle.consensus_terms.specs.Lines.{behind_space, line, list_line, rest_line}
 use Rattle.consensus_laws.specs.Items.{list_if, words_item}
 

@@ -33,10 +33,10 @@ use Rattle.relay_entries.specs.Fields.{bandwidth_if, identity}
 use Rattle.relay_entries.specs.Lines.{no_bandwidths}
 use Rattle.relay_entries.specs.declared.said.Bandwidths.{Bandwidths}
 use Rattle.relay_entries.specs.declared.said.RelayLine.{RelayLine}
-use Rattle.entry_laws.specs.Again.{relay_at}
-use Rattle.entry_laws.specs.Ranges.{AreThirtyTwo, IsRelayInRange}
-use Rattle.entry_laws.proofs.WrittenMicros.{digest_again, word_of_thirty_two}
-use Rattle.entry_laws.proofs.WrittenRelays.{identity_again, port_again, relay_again, relay_shape, word_of_twenty}
+use Rattle.group_laws.specs.EntryAgain.{relay_at}
+use Rattle.group_laws.specs.Ranges.{AreThirtyTwo, IsRelayInRange}
+use Rattle.group_laws.proofs.WrittenMicros.{digest_again, word_of_thirty_two}
+use Rattle.group_laws.proofs.WrittenRelays.{identity_again, port_again, relay_again, relay_shape, word_of_twenty}
 use Rattle.consensus_terms.specs.Lines.{named_text}
 use Rattle.consensus_terms.specs.Routers.{unmeasured_words}
 use Rattle.consensus_terms.specs.declared.flavour.Flavour.{Flavour}

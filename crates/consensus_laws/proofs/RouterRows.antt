@@ -23,10 +23,10 @@ use Rattle.relay_entries.specs.declared.said.EntryKind.TheVariants as entry
 use Rattle.relay_entries.specs.declared.said.EntryValue.{EntryValue}
 use Rattle.relay_entries.specs.declared.said.EntryValue.TheVariants as said
 use Rattle.relay_entries.specs.declared.said.RelayLine.{RelayLine}
-use Rattle.entry_laws.specs.Ranges.{IsAddressInRange}
-use Rattle.entry_laws.proofs.WrittenAddresses.{address_again}
-use Rattle.line_laws.specs.Again.{AreFlagsInRange}
-use Rattle.line_laws.proofs.WrittenDelays.{flags_again}
+use Rattle.group_laws.specs.Ranges.{IsAddressInRange}
+use Rattle.group_laws.proofs.WrittenAddresses.{address_again}
+use Rattle.group_laws.specs.LineAgain.{AreFlagsInRange}
+use Rattle.group_laws.proofs.WrittenDelays.{flags_again}
 use Rattle.consensus_terms.specs.Routers.{is_listed}
 use Rattle.consensus_terms.specs.declared.flavour.Flavour.{Flavour}
 use Rattle.consensus_terms.specs.declared.flavour.Flavour.TheVariants.{Ns, Microdesc}

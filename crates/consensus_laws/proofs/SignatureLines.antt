@@ -15,7 +15,7 @@ use Rattle.frame_values.specs.declared.found.VoteSignature.{VoteSignature}
 use Rattle.group_laws.specs.Again.{IsSignerInRange}
 use Rattle.group_laws.specs.Again as lines
 use Rattle.group_laws.proofs.SignatureLines.{known_again, space_again}
-use Rattle.line_laws.proofs.WrittenSignatures.{signer_some}
+use Rattle.group_laws.proofs.WrittenSignatures.{signer_some}
 use Rattle.consensus_terms.specs.Signed.{algorithm_text, signer_text}
 use Rattle.consensus_terms.specs.declared.signature.SignatureLine.{SignatureLine}
 use Rattle.consensus_frame.specs.Tables.{signature_of}

@@ -17,7 +17,7 @@ use Rattle.consensus_terms.specs.declared.flavour.Flavour.{Flavour}
 use Rattle.consensus_terms.specs.declared.signature.SignatureLine.{SignatureLine}
 use Rattle.consensus_doc.specs.Reading.{consensus_of}
 use Rattle.consensus_laws.specs.Again.{ComputedConsensusesAreReadAgain, SignedPartsStand, as_read, with_signatures}
-use Rattle.line_laws.proofs.WrittenSignatures.{signed_end_first}
+use Rattle.group_laws.proofs.WrittenSignatures.{signed_end_first}
 use Rattle.consensus_laws.proofs.ConsensusAgain.{consensuses_again}
 use Rattle.consensus_laws.proofs.LineTexts.{lines_are, rest_is}
 use Rattle.consensus_laws.proofs.SignatureLines.{signer_filled}

@@ -14,9 +14,9 @@ use Rattle.dirdoc_grammar.specs.Writers.{is_argument}
 use Rattle.dirdoc_grammar.specs.Writing.{AreWritable}
 use Rattle.frame_values.specs.Ranges.{AreTwenty}
 use Rattle.frame_values.specs.Values.{no_digest}
-use Rattle.list_laws.specs.Ranges.{AreParamsInRange, AreProtocolsInRange, AreVersionsInRange}
-use Rattle.line_laws.specs.Again.{AreFlagsInRange, IsRandomInRange, IsSourceInRange}
-use Rattle.entry_laws.specs.Ranges.{AreThirtyTwo, IsAddressInRange}
+use Rattle.value_laws.specs.Ranges.{AreParamsInRange, AreProtocolsInRange, AreVersionsInRange}
+use Rattle.group_laws.specs.LineAgain.{AreFlagsInRange, IsRandomInRange, IsSourceInRange}
+use Rattle.group_laws.specs.Ranges.{AreThirtyTwo, IsAddressInRange}
 use Rattle.consensus_terms.specs.Flavours.{facts_in}
 use Rattle.consensus_terms.specs.Signed.{in_order, signed, signed_part}
 use Rattle.consensus_terms.specs.Texts.{facts_text, unsigned}

@@ -10,7 +10,7 @@ use Rattle.frame_terms.specs.declared.keyword.Keyword.{Keyword}
 use Rattle.frame_terms.specs.declared.keyword.Keyword.TheVariants as the
 use Rattle.frame_values.specs.Items.{bare, item_if, timed}
 use Rattle.group_laws.specs.Lists.{some_list}
-use Rattle.random_lines.specs.Values.{random_text}
+use Rattle.value_groups.specs.Values.{random_text}
 use Rattle.list_values.specs.Params.{params_text}
 use Rattle.list_values.specs.Protocols.{protocols_text}
 use Rattle.list_values.specs.VersionLists.{versions_text}

@@ -1,2 +1,9 @@
+pub mod Spelling
+pub mod Capping
+pub mod Listing
+pub mod Members
+pub mod Methods
+pub mod HexDigests
+pub mod SaidDigests
 pub mod Items
 pub mod Again

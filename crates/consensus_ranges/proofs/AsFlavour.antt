@@ -31,7 +31,7 @@ use Rattle.consensus_frame.specs.declared.value.ConsensusValue.TheVariants as ow
 use Rattle.consensus_doc.specs.Drafts.{algorithm_name, all_signatures, router_of, signature_of, signatures_in}
 use Rattle.consensus_doc.specs.Saying.{micro_digest_in, relay_in}
 use Rattle.consensus_laws.specs.Again.{facts_as_read, is_known, known_signatures, router_as_read}
-use Rattle.table_laws.specs.Counts.{RowsStand}
+use Rattle.document_laws.specs.Counts.{RowsStand}
 use Rattle.row_laws.proofs.KindRanges.{KindIs, field_is, kind_read, once_there}
 use Rattle.row_laws.proofs.ReadSteps.{any_reads}
 use Rattle.row_laws.proofs.Saying.{EachStands}

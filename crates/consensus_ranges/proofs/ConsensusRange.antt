@@ -12,7 +12,7 @@ use Rattle.frame_terms.specs.declared.document.Taken.{Taken}
 use Rattle.frame_terms.specs.declared.fault.ReadRefusal.{ReadRefusal}
 use Rattle.frame_values.specs.declared.values.Value.{Value}
 use Rattle.list_values.proofs.Maps.{Ascend-nil}
-use Rattle.list_laws.specs.Ranges.{IsParamInRange, IsProtocolInRange}
+use Rattle.value_laws.specs.Ranges.{IsParamInRange, IsProtocolInRange}
 use Rattle.consensus_terms.specs.Routers.{is_listed}
 use Rattle.consensus_terms.specs.declared.consensus.ConsensusFacts.{ConsensusFacts}
 use Rattle.consensus_terms.specs.declared.consensus.SignedConsensus.{SignedConsensus}
@@ -31,7 +31,7 @@ use Rattle.consensus_laws.specs.Again.{AreFactsInRange, Ascending, IsAuthorityIn
 use Rattle.consensus_laws.specs.Again.{IsSignatureInRange, facts_as_read, known_signatures}
 use Rattle.consensus_laws.proofs.ConsensusAgain.{same_again}
 use Rattle.consensus_laws.proofs.ConsensusKept.{ConsensusGroup, drafts_same}
-use Rattle.table_laws.specs.Counts.{RowsStand}
+use Rattle.document_laws.specs.Counts.{RowsStand}
 use Rattle.row_laws.proofs.KindRanges.{read_is}
 use Rattle.row_laws.proofs.Saying.{EachStands}
 use Rattle.range_laws.proofs.ReadNames.{IsName}

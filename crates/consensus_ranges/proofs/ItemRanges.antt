@@ -11,9 +11,9 @@ use Rattle.frame_values.specs.declared.found.Span.{Span}
 use Rattle.frame_values.specs.declared.found.VoteSignature.{VoteSignature}
 use Rattle.frame_values.specs.declared.values.Value.{Value}
 use Rattle.frame_values.specs.declared.values.Value.TheVariants as value
-use Rattle.random_lines.specs.Lines.{random_of}
-use Rattle.random_lines.specs.declared.value.SharedRandom.{SharedRandom}
-use Rattle.line_laws.specs.Again.{IsRandomInRange}
+use Rattle.value_groups.specs.Lines.{random_of}
+use Rattle.value_groups.specs.declared.value.SharedRandom.{SharedRandom}
+use Rattle.group_laws.specs.LineAgain.{IsRandomInRange}
 use Rattle.relay_entries.specs.Lines.{address_of, lifted}
 use Rattle.relay_entries.specs.declared.said.EntryKind.TheVariants as entry
 use Rattle.relay_entries.specs.declared.said.EntryValue.{EntryValue}

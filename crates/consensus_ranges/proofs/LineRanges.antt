@@ -27,7 +27,7 @@ use Rattle.frame_values.specs.declared.found.VoteSignature.{VoteSignature}
 use Rattle.relay_entries.specs.Fields.{identity, with_argument}
 use Rattle.relay_entries.specs.declared.said.Bandwidths.{Bandwidths}
 use Rattle.relay_entries.specs.declared.said.RelayLine.{RelayLine}
-use Rattle.entry_laws.specs.Ranges.{AreBandwidthsInRange, AreThirtyTwo}
+use Rattle.group_laws.specs.Ranges.{AreBandwidthsInRange, AreThirtyTwo}
 use Rattle.consensus_terms.specs.declared.flavour.Flavour.{Flavour}
 use Rattle.consensus_terms.specs.declared.flavour.Flavour.TheVariants.{Ns, Microdesc}
 use Rattle.consensus_terms.specs.declared.router.Bandwidth.{Bandwidth}

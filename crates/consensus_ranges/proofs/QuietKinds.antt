@@ -8,8 +8,8 @@ use Rattle.frame_values.specs.Lines.{delays_of, flags_of, literal, rest_of, sour
 use Rattle.frame_values.specs.declared.found.VoteSignature.{VoteSignature}
 use Rattle.frame_values.specs.declared.values.Value.{Value}
 use Rattle.frame_values.specs.declared.values.Value.TheVariants as value
-use Rattle.list_lines.specs.Lines.{params_of, protocols_of, versions_of}
-use Rattle.random_lines.specs.Lines.{random_of}
+use Rattle.value_groups.specs.ListLines.{params_of, protocols_of, versions_of}
+use Rattle.value_groups.specs.Lines.{random_of}
 use Rattle.relay_entries.specs.Lines.{address_of, bandwidths_of, ed_of, entry_value, lifted, micro_of}
 use Rattle.relay_entries.specs.declared.said.EntryKind.{EntryKind}
 use Rattle.relay_entries.specs.declared.said.EntryKind.TheVariants as entry

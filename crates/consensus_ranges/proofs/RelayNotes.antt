@@ -37,9 +37,9 @@ use Rattle.consensus_frame.specs.declared.rows.ConsensusSection.TheVariants as s
 use Rattle.consensus_frame.specs.declared.value.ConsensusValue.{ConsensusValue}
 use Rattle.consensus_frame.specs.declared.value.ConsensusValue.TheVariants as own
 use Rattle.consensus_doc.specs.Saying.{relay_in, relay_of_value}
-use Rattle.table_laws.specs.Items.{IsItemOf}
-use Rattle.table_laws.proofs.Openers.{row_of-one, row_of-same}
-use Rattle.table_laws.proofs.Times.{row_fails}
+use Rattle.document_laws.specs.Items.{IsItemOf}
+use Rattle.document_laws.proofs.Openers.{row_of-one, row_of-same}
+use Rattle.document_laws.proofs.Times.{row_fails}
 use Rattle.row_laws.proofs.Saying.{by_own_row}
 use Rattle.consensus_ranges.proofs.QuietKinds.{is_relay, may_relay, no_relay}
 

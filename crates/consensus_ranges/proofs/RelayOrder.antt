@@ -39,8 +39,8 @@ use Rattle.consensus_doc.specs.Keeping.{Kept}
 use Rattle.consensus_doc.specs.Saying.{relay_in}
 use Rattle.consensus_laws.specs.Again.{Ascending}
 use Rattle.consensus_laws.proofs.ConsensusKept.{ConsensusGroup, keeps}
-use Rattle.table_laws.proofs.Rules.{Rules, holds}
-use Rattle.table_laws.proofs.Ways.{IsAccepted}
+use Rattle.document_laws.proofs.Rules.{Rules, holds}
+use Rattle.document_laws.proofs.Ways.{IsAccepted}
 use Rattle.consensus_ranges.proofs.SectionRanges.{none_ascend, nothing_inside}
 use Rattle.consensus_ranges.proofs.RelayNotes.{ConsensusTaken, first_noted, last_of, other_noted, own_row}
 use Rattle.consensus_ranges.proofs.RelayNotes.{plain_noted, who}

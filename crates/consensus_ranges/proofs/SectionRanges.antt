@@ -25,8 +25,8 @@ use Rattle.frame_values.specs.Ranges.{AreTwenty}
 use Rattle.frame_values.specs.Values.{item_at, text_if, text_in}
 use Rattle.frame_values.specs.declared.values.Value.{Value}
 use Rattle.frame_values.specs.declared.values.Value.TheVariants as value
-use Rattle.line_laws.specs.Again.{AreFlagsInRange, IsRandomInRange}
-use Rattle.entry_laws.specs.Ranges.{IsAddressInRange}
+use Rattle.group_laws.specs.LineAgain.{AreFlagsInRange, IsRandomInRange}
+use Rattle.group_laws.specs.Ranges.{IsAddressInRange}
 use Rattle.consensus_terms.specs.declared.flavour.Flavour.{Flavour}
 use Rattle.consensus_terms.specs.declared.flavour.Flavour.TheVariants.{Ns, Microdesc}
 use Rattle.consensus_terms.specs.declared.router.Bandwidth.{Bandwidth}
@@ -43,7 +43,7 @@ use Rattle.consensus_doc.specs.Saying.{bandwidth_in, delays_in, micro_digest_in,
 use Rattle.consensus_doc.specs.Saying.{vote_digest_in}
 use Rattle.consensus_laws.specs.Again.{AreFactsInRange, AreListsInRange, Ascending, IsAuthorityInRange, IsMicroInRange}
 use Rattle.consensus_laws.specs.Again.{IsRouterInRange, IsSignatureInRange}
-use Rattle.table_laws.specs.Counts.{RowsStand}
+use Rattle.document_laws.specs.Counts.{RowsStand}
 use Rattle.row_laws.proofs.KindRanges.{IsNotInside, field_is, once_there}
 use Rattle.row_laws.proofs.ReadBytes.{twenty_zeros}
 use Rattle.row_laws.proofs.Saying.{EachStands}

@@ -6,8 +6,8 @@ use Rattle.dir_bytes.specs.FieldTexts.{moment_text, hex_text, address_text}
 use Rattle.list_values.specs.Params.{params_text}
 use Rattle.list_values.specs.Protocols.{protocols_text}
 use Rattle.list_values.specs.VersionLists.{versions_text}
-use Rattle.random_lines.specs.Values.{padded_text}
-use Rattle.random_lines.specs.declared.value.SharedRandom.{SharedRandom}
+use Rattle.value_groups.specs.Values.{padded_text}
+use Rattle.value_groups.specs.declared.value.SharedRandom.{SharedRandom}
 use Rattle.consensus_terms.specs.declared.consensus.Consensus.{Consensus}
 use Rattle.consensus_terms.specs.declared.consensus.ConsensusFacts.{ConsensusFacts}
 use Rattle.consensus_terms.specs.declared.consensus.ConsensusLists.{ConsensusLists}

@@ -6,7 +6,7 @@ use bw_weights::Weights;
 use dir_bytes::{Seq, Text};
 use dir_values::{Digest1, Fingerprint, FlagSet};
 use list_values::{Params, ProtoRanges, VersionList};
-use random_lines::SharedRandom;
+use value_groups::SharedRandom;
 
 /// What the lines of a consensus's preamble say that are lists of values. An empty list has no line.
 #[derive(Debug, Drop)]

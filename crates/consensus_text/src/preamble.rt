@@ -12,8 +12,8 @@ use crate::words::{
     put_two_numbers_line, put_word, put_word_line,
 };
 use consensus_terms::{ConsensusFacts, ConsensusLists, Flavour};
-use random_lines::SharedRandom;
 use text_page::Page;
+use value_groups::SharedRandom;
 
 /// Puts the version of the document, and its flavour.
 #[tactic(auto, using(text_page::proofs::Pages::pages))]

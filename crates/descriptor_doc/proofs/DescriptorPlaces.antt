@@ -15,7 +15,7 @@ use Rattle.frame_values.specs.Arguments.{Argument, arguments_of, front, others}
 use Rattle.frame_values.specs.Fields.{span_if}
 use Rattle.frame_values.specs.Lines.{time_of}
 use Rattle.frame_values.specs.Signatures.{has_words, object_of}
-use Rattle.policy_items.specs.Policies.{item_of}
+use Rattle.exit_summary.specs.PolicyItems.{item_of}
 use Rattle.descriptor_frame.specs.Fields.{group_of, groups_of, hibernating, is_address, key, long_number, padded_key}
 use Rattle.descriptor_frame.specs.Fields.{signature}
 use Rattle.descriptor_frame.specs.Lines.{address_of, bandwidth_of, certificate_lines, first_of, identity_of, is_certificate}

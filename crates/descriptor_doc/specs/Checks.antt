@@ -5,7 +5,7 @@ use Rattle.std.specs.declared.option.Option.TheVariants.{Some, None}
 use Rattle.std.specs.Str.{bytes_eq}
 use Rattle.dir_values.specs.Digests.{same_identity}
 use Rattle.dir_values.specs.declared.digest.Fingerprint.{Fingerprint}
-use Rattle.ed_certs.specs.declared.certificate.EdCert.{EdCert}
+use Rattle.descriptor_frame.specs.declared.certificate.EdCert.{EdCert}
 use Rattle.key_port.specs.Answers.{Relation, Rules, Steps}
 use Rattle.key_port.specs.declared.verifier.KeyKind.TheVariants as kind
 use Rattle.key_port.specs.declared.verifier.VerifyAnswer.{VerifyAnswer}

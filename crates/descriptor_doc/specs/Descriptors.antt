@@ -9,8 +9,8 @@ use Rattle.sha2.specs.Sha256.{sha256}
 use Rattle.item_terms.specs.Bytes.{space}
 use Rattle.item_terms.specs.Words.{words_of}
 use Rattle.dir_values.specs.Ports.{Ports, port_summary}
-use Rattle.ed_certs.specs.Certificates.{certificate_of}
-use Rattle.ed_certs.specs.declared.certificate.EdCert.{EdCert}
+use Rattle.descriptor_frame.specs.Certificates.{certificate_of}
+use Rattle.descriptor_frame.specs.declared.certificate.EdCert.{EdCert}
 use Rattle.frame_values.specs.Parts.{part, bytes_in, moment_of}
 use Rattle.frame_values.specs.declared.found.Span.{Span}
 use Rattle.descriptor_frame.specs.declared.said.RouterLine.{RouterLine}

@@ -9,8 +9,8 @@ ghost use Rattle.descriptor_doc.specs.Reading.{IsRead};
 
 use crate::checked::CheckedDescriptor;
 use crate::descriptor::{Descriptor, EdSignature};
+use descriptor_frame::EdCert;
 use dir_values::Fingerprint;
-use ed_certs::EdCert;
 use key_port::{KeyKind, Verifier, VerifyAnswer};
 
 /// Why a descriptor does not hold; of several the first.

@@ -1,10 +1,9 @@
 // What a server descriptor says.
 use bytes::Bytes;
-use descriptor_frame::BandwidthLine;
+use descriptor_frame::{BandwidthLine, EdCert};
 use dir_bytes::{Seq, Text};
 use dir_values::{Digest1, Digest2, Fingerprint, PortSummary};
-use ed_certs::EdCert;
-use policy_items::Policy;
+use exit_summary::Policy;
 
 /// Who a relay is and where it is reached, as its `router` line says.
 #[derive(Debug, Drop)]

@@ -6,10 +6,10 @@ use crate::head::{Head, head_of};
 use crate::says::{push_addresses, push_policy};
 use descriptor_frame::{DescriptorFrame, DescriptorValue};
 use dir_bytes::Seq;
+use exit_summary::Policy;
 use frame_reader::Facts;
 use frame_terms::Taken;
 use frame_values::{Span, Value};
-use policy_items::Policy;
 use std::alloc::{AllocError, Global};
 
 /// What is kept of a descriptor.

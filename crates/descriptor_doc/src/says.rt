@@ -7,9 +7,9 @@ ghost use Rattle.descriptor_doc.specs.Saying as saying;
 use descriptor_frame::{BandwidthLine, DescriptorValue, RouterLine};
 use dir_bytes::Seq;
 use dir_values::{Fingerprint, PolicyItem};
+use exit_summary::{Policy, has_net_bits};
 use frame_terms::{Keyword, Taken};
 use frame_values::{Span, Value, item_at, nowhere, own_at, value_at};
-use policy_items::{Policy, has_net_bits};
 use std::alloc::AllocError;
 
 /// A relay of which nothing is known.

@@ -5,7 +5,7 @@ use Rattle.std.specs.Str.{bytes_eq}
 use Rattle.dir_bytes.specs.Fields.{base64, hex, number}
 use Rattle.dir_values.specs.Numbers.{port_of}
 use Rattle.frame_values.specs.Arguments.{Argument, front, others, field, next}
-use Rattle.policy_items.specs.Policies.{colon, has_last, after_last}
+use Rattle.exit_summary.specs.PolicyItems.{colon, has_last, after_last}
 
 -- a number below 2 ^ 64
 abbrev pub long_number : List ℕ → Option ℕ

@@ -1,3 +1,5 @@
+pub mod Families
+pub mod Certificates
 pub mod Fields
 pub mod Lines
 pub mod Tables

@@ -12,7 +12,7 @@ use Rattle.dir_values.specs.declared.policy.PolicyItem.{PolicyItem}
 use Rattle.dir_values.specs.declared.refusal.ValueRefusal.{ValueRefusal}
 use Rattle.dir_values.specs.declared.refusal.ValueRefusal.TheVariants.{BadValue, Memory}
 use Rattle.dirdoc_grammar.specs.Bodies.{decoded}
-use Rattle.ed_certs.specs.Certificates.{certificate_of}
+use Rattle.descriptor_frame.specs.Certificates.{certificate_of}
 use Rattle.frame_values.specs.declared.found.Span.{Span}
 use Rattle.frame_values.specs.declared.values.Value.{Value}
 use Rattle.frame_values.specs.declared.values.Value.TheVariants as value
@@ -20,7 +20,7 @@ use Rattle.frame_values.specs.Arguments.{arguments_of, front, others, field, nex
 use Rattle.frame_values.specs.Fields.{span_if}
 use Rattle.frame_values.specs.Lines.{rest_of, time_of}
 use Rattle.frame_values.specs.Signatures.{has_words, object_of}
-use Rattle.policy_items.specs.Policies.{item_of}
+use Rattle.exit_summary.specs.PolicyItems.{item_of}
 use Rattle.descriptor_frame.specs.Fields.{long_number, hibernating, key, padded_key, signature, is_address, groups_of}
 use Rattle.descriptor_frame.specs.declared.said.BandwidthLine.{BandwidthLine}
 use Rattle.descriptor_frame.specs.declared.said.DescriptorKind.{DescriptorKind}

@@ -7,8 +7,8 @@ ghost use Rattle.descriptor_frame.specs.Fields as fields;
 
 use dir_bytes::{read_base64, read_hex, read_u64};
 use dir_values::{Argument, Arguments, port_of};
+use exit_summary::{after_last, has_last};
 use frame_values::{Span, field, span, take_argument};
-use policy_items::{after_last, has_last};
 
 /// A number below 2 ^ 64.
 pub(crate) fn long_number(text: &[u8]) -> Option<u64>

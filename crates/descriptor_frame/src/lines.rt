@@ -5,19 +5,19 @@ ghost use Rattle.frame_reader.specs.Giving.{Gives};
 ghost use Rattle.frame_values.specs.Faults as faults;
 ghost use Rattle.descriptor_frame.specs.Fields as fields;
 ghost use Rattle.descriptor_frame.specs.Lines as lines;
-ghost use Rattle.policy_items.specs.Policies as policies;
+ghost use Rattle.exit_summary.specs.PolicyItems as policies;
 
+use crate::certificate::is_certificate;
 use crate::fields::{address, groups_of, hibernating, key, long_number, padded_key, signature};
 use crate::said::{BandwidthLine, RouterLine};
 use dir_values::{Fingerprint, PolicyItem, PortSummary, ValueRefusal, port_of};
 use dirdoc_grammar::Item;
-use ed_certs::is_certificate;
+use exit_summary::item_of;
 use frame_reader::given;
 use frame_terms::ReadRefusal;
 use frame_values::{
     Span, arguments_of, at_place, field, has_words, ip, nickname, object_of, rest_of, take_argument,
 };
-use policy_items::item_of;
 use std::alloc::{AllocError, Global};
 
 /// A relay.

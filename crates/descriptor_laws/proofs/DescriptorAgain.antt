@@ -8,7 +8,7 @@ use Rattle.item_terms.specs.Items.{Contents, contents, nothing}
 use Rattle.item_terms.specs.Lines.{Line, lines, onto, size}
 use Rattle.item_terms.specs.Words.{begins_dash, is_blank, is_blank_line}
 use Rattle.blank_lines.specs.Blanks.{first_other}
-use Rattle.dirdoc_laws.proofs.ItemsAgain.{items_again}
+use Rattle.grammar_laws.proofs.ItemsAgain.{items_again}
 use Rattle.dirdoc_grammar.specs.Writing.{AreWritable, NewItem, all_written, in_front, is_open, items_text}
 use Rattle.frame_terms.specs.Documents.{Document, document_of, finish}
 use Rattle.frame_terms.specs.declared.fault.ReadRefusal.{ReadRefusal}

@@ -5,7 +5,7 @@ use Rattle.dir_bytes.specs.FieldTexts.{base64_text}
 use Rattle.dir_values.specs.Ports.{Ports, summary_text}
 use Rattle.dir_values.specs.declared.digest.Fingerprint.{Fingerprint as Identity}
 use Rattle.dir_values.specs.declared.policy.PolicyItem.{PolicyItem}
-use Rattle.ed_certs.specs.declared.certificate.EdCert.{EdCert}
+use Rattle.descriptor_frame.specs.declared.certificate.EdCert.{EdCert}
 use Rattle.frame_terms.specs.Rows.{row}
 use Rattle.frame_terms.specs.declared.keyword.Keyword.{Keyword}
 use Rattle.frame_terms.specs.declared.keyword.Keyword.TheVariants as the
@@ -17,7 +17,7 @@ use Rattle.frame_laws.proofs.Entries.{Entry}
 use Rattle.frame_laws.proofs.RowValues.{moment_entry, object_entry, own_entry, row_each, row_if, silent_entry}
 use Rattle.frame_laws.proofs.RowValues.{text_entry}
 use Rattle.frame_laws.proofs.SaidRows.{RowSays, row_once}
-use Rattle.policy_items.specs.Texts.{item_text}
+use Rattle.exit_summary.specs.Texts.{item_text}
 use Rattle.descriptor_frame.specs.declared.said.BandwidthLine.{BandwidthLine}
 use Rattle.descriptor_frame.specs.declared.said.DescriptorKind.{DescriptorKind}
 use Rattle.descriptor_frame.specs.declared.said.DescriptorKind.TheVariants as kind

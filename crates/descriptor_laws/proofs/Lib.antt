@@ -13,3 +13,15 @@ pub mod ValuesSaid
 pub mod DescriptorSays
 pub mod DescriptorKept
 pub mod DescriptorAgain
+pub mod Signers
+pub mod DescriptorReads
+pub mod DescriptorInRange
+pub mod PoliciesRead
+pub mod PortsRead
+pub mod KeysRead
+pub mod ItemsSay
+pub mod DescriptorValues
+pub mod MicroKinds
+pub mod MicroFields
+pub mod MicroAgain
+pub mod MicroRange

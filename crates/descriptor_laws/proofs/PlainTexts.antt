@@ -16,8 +16,8 @@ use Rattle.dir_bytes.specs.FieldTexts.{address_text}
 use Rattle.dir_bytes.proofs.ReadAgain.{decimal_digits}
 use Rattle.frame_laws.proofs.WordTexts.{at_index}
 use Rattle.dirdoc_grammar.specs.Writers.{is_argument_byte}
-use Rattle.policy_items.specs.Policies.{after_len, after_last, before_last, has_last, is_hyphen}
-use Rattle.policy_items.specs.Policies.{slash, colon}
+use Rattle.exit_summary.specs.PolicyItems.{after_len, after_last, before_last, has_last, is_hyphen}
+use Rattle.exit_summary.specs.PolicyItems.{slash, colon}
 
 -- ---- bytes
 

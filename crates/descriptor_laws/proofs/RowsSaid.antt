@@ -10,9 +10,9 @@ use Rattle.dir_values.specs.declared.policy.PolicyItem.{PolicyItem}
 use Rattle.dir_values.specs.declared.refusal.ValueRefusal.{ValueRefusal}
 use Rattle.dir_values.proofs.PortsAgain.{ports_again}
 use Rattle.dirdoc_grammar.specs.Writing.{written}
-use Rattle.dirdoc_laws.proofs.WrittenBytes.{decoded-body_text}
-use Rattle.ed_certs.specs.Certificates.{certificate_of}
-use Rattle.ed_certs.specs.declared.certificate.EdCert.{EdCert}
+use Rattle.grammar_laws.proofs.WrittenBytes.{decoded-body_text}
+use Rattle.descriptor_frame.specs.Certificates.{certificate_of}
+use Rattle.descriptor_frame.specs.declared.certificate.EdCert.{EdCert}
 use Rattle.item_terms.specs.Items.{Item}
 use Rattle.frame_terms.specs.Rows.{is_one, row}
 use Rattle.frame_terms.specs.declared.keyword.Keyword.{Keyword}

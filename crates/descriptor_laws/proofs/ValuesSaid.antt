@@ -15,8 +15,8 @@ use Rattle.dir_values.specs.declared.policy.PolicyItem.{PolicyItem}
 use Rattle.dir_values.specs.declared.refusal.ValueRefusal.{ValueRefusal}
 use Rattle.dir_values.proofs.PortsAgain.{ports_again}
 use Rattle.dirdoc_grammar.specs.Writers.{is_argument}
-use Rattle.ed_certs.specs.Certificates.{certificate_of}
-use Rattle.ed_certs.specs.declared.certificate.EdCert.{EdCert}
+use Rattle.descriptor_frame.specs.Certificates.{certificate_of}
+use Rattle.descriptor_frame.specs.declared.certificate.EdCert.{EdCert}
 use Rattle.exit_summary.specs.Policies.{is_net}
 use Rattle.frame_terms.specs.Keywords.{same}
 use Rattle.frame_terms.specs.Rows.{row}

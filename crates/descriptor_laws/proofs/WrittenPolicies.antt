@@ -15,10 +15,10 @@ use Rattle.dir_values.specs.declared.policy.PolicyItem.{PolicyItem}
 use Rattle.frame_laws.proofs.WordTexts.{Dark, both_dark, is_word, length-word, weaker}
 use Rattle.frame_laws.proofs.Words.{IsWord, word_of_address}
 use Rattle.dirdoc_grammar.specs.Writers.{is_argument_byte}
-use Rattle.policy_items.specs.Policies.{after_last, before_last, has_last, item_of, item_with, net_of}
-use Rattle.policy_items.specs.Policies.{at_most, bits_of, bits_up_to, first_of, net_of_parts, ones_of}
-use Rattle.policy_items.specs.Policies.{net_with, ports_of, slash, colon, is_bracketed}
-use Rattle.policy_items.specs.Texts.{item_text, net_text, ports_text, v4_text}
+use Rattle.exit_summary.specs.PolicyItems.{after_last, before_last, has_last, item_of, item_with, net_of}
+use Rattle.exit_summary.specs.PolicyItems.{at_most, bits_of, bits_up_to, first_of, net_of_parts, ones_of}
+use Rattle.exit_summary.specs.PolicyItems.{net_with, ports_of, slash, colon, is_bracketed}
+use Rattle.exit_summary.specs.Texts.{item_text, net_text, ports_text, v4_text}
 use Rattle.descriptor_laws.specs.Lines.{PolicyLinesAreReadAgain}
 use Rattle.descriptor_laws.specs.Ranges.{IsItemInRange, IsNetInRange}
 use Rattle.descriptor_laws.proofs.WrittenLines.{word_again}

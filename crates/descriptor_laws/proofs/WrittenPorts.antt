@@ -14,9 +14,9 @@ use Rattle.dir_values.specs.Numbers.{port_of}
 use Rattle.frame_laws.proofs.WordTexts.{Dark, both_dark, length-word, weaker}
 use Rattle.frame_laws.proofs.Words.{word_of_number}
 use Rattle.dirdoc_grammar.specs.Writers.{is_argument_byte}
-use Rattle.policy_items.specs.Policies.{is_hyphen}
-use Rattle.policy_items.specs.Policies.{ports_between, ports_of, colon}
-use Rattle.policy_items.specs.Texts.{ports_text}
+use Rattle.exit_summary.specs.PolicyItems.{is_hyphen}
+use Rattle.exit_summary.specs.PolicyItems.{ports_between, ports_of, colon}
+use Rattle.exit_summary.specs.Texts.{ports_text}
 use Rattle.descriptor_laws.proofs.WrittenLines.{port_again}
 use Rattle.descriptor_laws.proofs.PlainTexts.{Plain}
 use Rattle.descriptor_laws.proofs.PlainTexts.{decimal_plain, is_plain, lacks}

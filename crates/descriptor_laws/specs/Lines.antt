@@ -10,8 +10,8 @@ use Rattle.frame_terms.specs.declared.keyword.Keyword.{Keyword}
 use Rattle.frame_values.specs.Fields.{span}
 use Rattle.frame_values.specs.Items.{bare}
 use Rattle.frame_values.specs.Ranges.{AreTwenty}
-use Rattle.policy_items.specs.Policies.{item_of}
-use Rattle.policy_items.specs.Texts.{item_text}
+use Rattle.exit_summary.specs.PolicyItems.{item_of}
+use Rattle.exit_summary.specs.Texts.{item_text}
 use Rattle.descriptor_frame.specs.Fields.{hibernating, key, long_number, padded_key, signature}
 use Rattle.descriptor_frame.specs.Lines.{bandwidth_of, first_of, identity_of, router_of}
 use Rattle.descriptor_frame.specs.declared.said.BandwidthLine.{BandwidthLine}

@@ -9,8 +9,8 @@ use Rattle.dir_values.specs.declared.policy.Net.TheVariants as net
 use Rattle.dir_values.specs.declared.policy.PolicyItem.{PolicyItem}
 use Rattle.dirdoc_grammar.specs.Writers.{is_argument}
 use Rattle.dirdoc_grammar.specs.Writing.{AreWritable}
-use Rattle.ed_certs.specs.Certificates.{certificate_of}
-use Rattle.ed_certs.specs.declared.certificate.EdCert.{EdCert}
+use Rattle.descriptor_frame.specs.Certificates.{certificate_of}
+use Rattle.descriptor_frame.specs.declared.certificate.EdCert.{EdCert}
 use Rattle.frame_values.specs.Ranges.{AreTwenty}
 use Rattle.descriptor_frame.specs.Fields.{is_address}
 use Rattle.descriptor_frame.specs.declared.said.BandwidthLine.{BandwidthLine}

@@ -16,12 +16,12 @@ use Rattle.frame_values.specs.Signatures.{has_words, object_if}
 use Rattle.frame_values.specs.Values.{item_at}
 use Rattle.frame_values.specs.declared.values.Value.TheVariants as value
 use Rattle.frame_laws.proofs.KnownWords.{same-sym, same-through}
-use Rattle.table_laws.proofs.Openers.{row_of-one, row_of-same}
+use Rattle.document_laws.proofs.Openers.{row_of-one, row_of-same}
 use Rattle.descriptor_frame.specs.Lines.{value_at}
 use Rattle.descriptor_frame.specs.Tables.{descriptor_tables, rows}
 use Rattle.descriptor_frame.specs.declared.said.DescriptorKind.{DescriptorKind}
 use Rattle.descriptor_frame.specs.declared.said.DescriptorKind.TheVariants as kind
-use Rattle.part_laws.specs.Parts.{EndWithObjects}
+use Rattle.grammar_laws.specs.Parts.{EndWithObjects}
 use Rattle.descriptor_parts.proofs.OneSection.{AreInside}
 use Rattle.descriptor_parts.proofs.DescriptorDocument.{AreItems, DescriptorTaken, Said, last_keyword}
 

@@ -1,3 +1,5 @@
+pub mod ClearKinds
+pub mod NoDocKinds
 pub mod OneSection
 pub mod DescriptorDocument
 pub mod LastItem

@@ -11,16 +11,16 @@ use Rattle.frame_terms.specs.Documents.{Document, document_of, group}
 use Rattle.frame_terms.specs.Keywords.{same}
 use Rattle.frame_terms.specs.Order.{opener}
 use Rattle.frame_values.specs.declared.values.Value.{Value}
-use Rattle.table_laws.specs.Counts.{RowsStand}
-use Rattle.table_laws.specs.Items.{IsItemOf}
-use Rattle.table_laws.specs.Order as order
-use Rattle.table_laws.specs.Order.{AreInOrder, Part, sections_of}
-use Rattle.table_laws.specs.Passing.{EndsWith, IsPassedIn}
+use Rattle.document_laws.specs.Counts.{RowsStand}
+use Rattle.document_laws.specs.Items.{IsItemOf}
+use Rattle.document_laws.specs.Order as order
+use Rattle.document_laws.specs.Order.{AreInOrder, Part, sections_of}
+use Rattle.document_laws.specs.Passing.{EndsWith, IsPassedIn}
 use Rattle.descriptor_frame.specs.Tables.{descriptor_tables}
 use Rattle.document_laws.specs.Documents.{AreParts, EndsSo}
 use Rattle.document_laws.specs.Parts.{AreBetween, AreOthers, IsPart}
 use Rattle.document_laws.proofs.Beginning.{opener_regarded}
-use Rattle.kind_laws.proofs.ClearKinds.{kinds_are_clear, kinds_are_exact}
+use Rattle.descriptor_parts.proofs.ClearKinds.{kinds_are_clear, kinds_are_exact}
 use Rattle.descriptor_frame.specs.declared.said.DescriptorValue.{DescriptorValue}
 
 abbrev V : Type 0

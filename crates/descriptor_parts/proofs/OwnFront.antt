@@ -6,11 +6,11 @@ use Rattle.std.specs.Prelude.{◌&&◌, unwrap_or, if◌then◌else◌}
 use Rattle.item_terms.specs.Items.{Item, items_of}
 use Rattle.item_terms.specs.Lines.{Line, lines, size}
 use Rattle.item_terms.specs.Words.{is_blank_line}
-use Rattle.dirdoc_laws.specs.Blocks.{AreBlankLines, AreLinesOfItem, AreLinesOfItems, sizes}
-use Rattle.dirdoc_laws.proofs.BlockFronts.{items_are_there}
-use Rattle.dirdoc_laws.proofs.BlockLines.{keyword_not_blank}
-use Rattle.part_laws.proofs.LinesTogether.{AllEnded, lines_both}
-use Rattle.part_laws.proofs.SoundLines.{has_end}
+use Rattle.grammar_laws.specs.Blocks.{AreBlankLines, AreLinesOfItem, AreLinesOfItems, sizes}
+use Rattle.grammar_laws.proofs.BlockFronts.{items_are_there}
+use Rattle.grammar_laws.proofs.BlockLines.{keyword_not_blank}
+use Rattle.grammar_laws.proofs.LinesTogether.{AllEnded, lines_both}
+use Rattle.grammar_laws.proofs.SoundLines.{has_end}
 use Rattle.blank_lines.specs.Blanks.{after_blanks, first_other, is_blank}
 use Rattle.descriptor_doc.specs.Reading.{front_of, max_descriptor}
 use Rattle.descriptor_doc.proofs.Fronts.{is_first}

@@ -6,13 +6,13 @@ use Rattle.std.specs.Prelude.{map, option_map}
 use Rattle.item_terms.specs.Items.{Contents, Item, Object, items_of, nothing}
 use Rattle.item_terms.specs.Lines.{Line, lines}
 use Rattle.frame_terms.specs.Documents.{document_of}
-use Rattle.part_laws.specs.Moved.{Reads, moved, moved_object, sizes}
-use Rattle.part_laws.proofs.LastLines.{cut_lines}
-use Rattle.part_laws.proofs.LinesTogether.{AllEnded, sizes_all}
-use Rattle.part_laws.proofs.MovedLines.{reads_moved}
-use Rattle.part_laws.proofs.OwnLines.{hold, lines_cut}
-use Rattle.part_laws.proofs.OwnPart.{own_part_same, within_text}
-use Rattle.part_laws.proofs.SoundLines.{ends_all, within_all}
+use Rattle.grammar_laws.specs.Moved.{Reads, moved, moved_object, sizes}
+use Rattle.grammar_laws.proofs.LastLines.{cut_lines}
+use Rattle.grammar_laws.proofs.LinesTogether.{AllEnded, sizes_all}
+use Rattle.grammar_laws.proofs.MovedLines.{reads_moved}
+use Rattle.grammar_laws.proofs.OwnLines.{hold, lines_cut}
+use Rattle.grammar_laws.proofs.OwnPart.{own_part_same, within_text}
+use Rattle.grammar_laws.proofs.SoundLines.{ends_all, within_all}
 use Rattle.descriptor_frame.specs.Tables.{descriptor_tables}
 use Rattle.descriptor_doc.specs.Reading.{max_descriptor}
 use Rattle.descriptor_parts.proofs.DescriptorDocument.{AreItems, DescriptorTaken, are_items, of_section}

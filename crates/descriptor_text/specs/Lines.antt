@@ -5,7 +5,7 @@ use Rattle.std.specs.List.{join_with_byte}
 use Rattle.item_terms.specs.Bytes.{space}
 use Rattle.dir_bytes.specs.FieldTexts.{address_text, base64_text, hex_text}
 use Rattle.dir_values.specs.declared.digest.Fingerprint.{Fingerprint}
-pub use Rattle.relay_family.specs.Families.{family_text}
+pub use Rattle.descriptor_frame.specs.Families.{family_text}
 use Rattle.descriptor_frame.specs.declared.said.BandwidthLine.{BandwidthLine}
 use Rattle.descriptor_doc.specs.declared.descriptor.EdSignature.{EdSignature}
 use Rattle.descriptor_doc.specs.declared.descriptor.Router.{Router}

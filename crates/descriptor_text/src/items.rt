@@ -11,12 +11,12 @@ ghost use Rattle.descriptor_text.specs.Texts as texts;
 
 use crate::lines::{hibernating_text, push_groups};
 use descriptor_doc::{EdCert, EdSignature};
+use descriptor_frame::push_names;
 use dir_bytes::{Memory, Seq, Text, push_base64, push_decimal};
 use dir_values::{Fingerprint, PolicyItem, PortSummary};
+use exit_summary::push_item;
 use frame_terms::Keyword;
 use frame_values::{push_bare, push_with_object};
-use policy_items::push_item;
-use relay_family::push_names;
 use std::alloc::Global;
 
 /// The item of an object, where there is one.

@@ -1,3 +1,4 @@
+pub mod BodyTurns
 pub mod KeptDetached
 pub mod Order
 pub mod Rests

@@ -10,12 +10,13 @@ ghost use Rattle.detached_doc.specs.Private as own;
 ghost use Rattle.detached_doc.specs.Texts as texts;
 
 use crate::detached::{AdditionalDigest, Detached, DetachedLine};
+use crate::hex_digits::put_hex_bytes;
+use crate::object::put_object;
 use crate::ordered::in_order;
 use consensus_terms::SignatureLine;
 use dir_bytes::Memory;
 use frame_terms::Keyword;
 use frame_values::moment;
-use object_page::{put_hex_bytes, put_object};
 use std::alloc::Global;
 use text_page::Page;
 

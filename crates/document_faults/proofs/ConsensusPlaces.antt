@@ -9,14 +9,14 @@ use Rattle.dir_values.specs.Numbers.{number_of}
 use Rattle.list_values.specs.Params.{wrong_param}
 use Rattle.list_values.specs.Protocols.{wrong_protocol}
 use Rattle.list_values.specs.VersionLists.{wrong_version_list}
-use Rattle.list_lines.specs.Lines.{params_of, protocols_of, versions_of}
+use Rattle.value_groups.specs.ListLines.{params_of, protocols_of, versions_of}
 use Rattle.frame_terms.specs.declared.fault.FrameFault.{FrameFault}
 use Rattle.frame_terms.specs.declared.fault.FrameReason.TheVariants as reason
 use Rattle.frame_values.specs.Arguments.{Argument, arguments_of, front}
 use Rattle.frame_values.specs.Lines.{delays_of, flags_of, literal, source_of, time_of}
 use Rattle.frame_values.specs.declared.values.Value.{Value}
 use Rattle.frame_values.specs.declared.values.Value.TheVariants as value
-use Rattle.random_lines.specs.Lines.{random_of}
+use Rattle.value_groups.specs.Lines.{random_of}
 use Rattle.relay_entries.specs.Lines.{entry_value, lifted}
 use Rattle.relay_entries.specs.Listing.{fault_at, is_next, note_entry, with_key, with_relay}
 use Rattle.relay_entries.specs.declared.listed.Listed.{Listed}
@@ -34,7 +34,7 @@ use Rattle.consensus_frame.specs.declared.value.ConsensusValue.TheVariants as ow
 use Rattle.fault_places.specs.Within.{FaultIn, FaultsStandIn, HasFaultsWithin}
 use Rattle.fault_places.proofs.FirstFaults.{first_faults}
 use Rattle.fault_places.proofs.ArgumentPlaces.{PlaceIn, flag_in, param_in, protocol_in, versions_in}
-use Rattle.fault_laws.proofs.EntryPlaces.{entry_in}
+use Rattle.vote_parts.proofs.EntryPlaces.{entry_in}
 use Rattle.fault_places.proofs.ItemPlaces.{IsItemIn, all_begin, delays_in, first_begins, item_in, literal_in, one_in}
 use Rattle.fault_places.proofs.ItemPlaces.{random_in, rest_in, source_in, then_in, time_in}
 use Rattle.document_faults.proofs.ConsensusLines.{bandwidth_in, relay_in, signature_in, version_in}

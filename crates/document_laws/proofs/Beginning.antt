@@ -14,14 +14,14 @@ use Rattle.frame_terms.specs.Keywords.{same}
 use Rattle.frame_terms.specs.Order.{following, opener}
 use Rattle.frame_terms.specs.Tables.{Tables}
 use Rattle.frame_laws.proofs.KnownWords.{same-sym}
-use Rattle.table_laws.specs.Counts.{RowsStand}
-use Rattle.table_laws.specs.Items.{IsItemOf}
-use Rattle.table_laws.specs.Order.{AreInOrder, MayStand, Part, items_of}
-use Rattle.table_laws.proofs.Lists.{IsAfter, following_is, in_order_skipped, opened_after}
-use Rattle.table_laws.proofs.Openers.{row_of-one, row_of-same}
-use Rattle.table_laws.proofs.Parts.{IsListed, names}
-use Rattle.table_laws.proofs.Rules.{behind}
-use Rattle.table_laws.proofs.Ways.{IsAgain, IsLater}
+use Rattle.document_laws.specs.Counts.{RowsStand}
+use Rattle.document_laws.specs.Items.{IsItemOf}
+use Rattle.document_laws.specs.Order.{AreInOrder, MayStand, Part, items_of}
+use Rattle.document_laws.proofs.Lists.{IsAfter, following_is, in_order_skipped, opened_after}
+use Rattle.document_laws.proofs.Openers.{row_of-one, row_of-same}
+use Rattle.document_laws.proofs.Parts.{IsListed, names}
+use Rattle.document_laws.proofs.Rules.{behind}
+use Rattle.document_laws.proofs.Ways.{IsAgain, IsLater}
 use Rattle.document_laws.specs.Clear.{AreClear}
 use Rattle.document_laws.specs.Parts.{AreOthers, Stands}
 use Rattle.document_laws.proofs.Following.{ComeBehind}

@@ -18,9 +18,9 @@ use Rattle.frame_terms.specs.Standing.{enters}
 use Rattle.frame_terms.specs.Tables.{Tables}
 use Rattle.frame_laws.proofs.Reading.{read_on}
 use Rattle.frame_laws.proofs.Steps.{opening}
-use Rattle.table_laws.specs.Counts.{RowsStand}
-use Rattle.table_laws.specs.Items.{IsItemOf}
-use Rattle.table_laws.proofs.Openers.{row_of-same}
+use Rattle.document_laws.specs.Counts.{RowsStand}
+use Rattle.document_laws.specs.Items.{IsItemOf}
+use Rattle.document_laws.proofs.Openers.{row_of-same}
 use Rattle.document_laws.specs.Clear.{AreClear}
 use Rattle.document_laws.specs.Parts.{AreBetween, IsOrdinary}
 use Rattle.document_laws.proofs.Places.{IsAt, IsNear, inner-one, never_beyond}

@@ -22,12 +22,12 @@ use Rattle.frame_terms.specs.Rows.{is_many, limit_number}
 use Rattle.frame_terms.specs.Sections.{stands}
 use Rattle.frame_terms.specs.Tables.{Tables}
 use Rattle.frame_laws.proofs.KnownWords.{same-sym, same-through}
-use Rattle.table_laws.specs.Counts.{RowsStand}
-use Rattle.table_laws.specs.Items.{IsItemOf}
-use Rattle.table_laws.specs.Order.{items_of, sections_of}
-use Rattle.table_laws.proofs.Openers.{row_of-one}
-use Rattle.table_laws.proofs.Rules.{behind}
-use Rattle.table_laws.proofs.Ways.{IsAccepted}
+use Rattle.document_laws.specs.Counts.{RowsStand}
+use Rattle.document_laws.specs.Items.{IsItemOf}
+use Rattle.document_laws.specs.Order.{items_of, sections_of}
+use Rattle.document_laws.proofs.Openers.{row_of-one}
+use Rattle.document_laws.proofs.Rules.{behind}
+use Rattle.document_laws.proofs.Ways.{IsAccepted}
 use Rattle.document_laws.specs.Clear.{AreClear}
 use Rattle.document_laws.specs.Parts.{AreOthers, EndsWithin, Stands}
 use Rattle.document_laws.proofs.Between.{word_begins}

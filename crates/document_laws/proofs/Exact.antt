@@ -15,13 +15,13 @@ use Rattle.frame_terms.specs.Order.{following, must_open, opener}
 use Rattle.frame_terms.specs.Sections.{lacking}
 use Rattle.frame_terms.specs.Tables.{Tables}
 use Rattle.frame_laws.proofs.KnownWords.{same-sym}
-use Rattle.table_laws.specs.Order.{AreInOrder}
-use Rattle.table_laws.proofs.Counting.{stand_as_often}
-use Rattle.table_laws.proofs.Makes.{neither}
-use Rattle.table_laws.proofs.Parts.{IsListed, names}
-use Rattle.table_laws.proofs.Placing.{IsNotEnded, not_ended_more, not_ended_opener, opens_listed}
-use Rattle.table_laws.proofs.Rules.{behind}
-use Rattle.table_laws.proofs.Ways.{IsBeginning, IsEnding, IsEntering, IsOpening}
+use Rattle.document_laws.specs.Order.{AreInOrder}
+use Rattle.document_laws.proofs.Counting.{stand_as_often}
+use Rattle.document_laws.proofs.Makes.{neither}
+use Rattle.document_laws.proofs.Parts.{IsListed, names}
+use Rattle.document_laws.proofs.Placing.{IsNotEnded, not_ended_more, not_ended_opener, opens_listed}
+use Rattle.document_laws.proofs.Rules.{behind}
+use Rattle.document_laws.proofs.Ways.{IsBeginning, IsEnding, IsEntering, IsOpening}
 use Rattle.document_laws.specs.Clear.{AreClear}
 use Rattle.document_laws.specs.Documents.{AreExact, DocumentsAreAll}
 use Rattle.document_laws.proofs.Beginning.{begins_all, may_more, opener_regarded, opens_tail}

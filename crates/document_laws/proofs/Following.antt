@@ -6,9 +6,9 @@ use Rattle.frame_terms.specs.declared.section.Again.{Again}
 use Rattle.frame_terms.specs.declared.section.Again.TheVariants as again
 use Rattle.frame_terms.specs.Order.{following, must_open, opener, repeats}
 use Rattle.frame_terms.specs.Tables.{Tables}
-use Rattle.table_laws.specs.Order.{AreInOrder, MayStand}
-use Rattle.table_laws.proofs.Lists.{IsAfter}
-use Rattle.table_laws.proofs.Parts.{IsListed}
+use Rattle.document_laws.specs.Order.{AreInOrder, MayStand}
+use Rattle.document_laws.proofs.Lists.{IsAfter}
+use Rattle.document_laws.proofs.Parts.{IsListed}
 use Rattle.document_laws.specs.Clear.{AreClear}
 use Rattle.document_laws.proofs.Places.{follows}
 

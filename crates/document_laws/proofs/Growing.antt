@@ -10,11 +10,11 @@ use Rattle.frame_terms.specs.declared.keyword.Keyword.{Keyword}
 use Rattle.frame_terms.specs.Documents.{Document, group}
 use Rattle.frame_terms.specs.Order.{following, is_keyword}
 use Rattle.frame_terms.specs.Tables.{Tables}
-use Rattle.table_laws.specs.Counts.{RowsStand}
-use Rattle.table_laws.specs.Order.{AreInOrder, Part, items_of, sections_of}
-use Rattle.table_laws.specs.Passing.{IsPassedIn}
-use Rattle.table_laws.proofs.Parts.{names}
-use Rattle.table_laws.proofs.Rules.{alone}
+use Rattle.document_laws.specs.Counts.{RowsStand}
+use Rattle.document_laws.specs.Order.{AreInOrder, Part, items_of, sections_of}
+use Rattle.document_laws.specs.Passing.{IsPassedIn}
+use Rattle.document_laws.proofs.Parts.{names}
+use Rattle.document_laws.proofs.Rules.{alone}
 use Rattle.document_laws.specs.Documents.{AreParts, EndsAt}
 use Rattle.document_laws.specs.Parts.{EndsWithin, HasLast, IsOrdinary, Stands}
 use Rattle.document_laws.proofs.Following.{ComeBehind}

@@ -18,8 +18,8 @@ use Rattle.frame_terms.specs.Standing.{enters}
 use Rattle.frame_terms.specs.Tables.{Tables}
 use Rattle.frame_laws.proofs.Reading.{read_on}
 use Rattle.frame_laws.proofs.Steps.{opening}
-use Rattle.table_laws.specs.Counts.{RowsStand}
-use Rattle.table_laws.proofs.Parts.{IsListed}
+use Rattle.document_laws.specs.Counts.{RowsStand}
+use Rattle.document_laws.proofs.Parts.{IsListed}
 use Rattle.document_laws.specs.Clear.{AreClear}
 use Rattle.document_laws.specs.Parts.{AreOthers, EndsWithin, HasLast, HaveInside, IsInside, Stands}
 use Rattle.document_laws.proofs.Between.{between_read, word_begins}

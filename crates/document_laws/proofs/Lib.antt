@@ -1,3 +1,17 @@
+pub mod Settling
+pub mod Refusing
+pub mod Opening
+pub mod Ways
+pub mod Openers
+pub mod Makes
+pub mod Rules
+pub mod Taking
+pub mod Times
+pub mod Counting
+pub mod Lists
+pub mod Parts
+pub mod Placing
+pub mod Ordering
 pub mod Tested
 pub mod Rows
 pub mod Places

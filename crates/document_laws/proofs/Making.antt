@@ -25,9 +25,9 @@ use Rattle.frame_terms.specs.Standing.{in_section, unless}
 use Rattle.frame_terms.specs.Tables.{Tables}
 use Rattle.frame_laws.proofs.KnownWords.{same-sym}
 use Rattle.frame_laws.proofs.Steps.{opening}
-use Rattle.table_laws.proofs.Makes.{Makes, makes_later}
-use Rattle.table_laws.proofs.Openers.{row_of-same}
-use Rattle.table_laws.proofs.Ways.{LaterMay}
+use Rattle.document_laws.proofs.Makes.{Makes, makes_later}
+use Rattle.document_laws.proofs.Openers.{row_of-same}
+use Rattle.document_laws.proofs.Ways.{LaterMay}
 use Rattle.document_laws.proofs.Steps.{same-both}
 
 -- an item that is one more opener of a section

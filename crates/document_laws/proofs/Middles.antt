@@ -4,7 +4,7 @@ use Rattle.item_terms.specs.Items.{Item}
 use Rattle.frame_terms.specs.declared.document.Group.{Group}
 use Rattle.frame_terms.specs.declared.document.Taken.{Taken}
 use Rattle.frame_terms.specs.Tables.{Tables}
-use Rattle.table_laws.specs.Passing.{IsPassedIn}
+use Rattle.document_laws.specs.Passing.{IsPassedIn}
 use Rattle.document_laws.specs.Parts.{AreBetween, AreOthers, HaveInside, IsOrdinary}
 
 module _ {S K V X : Type 0} (tables : Tables S K V X) where

@@ -8,9 +8,9 @@ use Rattle.frame_terms.specs.Order.{following, opened_by, opener, passed_over, r
 use Rattle.frame_terms.specs.Sections.{row_of}
 use Rattle.frame_terms.specs.Tables.{Tables}
 use Rattle.frame_laws.proofs.KnownWords.{same-sym, same-through}
-use Rattle.table_laws.proofs.Lists.{AllRepeat, IsAfter}
-use Rattle.table_laws.proofs.Openers.{row_of-one}
-use Rattle.table_laws.proofs.Parts.{IsListed}
+use Rattle.document_laws.proofs.Lists.{AllRepeat, IsAfter}
+use Rattle.document_laws.proofs.Openers.{row_of-one}
+use Rattle.document_laws.proofs.Parts.{IsListed}
 use Rattle.document_laws.specs.Clear.{AreClear}
 use Rattle.document_laws.proofs.Places.{follows}
 

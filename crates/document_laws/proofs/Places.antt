@@ -20,9 +20,9 @@ use Rattle.frame_terms.specs.Rows.{limit_number}
 use Rattle.frame_terms.specs.Sections.{row_of, stands}
 use Rattle.frame_terms.specs.Tables.{Tables}
 use Rattle.frame_laws.proofs.KnownWords.{same-sym, same-through}
-use Rattle.table_laws.proofs.Openers.{row_of-one}
-use Rattle.table_laws.proofs.Lists.{following_is}
-use Rattle.table_laws.proofs.Parts.{IsListed}
+use Rattle.document_laws.proofs.Openers.{row_of-one}
+use Rattle.document_laws.proofs.Lists.{following_is}
+use Rattle.document_laws.proofs.Parts.{IsListed}
 use Rattle.document_laws.specs.Clear.{AreClear, IsEnd, IsEntrance}
 use Rattle.document_laws.specs.Parts.{EndsWithin}
 

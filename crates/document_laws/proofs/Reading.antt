@@ -17,12 +17,12 @@ use Rattle.frame_terms.specs.Order.{first_of, following, is_keyword, must_open, 
 use Rattle.frame_terms.specs.Tables.{Tables}
 use Rattle.frame_laws.proofs.Reading.{read_on}
 use Rattle.frame_laws.proofs.Steps.{opening}
-use Rattle.table_laws.specs.Counts.{RowsStand}
-use Rattle.table_laws.specs.Order.{Part, items_of, sections_of}
-use Rattle.table_laws.specs.Passing.{EndsWith, EndsWithInput}
-use Rattle.table_laws.specs.Sound.{begins_next, ends_document}
-use Rattle.table_laws.proofs.Lists.{IsAfter}
-use Rattle.table_laws.proofs.Parts.{IsListed, names}
+use Rattle.document_laws.specs.Counts.{RowsStand}
+use Rattle.document_laws.specs.Order.{Part, items_of, sections_of}
+use Rattle.document_laws.specs.Passing.{EndsWith, EndsWithInput}
+use Rattle.document_laws.specs.Sound.{begins_next, ends_document}
+use Rattle.document_laws.proofs.Lists.{IsAfter}
+use Rattle.document_laws.proofs.Parts.{IsListed, names}
 use Rattle.document_laws.specs.Clear.{AreClear}
 use Rattle.document_laws.specs.Documents.{AreParts, DocumentsAreRead, EndsAt, EndsBeforeNext, EndsSo}
 use Rattle.document_laws.specs.Parts.{HasLast, IsPart, Stands}

@@ -17,16 +17,16 @@ use Rattle.frame_terms.specs.Keywords.{same, word_of}
 use Rattle.frame_terms.specs.Order.{following, inner, is_keyword, must_open, opener}
 use Rattle.frame_terms.specs.Sections.{lacking}
 use Rattle.frame_terms.specs.Tables.{Tables}
-use Rattle.table_laws.specs.Counts.{RowsStand, times}
-use Rattle.table_laws.specs.Order.{AreInOrder}
-use Rattle.table_laws.specs.Passing.{IsPassedIn}
-use Rattle.table_laws.specs.Sound.{begins_next, ends_document}
-use Rattle.table_laws.proofs.Lists.{in_order_none}
-use Rattle.table_laws.proofs.Parts.{IsListed}
-use Rattle.table_laws.proofs.Placing.{IsNotEnded, not_ended_more, stands_once}
-use Rattle.table_laws.proofs.Rules.{alone}
-use Rattle.table_laws.proofs.Times.{none_stands}
-use Rattle.table_laws.proofs.Ways.{IsAdded, IsEnding, IsStopping}
+use Rattle.document_laws.specs.Counts.{RowsStand, times}
+use Rattle.document_laws.specs.Order.{AreInOrder}
+use Rattle.document_laws.specs.Passing.{IsPassedIn}
+use Rattle.document_laws.specs.Sound.{begins_next, ends_document}
+use Rattle.document_laws.proofs.Lists.{in_order_none}
+use Rattle.document_laws.proofs.Parts.{IsListed}
+use Rattle.document_laws.proofs.Placing.{IsNotEnded, not_ended_more, stands_once}
+use Rattle.document_laws.proofs.Rules.{alone}
+use Rattle.document_laws.proofs.Times.{none_stands}
+use Rattle.document_laws.proofs.Ways.{IsAdded, IsEnding, IsStopping}
 use Rattle.document_laws.specs.Clear.{AreClear}
 use Rattle.document_laws.specs.Documents.{EndsAt}
 use Rattle.document_laws.specs.Parts.{AreOthers, IsOrdinary}

@@ -18,12 +18,12 @@ use Rattle.frame_terms.specs.Rows.{is_many, is_one}
 use Rattle.frame_terms.specs.Sections.{accept, keyword_if, lacking, lacking_but, row_of, stands, taken_as}
 use Rattle.frame_terms.specs.Tables.{Tables}
 use Rattle.frame_laws.proofs.KnownWords.{same-refl, same-sym}
-use Rattle.table_laws.specs.Counts.{IsCount, RowsStand, times}
-use Rattle.table_laws.specs.Items.{IsItemOf}
-use Rattle.table_laws.specs.Sound.{StandsOnce}
-use Rattle.table_laws.proofs.Openers.{row_of-same}
-use Rattle.table_laws.proofs.Times.{few_of, none_stands, once, one_of, some_stands, times-append, times-first, times-more}
-use Rattle.table_laws.proofs.Times.{times-same}
+use Rattle.document_laws.specs.Counts.{IsCount, RowsStand, times}
+use Rattle.document_laws.specs.Items.{IsItemOf}
+use Rattle.document_laws.specs.Sound.{StandsOnce}
+use Rattle.document_laws.proofs.Openers.{row_of-same}
+use Rattle.document_laws.proofs.Times.{few_of, none_stands, once, one_of, some_stands, times-append, times-first, times-more}
+use Rattle.document_laws.proofs.Times.{times-same}
 
 too_many : (a b c n m : ℕ) → 1 ≤ a → m ≤ 1 → n ≡ m → n ≡ a + (b + c) → b ≡ 1 → ⊥
 too_many a b c n m some few alike sum counted = omega (arith, some, few, alike, sum, counted)

@@ -27,8 +27,8 @@ use Rattle.frame_terms.specs.Standing.{in_section, unless}
 use Rattle.frame_terms.specs.Tables.{Tables}
 use Rattle.frame_laws.proofs.KnownWords.{same-sym, same-through}
 use Rattle.frame_laws.proofs.Steps.{opening}
-use Rattle.table_laws.specs.Passing.{IsPassedIn}
-use Rattle.table_laws.proofs.Openers.{row_of-one, row_of-same}
+use Rattle.document_laws.specs.Passing.{IsPassedIn}
+use Rattle.document_laws.proofs.Openers.{row_of-one, row_of-same}
 use Rattle.document_laws.specs.Clear.{AreClear}
 use Rattle.document_laws.specs.Parts.{Stands}
 use Rattle.document_laws.proofs.Places.{IsAt, IsNear, ignored_begins, never_beyond, never_beyond_again, or_front}

@@ -8,9 +8,9 @@ use Rattle.frame_terms.specs.declared.document.Taken.{Taken}
 use Rattle.frame_terms.specs.declared.keyword.Keyword.{Keyword}
 use Rattle.frame_terms.specs.Documents.{Document, group}
 use Rattle.frame_terms.specs.Tables.{Tables}
-use Rattle.table_laws.specs.Counts.{RowsStand}
-use Rattle.table_laws.specs.Order.{Part, items_of, sections_of}
-use Rattle.table_laws.proofs.Parts.{names}
+use Rattle.document_laws.specs.Counts.{RowsStand}
+use Rattle.document_laws.specs.Order.{Part, items_of, sections_of}
+use Rattle.document_laws.proofs.Parts.{names}
 use Rattle.document_laws.specs.Documents.{AreParts, EndsAt, EndsSo}
 use Rattle.document_laws.specs.Parts.{AreBetween, EndsWithin, HasLast, IsPart}
 use Rattle.document_laws.proofs.Following.{ComeBehind}

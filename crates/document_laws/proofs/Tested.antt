@@ -16,7 +16,7 @@ use Rattle.frame_terms.specs.Rows.{is_many, is_one}
 use Rattle.frame_terms.specs.Sections.{row_of}
 use Rattle.frame_terms.specs.Tables.{Tables}
 use Rattle.frame_laws.proofs.KnownWords.{same-refl}
-use Rattle.table_laws.specs.Sound.{AreSound, IsInner, StandsOnce, ends_document}
+use Rattle.document_laws.specs.Sound.{AreSound, IsInner, StandsOnce, ends_document}
 use Rattle.document_laws.specs.Clear.{AreClear, IsEnd, IsEntrance}
 use Rattle.document_laws.specs.Tests.{IsRegarded, PassTests, differ, each, ends_well, if_there, is_again, is_empty}
 use Rattle.document_laws.specs.Tests.{is_inner, is_there, may_enter, once}

@@ -20,12 +20,12 @@ use Rattle.frame_terms.specs.Keywords.{word_of}
 use Rattle.frame_terms.specs.Order.{inner}
 use Rattle.frame_terms.specs.Tables.{Tables}
 use Rattle.frame_laws.proofs.Steps.{opening}
-use Rattle.table_laws.specs.Passing.{IsPassedIn}
-use Rattle.table_laws.specs.Sound.{AreSound}
-use Rattle.table_laws.proofs.Makes.{Makes, makes_first}
-use Rattle.table_laws.proofs.Rules.{Holds, alone, behind}
-use Rattle.table_laws.proofs.Ways.{FirstMay, IsAdded, IsBeginning, IsEnding, IsEntering, IsOpening, IsStopping, LacksOpener}
-use Rattle.table_laws.proofs.Ways.{LaterMay}
+use Rattle.document_laws.specs.Passing.{IsPassedIn}
+use Rattle.document_laws.specs.Sound.{AreSound}
+use Rattle.document_laws.proofs.Makes.{Makes, makes_first}
+use Rattle.document_laws.proofs.Rules.{Holds, alone, behind}
+use Rattle.document_laws.proofs.Ways.{FirstMay, IsAdded, IsBeginning, IsEnding, IsEntering, IsOpening, IsStopping, LacksOpener}
+use Rattle.document_laws.proofs.Ways.{LaterMay}
 use Rattle.document_laws.proofs.Making.{AlsoMay, IsNextOpener, makes_near}
 
 module _ {S V : Type 0} where

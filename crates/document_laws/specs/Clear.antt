@@ -9,7 +9,7 @@ use Rattle.frame_terms.specs.Order.{following, is_keyword, opener, repeats}
 use Rattle.frame_terms.specs.Rows.{is_many}
 use Rattle.frame_terms.specs.Sections.{row_of}
 use Rattle.frame_terms.specs.Tables.{Tables}
-use Rattle.table_laws.specs.Sound.{AreSound, StandsOnce}
+use Rattle.document_laws.specs.Sound.{AreSound, StandsOnce}
 
 -- The item that begins a section inside another is one of that other, stands in it once or not at all, is never ignored,
 -- and does not end it.

@@ -8,8 +8,8 @@ use Rattle.frame_terms.specs.Documents.{Document, document_of}
 use Rattle.frame_terms.specs.Keywords.{same, word_of}
 use Rattle.frame_terms.specs.Order.{opener}
 use Rattle.frame_terms.specs.Tables.{Tables}
-use Rattle.table_laws.specs.Order.{AreInOrder, Part, items_of, sections_of}
-use Rattle.table_laws.specs.Passing.{EndsWith, EndsWithInput}
+use Rattle.document_laws.specs.Order.{AreInOrder, Part, items_of, sections_of}
+use Rattle.document_laws.specs.Passing.{EndsWith, EndsWithInput}
 use Rattle.document_laws.specs.Clear.{AreClear}
 use Rattle.document_laws.specs.Parts.{IsPart}
 

@@ -1,3 +1,9 @@
+pub mod Known
+pub mod Items
+pub mod Counts
+pub mod Sound
+pub mod Order
+pub mod Passing
 pub mod Clear
 pub mod Tests
 pub mod Parts

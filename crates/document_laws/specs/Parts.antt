@@ -10,10 +10,10 @@ use Rattle.frame_terms.specs.Keywords.{same}
 use Rattle.frame_terms.specs.Order.{inner, is_keyword, opener}
 use Rattle.frame_terms.specs.Rows.{limit_number}
 use Rattle.frame_terms.specs.Tables.{Tables}
-use Rattle.table_laws.specs.Counts.{RowsStand}
-use Rattle.table_laws.specs.Items.{IsItemOf}
-use Rattle.table_laws.specs.Order.{Part}
-use Rattle.table_laws.specs.Passing.{IsPassedIn}
+use Rattle.document_laws.specs.Counts.{RowsStand}
+use Rattle.document_laws.specs.Items.{IsItemOf}
+use Rattle.document_laws.specs.Order.{Part}
+use Rattle.document_laws.specs.Passing.{IsPassedIn}
 
 -- an item of a row of a section that the tables do not ignore, and that may stand behind those before it
 pub record Stands {S K V X : Type 0} (tables : Tables S K V X) (remembered : X) (section : S) (item : Item)

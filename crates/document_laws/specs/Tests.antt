@@ -11,7 +11,7 @@ use Rattle.frame_terms.specs.Order.{following, is_keyword, opener, repeats}
 use Rattle.frame_terms.specs.Rows.{is_many, is_one}
 use Rattle.frame_terms.specs.Sections.{row_of}
 use Rattle.frame_terms.specs.Tables.{Tables}
-use Rattle.table_laws.specs.Sound.{ends_document}
+use Rattle.document_laws.specs.Sound.{ends_document}
 
 -- whether no two of some keywords are one
 abbrev pub differ : List Keyword → Bool

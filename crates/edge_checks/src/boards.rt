@@ -1,6 +1,6 @@
 // What the passes of a board have seen.
 ghost use Rattle.std.specs.Prelude.{All, IfOk};
-ghost use Rattle.board_terms.specs.Boards.{IsAt};
+ghost use Rattle.serve_board.specs.Boards.{IsAt};
 
 use dir_bytes::Memory;
 use dir_values::{Fingerprint, Roster};

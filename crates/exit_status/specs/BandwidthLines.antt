@@ -3,8 +3,8 @@ use Rattle.std.specs.Prelude.{ℕ, List, [], ◌∷◌, codes, decimal}
 use Rattle.bandwidth_file.specs.declared.refusal.BandReason.{BandReason}
 use Rattle.bandwidth_file.specs.declared.refusal.BandReason.TheVariants as reason
 use Rattle.exit_status.specs.Parts.{at_place, end}
-use Rattle.bandwidth_commands.specs.declared.refusal.BandwidthRefusal.{BandwidthRefusal}
-use Rattle.bandwidth_commands.specs.declared.refusal.BandwidthRefusal.TheVariants as bandwidth
+use Rattle.station_commands.specs.declared.file_refusal.BandwidthRefusal.{BandwidthRefusal}
+use Rattle.station_commands.specs.declared.file_refusal.BandwidthRefusal.TheVariants as bandwidth
 
 -- what is wrong with a bandwidth file
 abbrev pub fault_parts : ℕ → BandReason → List (List ℕ)

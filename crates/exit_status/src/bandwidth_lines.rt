@@ -5,9 +5,9 @@ ghost use Rattle.exit_status.specs.Parts.{joined};
 ghost use Rattle.exit_status.specs.Reports.{Reports};
 
 use crate::parts::{report_at, write_parts};
-use bandwidth_commands::BandwidthRefusal;
 use bandwidth_file::BandReason;
 use dir_bytes::Sink;
+use station_commands::BandwidthRefusal;
 
 /// The number with which the process ends.
 pub(crate) fn bandwidth_number(refusal: BandwidthRefusal) -> u8

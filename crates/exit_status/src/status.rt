@@ -8,11 +8,10 @@ use crate::document_lines::fault_number;
 use crate::report_lines::report_number;
 use crate::station_lines::station_number;
 use crate::vote_lines::votes_number;
-use bandwidth_commands::BandwidthRefusal;
 use compute_command::VoteListRefusal;
 use daemon_words::DocumentRefusal;
 use report_command::NoReport;
-use station_commands::StationRefusal;
+use station_commands::{BandwidthRefusal, StationRefusal};
 use std::process::ExitCode;
 
 /// Why a command gives no text: a variant for each family of reasons, which stands in the crate of its command, and one for each

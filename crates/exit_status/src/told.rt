@@ -3,14 +3,13 @@ ghost use Rattle.std.specs.Prelude.{◌≡◌};
 ghost use Rattle.exit_status.specs.Told as told;
 
 use crate::status::Refusal;
-use bandwidth_commands::{BandwidthRefusal, FileVoteRefusal};
 use compute_command::{ComputeRefusal, VoteListRefusal};
 use daemon_words::{DocumentRefusal, Kind};
 use document_commands::SubjectRefusal;
 use frame_terms::FrameFault;
 use report_command::ReportRefusal;
 use serve_command::ServeRefusal;
-use station_commands::MakeVoteRefusal;
+use station_commands::{BandwidthRefusal, FileVoteRefusal, MakeVoteRefusal};
 
 /// That the input is no document of a kind, or no list of them.
 fn document(kind: Kind, fault: FrameFault) -> Refusal

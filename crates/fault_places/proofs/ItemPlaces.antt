@@ -20,8 +20,8 @@ use Rattle.frame_values.specs.Signatures.{after_algorithm, algorithm_if, has_wor
 use Rattle.frame_values.specs.Signatures.{signed_by}
 use Rattle.frame_values.specs.declared.found.Span.{Span}
 use Rattle.frame_values.specs.declared.found.VoteSignature.{VoteSignature}
-use Rattle.random_lines.specs.Lines.{random_of}
-use Rattle.random_lines.specs.Values.{padded_digest}
+use Rattle.value_groups.specs.Lines.{random_of}
+use Rattle.value_groups.specs.Values.{padded_digest}
 use Rattle.fault_places.proofs.ArgumentPlaces.{Begins, EachBegins, PlaceIfIn, PlaceIn, each_begins, front_begins}
 use Rattle.fault_places.proofs.ArgumentPlaces.{others_begin}
 

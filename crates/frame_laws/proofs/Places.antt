@@ -4,7 +4,7 @@ use Rattle.std.specs.Prelude.{◌&&◌, map}
 use Rattle.std.proofs.lemmas.List.{drop_at, length-append}
 use Rattle.item_terms.specs.Items.{Contents, Item, contents, items_from, nothing}
 use Rattle.item_terms.specs.Words.{begins_dash}
-use Rattle.dirdoc_laws.proofs.ItemsAgain.{items_again}
+use Rattle.grammar_laws.proofs.ItemsAgain.{items_again}
 use Rattle.dirdoc_grammar.proofs.Places.{stand_in_place}
 use Rattle.dirdoc_grammar.specs.InPlace.{EachInPlace}
 use Rattle.dirdoc_grammar.specs.Writing.{AreWritable, IsWritable, NewItem, all_written, in_front, is_open, item_text, items_text}

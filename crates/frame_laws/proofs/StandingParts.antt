@@ -6,7 +6,7 @@ use Rattle.std.proofs.lemmas.List.{drop-drop, drop_at, take_at, take-append-drop
 use Rattle.base64.specs.GeneralPurpose.{IsBytes}
 use Rattle.item_terms.specs.Items.{Item, Object}
 use Rattle.dir_bytes.specs.Causes.{last_moment}
-use Rattle.dirdoc_laws.proofs.WrittenBytes.{decoded-body_text}
+use Rattle.grammar_laws.proofs.WrittenBytes.{decoded-body_text}
 use Rattle.dirdoc_grammar.specs.Bodies.{body_text, decoded}
 use Rattle.dirdoc_grammar.specs.InPlace.{InPlace}
 use Rattle.frame_values.specs.Fields.{span}

@@ -1,3 +1,14 @@
+pub mod WrittenMethods
+pub mod WrittenRelays
+pub mod WrittenBandwidths
+pub mod WrittenMicros
+pub mod WrittenKeys
+pub mod WrittenAddresses
+pub mod WrittenFlags
+pub mod WrittenDelays
+pub mod WrittenSources
+pub mod WrittenSignatures
+pub mod WrittenRandoms
 pub mod Readings
 pub mod SignatureLines
 pub mod TimeRows

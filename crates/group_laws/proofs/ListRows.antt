@@ -32,12 +32,12 @@ use Rattle.list_values.specs.declared.named.Named.{Named}
 use Rattle.list_values.specs.Params.{param_text, params_text}
 use Rattle.list_values.specs.Protocols.{protocols_text}
 use Rattle.list_values.specs.VersionLists.{versions_text}
-use Rattle.list_lines.specs.Lines.{params_of, protocols_of, versions_of}
-use Rattle.list_lines.specs.Listed.{members_of, params_in, protocols_in, versions_in}
-use Rattle.list_laws.specs.Ranges.{AreParamsInRange, AreProtocolsInRange, AreVersionsInRange}
-use Rattle.list_laws.proofs.ParamsAgain.{params_again, params_right, words}
-use Rattle.list_laws.proofs.ProtocolsAgain.{protocols_again, protocols_right}
-use Rattle.list_laws.proofs.VersionsAgain.{versions_again, versions_right}
+use Rattle.value_groups.specs.ListLines.{params_of, protocols_of, versions_of}
+use Rattle.value_groups.specs.Listed.{members_of, params_in, protocols_in, versions_in}
+use Rattle.value_laws.specs.Ranges.{AreParamsInRange, AreProtocolsInRange, AreVersionsInRange}
+use Rattle.value_laws.proofs.ParamsAgain.{params_again, params_right, words}
+use Rattle.value_laws.proofs.ProtocolsAgain.{protocols_again, protocols_right}
+use Rattle.value_laws.proofs.VersionsAgain.{versions_again, versions_right}
 use Rattle.group_laws.specs.Lists.{some_list}
 use Rattle.group_laws.proofs.Readings.{AreFew, Reads, few_enough, suits_reading, text_at}
 

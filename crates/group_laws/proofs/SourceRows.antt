@@ -17,8 +17,8 @@ use Rattle.frame_laws.proofs.Entries.{AlwaysSuits, Entry}
 use Rattle.frame_laws.proofs.RowValues.{own_entry, row_if, said_any_if, text_entry}
 use Rattle.frame_laws.proofs.SaidRows.{IsSaid}
 use Rattle.frame_laws.proofs.WrittenItems.{rest_at, start_of}
-use Rattle.line_laws.specs.Again.{IsSourceInRange, source_at, source_text}
-use Rattle.line_laws.proofs.WrittenSources.{address_part, nickname_part, source_again}
+use Rattle.group_laws.specs.LineAgain.{IsSourceInRange, source_at, source_text}
+use Rattle.group_laws.proofs.WrittenSources.{address_part, nickname_part, source_again}
 use Rattle.group_laws.proofs.Readings.{Reads, suits_reading, text_at}
 
 -- ---- a document that has them

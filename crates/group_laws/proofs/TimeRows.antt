@@ -15,8 +15,8 @@ use Rattle.frame_laws.proofs.RowCounts.{said_once}
 use Rattle.frame_laws.proofs.RowValues.{moment_entry, own_entry}
 use Rattle.frame_laws.proofs.SaidRows.{AreSaid, IsSaid, RowSays, row_once}
 use Rattle.frame_laws.proofs.WrittenItems.{time-written}
-use Rattle.line_laws.specs.Again.{delays_text}
-use Rattle.line_laws.proofs.WrittenDelays.{delays_again}
+use Rattle.group_laws.specs.LineAgain.{delays_text}
+use Rattle.group_laws.proofs.WrittenDelays.{delays_again}
 use Rattle.group_laws.proofs.Readings.{Reads, suits_reading}
 
 -- ---- the rows

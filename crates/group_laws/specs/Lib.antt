@@ -1,2 +1,5 @@
+pub mod Ranges
+pub mod EntryAgain
+pub mod LineAgain
 pub mod Again
 pub mod Lists

@@ -11,9 +11,9 @@ use Rattle.vote_feed.specs.Blanks.{blank_of}
 use Rattle.vote_feed.specs.declared.fed.Fed.{Fed}
 use Rattle.vote_feed.specs.declared.fed.Fed.TheVariants as fed
 use Rattle.vote_feed.specs.Feeding.{Feeds, IsOpen, IsWhole, are_blank_lines, end_of}
-use Rattle.whole_votes.proofs.FedVotes.{end_or, whole_read}
-use Rattle.whole_votes.proofs.WholeVotes.{whole_stay}
-use Rattle.ended_votes.proofs.EndedVotes.{open_are_none}
+use Rattle.vote_feed.proofs.FedVotes.{end_or, whole_read}
+use Rattle.vote_feed.proofs.WholeVotes.{whole_stay}
+use Rattle.vote_feed.proofs.EndedVotes.{open_are_none}
 use Rattle.blank_lines.specs.Blanks.{after_blanks}
 use Rattle.lone_vote.specs.Coming.{BeginsWith, IsVoteOf}
 use Rattle.lone_vote.specs.Alone.{IsVote, NoneIs}

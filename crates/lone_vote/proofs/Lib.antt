@@ -1,2 +1,3 @@
 mod BlankLines
 mod KnownVotes
+mod Arrivals

@@ -1,6 +1,6 @@
 // Certificates of Ed25519 keys.
+use descriptor_frame::{EdCert, is_certificate};
 use dir_bytes::read_base64;
-use ed_certs::{EdCert, is_certificate};
 use std::alloc::{AllocError, Global};
 use std::test::Fail;
 

@@ -1,6 +1,6 @@
 // Families as relays write them.
+use descriptor_frame::{canonical_family, push_names};
 use dir_bytes::{Memory, Text};
-use relay_family::{canonical_family, push_names};
 use std::alloc::Global;
 use std::test::Fail;
 

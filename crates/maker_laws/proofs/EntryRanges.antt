@@ -18,22 +18,22 @@ use Rattle.dir_values.specs.declared.port_range.PortRange.{PortRange}
 use Rattle.dir_values.proofs.Flags.{Ascend-as_set}
 use Rattle.dir_values.proofs.Orders.{AllPairs-cons, AllPairs-head, AllPairs-nil, AllPairs-tail}
 use Rattle.dirdoc_grammar.specs.Writing.{IsLineRest}
-use Rattle.dirdoc_laws.proofs.LineRests.{rest_of_argument}
+use Rattle.grammar_laws.proofs.LineRests.{rest_of_argument}
 use Rattle.frame_laws.proofs.WordTexts.{AreWords, Dark, IsWord, both_dark, bytes_of, two_words, word_of_number}
-use Rattle.list_laws.proofs.LineWords.{rest_of_words}
+use Rattle.value_laws.proofs.LineWords.{rest_of_words}
 use Rattle.exit_summary.specs.Summaries.{summary_of}
-use Rattle.ed_certs.specs.declared.certificate.EdCert.{EdCert}
-use Rattle.entry_laws.specs.Ranges.{AreThirtyTwo, IsAddressInRange, IsOpinionInRange}
+use Rattle.descriptor_frame.specs.declared.certificate.EdCert.{EdCert}
+use Rattle.group_laws.specs.Ranges.{AreThirtyTwo, IsAddressInRange, IsOpinionInRange}
 use Rattle.descriptor_doc.specs.declared.descriptor.Descriptor.{Descriptor}
-use Rattle.descriptor_ranges.specs.Ranges.{IsDescriptorInRange, IsShortAddress, IsShortRest}
+use Rattle.descriptor_laws.specs.ReadRanges.{IsDescriptorInRange, IsShortAddress, IsShortRest}
 use Rattle.flag_rules.specs.Names.{name_table, names_of}
 use Rattle.flag_rules.specs.Relays.{ruled_relays}
 use Rattle.flag_rules.specs.declared.flags.Flags.{Flags}
 use Rattle.flag_rules.specs.declared.relay.RelayFacts.{RelayFacts}
 use Rattle.flag_rules.specs.declared.relay.RuledRelay.{RuledRelay}
 use Rattle.flag_rules.specs.declared.ruling.Ruling.{Ruling}
-use Rattle.station_frame.specs.declared.said.MeasuredRelay.{MeasuredRelay}
-use Rattle.station_ranges.specs.Ranges.{IsMeasuredInRange}
+use Rattle.station_input.specs.declared.frame_said.MeasuredRelay.{MeasuredRelay}
+use Rattle.maker_laws.specs.Ranges.{IsMeasuredInRange}
 use Rattle.vote_pool.specs.Pools.{DescriptorsAscend}
 use Rattle.vote_pool.specs.Summaries.{micro_text_of}
 use Rattle.vote_laws.specs.Again.{AreEntryFlags, IsEntryInRange, IsMicroInRange}

@@ -7,16 +7,16 @@ use Rattle.std.proofs.lemmas.List.Sums.{AllPass-from_list_all}
 use Rattle.dir_values.specs.FlagSets.{Ascend, as_set}
 use Rattle.dir_values.specs.FlagSets.{is_name}
 use Rattle.dir_values.proofs.Flags.{Ascend-as_set}
-use Rattle.dirdoc_laws.specs.Written.{IsItem}
+use Rattle.grammar_laws.specs.Written.{IsItem}
 use Rattle.authority_certs.specs.Texts.{cert_items}
 use Rattle.computed_laws.proofs.Digests.{twenty}
-use Rattle.descriptor_ranges.specs.Ranges.{IsDescriptorInRange}
+use Rattle.descriptor_laws.specs.ReadRanges.{IsDescriptorInRange}
 use Rattle.flag_rules.specs.Flags.{flags_of}
 use Rattle.flag_rules.specs.Relays.{ruled_relays}
 use Rattle.flag_rules.specs.declared.flags.Flags.{Flags}
 use Rattle.flag_rules.specs.declared.relay.RuledRelay.{RuledRelay}
 use Rattle.flag_rules.specs.declared.ruling.Ruling.{Ruling}
-use Rattle.station_ranges.specs.Ranges.{IsStationInRange}
+use Rattle.maker_laws.specs.Ranges.{IsStationInRange}
 use Rattle.vote_terms.specs.declared.facts.VoteFacts.{VoteFacts}
 use Rattle.vote_text.specs.Entries.{entries_items}
 use Rattle.vote_text.specs.Texts.{authority_items, footer_items, preamble_items}

@@ -12,7 +12,7 @@ use Rattle.dir_bytes.specs.FieldTexts.{hex_text}
 use Rattle.dir_bytes.proofs.Spelling.{length-hex_text}
 use Rattle.dirdoc_grammar.specs.Bodies.{object_text}
 use Rattle.dirdoc_grammar.specs.Writing.{NewItem, NewObject, item_text, items_text, tail}
-use Rattle.dirdoc_laws.specs.Written.{AreWithinLimits}
+use Rattle.grammar_laws.specs.Written.{AreWithinLimits}
 use Rattle.frame_terms.specs.Keywords.{text_of}
 use Rattle.frame_terms.specs.declared.keyword.Keyword.{Keyword}
 use Rattle.frame_terms.specs.declared.keyword.Keyword.TheVariants.{NetworkStatusVersion}
@@ -27,10 +27,10 @@ use Rattle.vote_text.specs.Texts.{authority_items, footer_items, preamble_items,
 use Rattle.vote_text.specs.Texts.{algorithm_text}
 use Rattle.vote_doc.specs.Reading.{max_vote}
 use Rattle.vote_laws.specs.Again.{IsSignatureInRange}
-use Rattle.made_laws.specs.Made.{IsMadeInRange}
-use Rattle.made_laws.proofs.MadeTexts.{before_same, before_text, behind_same, behind_text, text_parts}
+use Rattle.vote_laws.specs.Made.{IsMadeInRange}
+use Rattle.vote_laws.proofs.MadeTexts.{before_same, before_text, behind_same, behind_text, text_parts}
 use Rattle.range_laws.proofs.CertRead.{items_writable}
-use Rattle.station_lines.specs.Lines.{HasShortLine}
+use Rattle.maker_laws.specs.Lines.{HasShortLine}
 use Rattle.maker_laws.specs.ReadAsMade.{IsMadeInRangeButForLimits}
 use Rattle.maker_laws.proofs.ObjectFits.{object_fits}
 

@@ -8,7 +8,7 @@ use Rattle.list_values.specs.Params.{params_text}
 use Rattle.list_values.specs.Protocols.{protocols_text}
 use Rattle.list_values.specs.VersionLists.{versions_text}
 use Rattle.list_values.specs.declared.named.Named.{Named}
-use Rattle.random_lines.specs.Values.{random_text}
+use Rattle.value_groups.specs.Values.{random_text}
 use Rattle.relay_entries.specs.Texts.{bandwidths_text, ed_text}
 use Rattle.frame_values.specs.Parts.{moment_of}
 use Rattle.std.proofs.lemmas.List.Elements.{All-append, All-cons, All-nil, All-weaker}
@@ -17,18 +17,18 @@ use Rattle.frame_terms.specs.declared.keyword.Keyword.{Keyword}
 use Rattle.frame_terms.specs.declared.keyword.Keyword.TheVariants as the
 use Rattle.frame_values.specs.Items.{bare, item_if}
 use Rattle.descriptor_doc.specs.declared.descriptor.Descriptor.{Descriptor}
-use Rattle.descriptor_ranges.specs.Ranges.{DescriptorsReadAreInRange, IsDescriptorInRange}
+use Rattle.descriptor_laws.specs.ReadRanges.{DescriptorsReadAreInRange, IsDescriptorInRange}
 use Rattle.flag_rules.specs.Flags.{flags_of}
 use Rattle.flag_rules.specs.Relays.{ruled_relays}
 use Rattle.flag_rules.specs.declared.ruling.Ruling.{Ruling}
-use Rattle.given_certs.specs.Given.{IsGiven}
-use Rattle.made_laws.proofs.MadeAgain.{made_again}
-use Rattle.station_certs.proofs.GivenCert.{certificates_are_given}
+use Rattle.certificate_laws.specs.Given.{IsGiven}
+use Rattle.vote_laws.proofs.MadeAgain.{made_again}
+use Rattle.maker_laws.proofs.GivenCert.{certificates_are_given}
 use Rattle.station_input.specs.declared.facts.StationFacts.{StationFacts}
-use Rattle.station_lines.specs.Lines.{HasShortLines}
-use Rattle.station_lines.proofs.GivenLines.{given_short}
-use Rattle.station_ranges.specs.Ranges.{IsStationInRange}
-use Rattle.station_ranges.proofs.StationKept.{station_in_range}
+use Rattle.maker_laws.specs.Lines.{HasShortLines}
+use Rattle.maker_laws.proofs.GivenLines.{given_short}
+use Rattle.maker_laws.specs.Ranges.{IsStationInRange}
+use Rattle.maker_laws.proofs.StationKept.{station_in_range}
 use Rattle.vote_frame.specs.Tables.{vote_tables}
 use Rattle.vote_frame.specs.declared.frame.VoteSection.TheVariants as section
 use Rattle.vote_terms.specs.declared.entry.EntryFacts.{EntryFacts}

@@ -10,13 +10,13 @@ use Rattle.frame_terms.specs.declared.keyword.Keyword.TheVariants as the
 use Rattle.frame_values.specs.Items.{bare, item_if}
 use Rattle.exit_summary.proofs.SummaryLaws as summary
 use Rattle.relay_entries.specs.Texts.{bandwidths_text, ed_text}
-use Rattle.descriptor_ranges.specs.Ranges.{IsShortAddress}
+use Rattle.descriptor_laws.specs.ReadRanges.{IsShortAddress}
 use Rattle.vote_pool.specs.Summaries.{micro_text_of}
 use Rattle.vote_text.specs.Entries.{entries_items, entry_items, items_each, line_of}
 use Rattle.vote_text.specs.Entries.{micro_line}
 use Rattle.vote_maker.specs.Entries.{micro_of_text}
 use Rattle.vote_maker.specs.Listings.{JudgedRelay, entry_of_judged, has_entry, listed_relays, made_entries}
-use Rattle.station_lines.specs.Lines.{HasShortLine}
+use Rattle.maker_laws.specs.Lines.{HasShortLine}
 use Rattle.maker_laws.proofs.EntryRanges.{IsJudgedInRange, entry_ranged}
 use Rattle.maker_laws.proofs.MadeLimits.{line_short}
 use Rattle.maker_laws.proofs.ShortTexts.{IsMillion, bandwidths_short, key_short, micro_short, names_short}

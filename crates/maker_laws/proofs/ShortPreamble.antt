@@ -23,7 +23,7 @@ use Rattle.vote_text.specs.Texts.{time_items}
 use Rattle.vote_laws.specs.Again.{HasValuesInRange}
 use Rattle.vote_maker.specs.Entries.{made_methods}
 use Rattle.vote_maker.specs.Made.{Basis, made_flags}
-use Rattle.station_lines.specs.Lines.{HasShortLine, HasShortLines}
+use Rattle.maker_laws.specs.Lines.{HasShortLine, HasShortLines}
 use Rattle.maker_laws.specs.ReadAsMade.{signed_facts}
 use Rattle.maker_laws.proofs.ShortEntries.{AreShortLines, no_lines, one_line, ◌&◌}
 use Rattle.maker_laws.proofs.ShortTexts.{methods_short}

@@ -18,13 +18,13 @@ use Rattle.dir_bytes.proofs.Days.{length-moment_text}
 use Rattle.dir_bytes.proofs.Spelling.{length-base64_text}
 use Rattle.dir_values.specs.FlagSets.{as_set, set_text}
 use Rattle.frame_values.specs.Parts.{moment_of}
-use Rattle.entry_laws.specs.Ranges.{AreBandwidthsInRange, AreThirtyTwo, IsOpinionInRange, IsRelayInRange}
-use Rattle.entry_laws.proofs.WrittenRelays.{relay_shape, words_of_relay}
+use Rattle.group_laws.specs.Ranges.{AreBandwidthsInRange, AreThirtyTwo, IsOpinionInRange, IsRelayInRange}
+use Rattle.group_laws.proofs.WrittenRelays.{relay_shape, words_of_relay}
 use Rattle.relay_entries.specs.Texts.{bandwidths_text, ed_text, methods_text, number_word}
 use Rattle.relay_entries.specs.declared.said.Bandwidths.{Bandwidths}
 use Rattle.relay_entries.specs.declared.said.EdOpinion.{EdOpinion}
 use Rattle.relay_entries.specs.declared.said.EdOpinion.TheVariants as opinion
-use Rattle.descriptor_ranges.specs.Ranges.{IsShortRest}
+use Rattle.descriptor_laws.specs.ReadRanges.{IsShortRest}
 use Rattle.flag_rules.specs.Names.{name_table, names_of}
 use Rattle.flag_rules.specs.declared.flags.Flags.{Flags}
 use Rattle.vote_terms.specs.declared.entry.EntryFacts.{EntryFacts}

@@ -6,7 +6,7 @@ use Rattle.std.proofs.lemmas.List.Elements.{All-append, All-cons, All-head, All-
 use Rattle.base64.specs.GeneralPurpose.{IsBytes}
 use Rattle.sha2.specs.Sha256.{digest_bytes, final_hash, initial_hash_256, sha256}
 use Rattle.sha2.proofs.Facts256.{length-sha256}
-use Rattle.entry_laws.specs.Ranges.{AreThirtyTwo}
+use Rattle.group_laws.specs.Ranges.{AreThirtyTwo}
 
 abbrev IsByte : ℕ → Type 0
 IsByte n = n < 256

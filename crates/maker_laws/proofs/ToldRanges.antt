@@ -4,9 +4,9 @@ use Rattle.std.specs.Prelude.{All, map}
 use Rattle.std.proofs.lemmas.List.Elements.{All-append, All-cons, All-map, All-nil}
 use Rattle.bandwidth_file.specs.declared.file.BandFile.{BandFile}
 use Rattle.bandwidth_file.specs.Files.{IsBandFile}
-use Rattle.station_frame.specs.declared.said.MeasuredRelay.{MeasuredRelay}
-use Rattle.station_ranges.specs.Ranges.{IsMeasuredInRange}
-use Rattle.measured_bandwidths.specs.Told.{row_relay, told_relay, told_relays}
+use Rattle.station_input.specs.declared.frame_said.MeasuredRelay.{MeasuredRelay}
+use Rattle.maker_laws.specs.Ranges.{IsMeasuredInRange}
+use Rattle.station_commands.specs.MeasuredTold.{row_relay, told_relay, told_relays}
 use Rattle.maker_laws.proofs.FileRanges.{given_is, relays_are}
 
 -- of the relays that were measured before

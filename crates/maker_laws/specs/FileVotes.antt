@@ -13,9 +13,9 @@ use Rattle.vote_doc.specs.Reading.{max_vote, vote_from}
 use Rattle.vote_pool.specs.Pools.{DescriptorsAscend, most_relays}
 use Rattle.vote_schedule.specs.Moments.{valid_until}
 use Rattle.vote_schedule.specs.Schedules.{IsSchedule}
-use Rattle.made_laws.specs.Made.{IsMadeVote}
+use Rattle.vote_laws.specs.Made.{IsMadeVote}
 use Rattle.vote_maker.specs.Made.{Basis, schedule_in}
-use Rattle.measured_bandwidths.specs.Told.{told_relays}
+use Rattle.station_commands.specs.MeasuredTold.{told_relays}
 use Rattle.maker_laws.specs.Given.{IsDescriptor, IsStation}
 use Rattle.maker_laws.specs.ReadAsMade.{IsSigning, signed_facts, signed_made_text}
 

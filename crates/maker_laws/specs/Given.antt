@@ -6,7 +6,7 @@ use Rattle.descriptor_doc.specs.Reading.{descriptor_of}
 use Rattle.descriptor_doc.specs.declared.descriptor.Descriptor.{Descriptor}
 use Rattle.station_input.specs.Reading.{station_of}
 use Rattle.station_input.specs.declared.facts.StationFacts.{StationFacts}
-use Rattle.station_ranges.specs.Ranges.{IsMeasuredInRange}
+use Rattle.maker_laws.specs.Ranges.{IsMeasuredInRange}
 use Rattle.vote_pool.specs.Pools.{DescriptorsAscend, most_relays}
 use Rattle.vote_schedule.specs.Moments.{valid_until}
 use Rattle.vote_schedule.specs.Schedules.{IsSchedule}

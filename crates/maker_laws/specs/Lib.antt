@@ -1,3 +1,7 @@
+pub mod Ranges
+pub mod CertsGiven
+pub mod Lines
+pub mod Votes
 pub mod Given
 pub mod ReadAsMade
 pub mod Rulings

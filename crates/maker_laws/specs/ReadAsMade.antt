@@ -1,7 +1,7 @@
 -- A vote that was made is read as what it was made to say (dir-spec, "Vote and consensus status document formats").
 use Rattle.std.specs.Prelude.{◌≡◌, ℕ, ◌+◌, ◌≤◌, ◌<◌, ◌^◌, List, ◌++◌, length, All, Ok}
 use Rattle.base64.specs.GeneralPurpose.{IsBytes}
-use Rattle.dirdoc_laws.specs.Written.{IsItem}
+use Rattle.grammar_laws.specs.Written.{IsItem}
 use Rattle.key_port.specs.Signing.{signature_limit}
 use Rattle.flag_rules.specs.declared.ruling.Ruling.{Ruling}
 use Rattle.vote_terms.specs.Votes.{ReadVote}
@@ -11,7 +11,7 @@ use Rattle.vote_text.specs.Made.{made_text}
 use Rattle.vote_text.specs.Texts.{authority_items, footer_items, preamble_items}
 use Rattle.vote_doc.specs.Reading.{max_vote, vote_from}
 use Rattle.vote_laws.specs.Again.{HasValuesInRange}
-use Rattle.made_laws.specs.Made.{IsMadeVote}
+use Rattle.vote_laws.specs.Made.{IsMadeVote}
 use Rattle.vote_maker.specs.Made.{Basis, made, with_signature}
 use Rattle.maker_laws.specs.Given.{IsBasis}
 

@@ -5,8 +5,8 @@ use Rattle.std.specs.Prelude.{Option, Some, None, option_and_then, if◌then◌e
 use Rattle.dir_values.specs.Ports.{Ports, last_port, summary_text}
 use Rattle.dir_values.specs.declared.digest.Fingerprint.{Fingerprint}
 use Rattle.dir_values.specs.declared.port_range.PortRange.{PortRange}
-use Rattle.ed_certs.specs.declared.certificate.EdCert.{EdCert}
-use Rattle.relay_family.specs.Families.{family_of}
+use Rattle.descriptor_frame.specs.declared.certificate.EdCert.{EdCert}
+use Rattle.descriptor_frame.specs.Families.{family_of}
 use Rattle.descriptor_doc.specs.declared.descriptor.Descriptor.{Descriptor}
 use Rattle.micro_desc.specs.declared.said.MicroId.{MicroId}
 use Rattle.micro_desc.specs.declared.said.MicroId.TheVariants.{Ed25519, Rsa1024}

@@ -8,7 +8,7 @@ use Rattle.dir_values.specs.declared.digest.Digest2.{Digest2}
 use Rattle.dirdoc_grammar.specs.Writing.{NewItem, items_text}
 use Rattle.frame_terms.specs.declared.keyword.Keyword.TheVariants as the
 use Rattle.frame_values.specs.Items.{bare, with_object, item_if}
-use Rattle.relay_family.specs.Families.{family_text}
+use Rattle.descriptor_frame.specs.Families.{family_text}
 use Rattle.micro_desc.specs.declared.said.MicroId.{MicroId}
 use Rattle.micro_desc.specs.declared.said.MicroId.TheVariants.{Ed25519, Rsa1024}
 use Rattle.micro_desc.specs.declared.micro.Micro.{Micro}

@@ -5,9 +5,9 @@ ghost use Rattle.micro_desc.specs.Makings as makings;
 use crate::micro::Micro;
 use crate::said::MicroId;
 use descriptor_doc::{Descriptor, EdCert};
+use descriptor_frame::canonical_family;
 use dir_bytes::{Memory, Seq, Text};
 use dir_values::{Fingerprint, PortRange, PortSummary};
-use relay_family::canonical_family;
 use std::alloc::Global;
 
 /// A copy of a text, where there is one.

@@ -5,11 +5,11 @@ ghost use Rattle.micro_desc.specs.Texts as texts;
 
 use crate::micro::Micro;
 use crate::said::MicroId;
+use descriptor_frame::push_names;
 use dir_bytes::{Memory, Seq, Text, push_base64};
 use dir_values::Digest2;
 use frame_terms::Keyword;
 use frame_values::{push_bare, push_if, push_with_object};
-use relay_family::push_names;
 use sha2::{Digest, Sha256};
 use std::alloc::Global;
 

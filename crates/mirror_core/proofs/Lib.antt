@@ -1,3 +1,13 @@
+pub mod Missing
+pub mod RowLaws
+pub mod WantedLaws
+pub mod LaterItems
+pub mod UsedBytes
+pub mod Members
+pub mod CertLaws
+pub mod SignerLaws
+pub mod MirrorLaws
+pub mod SomeBytes
 pub mod Reading
 pub mod Standing
 pub mod KeysApart

@@ -11,7 +11,7 @@ use Rattle.authority_certs.specs.declared.cert.Cert.{Cert}
 use Rattle.micro_desc.specs.Reading.{ReadsMicro, micro_of}
 use Rattle.micro_desc.specs.declared.micro.Micro.{Micro}
 use Rattle.document_faults.proofs.DocumentFaults.{cert_within, micro_within}
-use Rattle.mirror_laws.proofs.SomeBytes.{certs_have, micros_have}
+use Rattle.mirror_core.proofs.SomeBytes.{certs_have, micros_have}
 use Rattle.mirror_core.specs.Reads.{IsWithin, ReadsOne}
 
 pub reads_cert : (bytes : List ℕ) (read : Result (Cert × ℕ) ReadRefusal) → 0 < length bytes → ReadsCert bytes read

@@ -5,13 +5,13 @@ use Rattle.key_port.specs.Answers.{Rules}
 use Rattle.authority_certs.specs.declared.cert.Cert.{Cert}
 use Rattle.consensus_terms.specs.declared.consensus.SignedConsensus.{SignedConsensus}
 use Rattle.detached_sigs.specs.declared.key.SignerKey.{SignerKey}
-use Rattle.micro_shelf.specs.Rows.{Rows, rows_of}
+use Rattle.mirror_core.specs.Rows.{Rows, rows_of}
 use Rattle.micro_desc.specs.declared.micro.Micro.{Micro}
-use Rattle.mirror_terms.specs.Answers.{CertTally, IsSignedBy, TakesConsensus, TakesEach, no_certs_yet, no_micros_yet, with_micros}
-use Rattle.mirror_terms.specs.Sound.{IsSound}
-use Rattle.mirror_terms.specs.States.{HeldConsensus, KeptCert, Mirrored, named, named_by}
-use Rattle.mirror_laws.proofs.CertLaws.{AreSound, each_taken}
-use Rattle.mirror_laws.proofs.MirrorLaws.{AreRows, consensus_taken, each_micro}
+use Rattle.mirror_core.specs.Answers.{CertTally, IsSignedBy, TakesConsensus, TakesEach, no_certs_yet, no_micros_yet, with_micros}
+use Rattle.mirror_core.specs.Sound.{IsSound}
+use Rattle.mirror_core.specs.States.{HeldConsensus, KeptCert, Mirrored, named, named_by}
+use Rattle.mirror_core.proofs.CertLaws.{AreSound, each_taken}
+use Rattle.mirror_core.proofs.MirrorLaws.{AreRows, consensus_taken, each_micro}
 use Rattle.mirror_core.specs.Lending.{IsMajority}
 use Rattle.mirror_core.proofs.TakenConsensus.{taken}
 

@@ -9,7 +9,7 @@ use Rattle.std.proofs.lemmas.Bool.{ltb-true, ltb-false}
 use Rattle.std.proofs.lemmas.List.{drop_all}
 use Rattle.item_terms.specs.Lines.{lines}
 use Rattle.blank_lines.specs.Blanks.{after_blanks, first_other}
-use Rattle.mirror_terms.specs.Inputs.{AreAll, FailsWith, Stand, StandsAt}
+use Rattle.mirror_core.specs.Inputs.{AreAll, FailsWith, Stand, StandsAt}
 use Rattle.mirror_core.specs.Reads.{FaultAt, IsThere, ReadsAt, RefusesAll}
 
 -- where a line that is not blank follows, bytes are left

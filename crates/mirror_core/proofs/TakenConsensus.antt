@@ -4,12 +4,12 @@ use Rattle.count_terms.specs.Counts.{over}
 use Rattle.key_port.specs.Answers.{Rules}
 use Rattle.consensus_terms.specs.declared.consensus.SignedConsensus.{SignedConsensus}
 use Rattle.detached_sigs.specs.declared.key.SignerKey.{SignerKey}
-use Rattle.micro_shelf.specs.Rows.{Rows, rows_of}
-use Rattle.mirror_terms.specs.declared.refusal.MirrorRefusal.{MirrorRefusal}
-use Rattle.mirror_terms.specs.declared.refusal.MirrorRefusal.TheVariants as refusal
-use Rattle.mirror_terms.specs.Answers.{ConsensusRefused, IsMicrodesc, IsSignedBy, TakesConsensus, held_from, is_after}
-use Rattle.mirror_terms.specs.Signers.{AreSignersOf, keys_of}
-use Rattle.mirror_terms.specs.States.{HeldConsensus, Mirrored, named}
+use Rattle.mirror_core.specs.Rows.{Rows, rows_of}
+use Rattle.mirror_core.specs.declared.terms_refusal.MirrorRefusal.{MirrorRefusal}
+use Rattle.mirror_core.specs.declared.terms_refusal.MirrorRefusal.TheVariants as refusal
+use Rattle.mirror_core.specs.Answers.{ConsensusRefused, IsMicrodesc, IsSignedBy, TakesConsensus, held_from, is_after}
+use Rattle.mirror_core.specs.Signers.{AreSignersOf, keys_of}
+use Rattle.mirror_core.specs.States.{HeldConsensus, Mirrored, named}
 use Rattle.mirror_core.specs.Lending.{IsMajority, IsMinority, IsNoMicrodesc, IsNoSigning, IsNotNewer, IsUnsigned}
 
 -- bytes that are no microdesc consensus

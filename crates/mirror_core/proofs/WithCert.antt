@@ -2,8 +2,8 @@
 use Rattle.std.proofs.Common.{◌≡◌, List, [], ◌∷◌, ◌++◌, refl, sym, ap, ◌∙◌}
 use Rattle.std.proofs.lemmas.List.{append_assoc}
 use Rattle.dir_values.specs.declared.digest.Fingerprint.{Fingerprint}
-use Rattle.mirror_terms.specs.Answers.{with_cert}
-use Rattle.mirror_terms.specs.States.{KeptCert}
+use Rattle.mirror_core.specs.Answers.{with_cert}
+use Rattle.mirror_core.specs.States.{KeptCert}
 use Rattle.mirror_core.specs.Lending.{above, below}
 
 -- those of smaller fingerprints, the new one, and those of greater ones

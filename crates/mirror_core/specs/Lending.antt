@@ -4,15 +4,15 @@ use Rattle.consensus_terms.specs.declared.consensus.SignedConsensus.{SignedConse
 use Rattle.consensus_terms.specs.declared.flavour.Flavour.TheVariants.{Ns}
 use Rattle.consensus_doc.specs.Reading.{consensus_of}
 use Rattle.frame_terms.specs.declared.fault.ReadRefusal.TheVariants as read
-use Rattle.mirror_terms.specs.declared.refusal.MirrorRefusal.{MirrorRefusal}
-use Rattle.mirror_terms.specs.declared.refusal.MirrorRefusal.TheVariants as refusal
+use Rattle.mirror_core.specs.declared.terms_refusal.MirrorRefusal.{MirrorRefusal}
+use Rattle.mirror_core.specs.declared.terms_refusal.MirrorRefusal.TheVariants as refusal
 use Rattle.std.specs.Prelude.{filter, false}
 use Rattle.dir_values.specs.Digests.{identity_below}
 use Rattle.dir_values.specs.declared.digest.Fingerprint.{Fingerprint}
 use Rattle.count_terms.specs.Counts.{over}
 use Rattle.key_port.specs.Answers.{Rules}
-use Rattle.mirror_terms.specs.Answers.{ConsensusRefused}
-use Rattle.mirror_terms.specs.States.{KeptCert, Mirrored, named}
+use Rattle.mirror_core.specs.Answers.{ConsensusRefused}
+use Rattle.mirror_core.specs.States.{KeptCert, Mirrored, named}
 
 -- what is kept of a consensus is what it says
 pub record IsKeptOf (consensus : SignedConsensus) (valid_after : ℕ) (digests : List (List ℕ)) : Type 0 where

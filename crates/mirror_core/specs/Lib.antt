@@ -1,3 +1,15 @@
+pub mod Rows
+pub mod Wanting
+pub mod Laws
+pub mod States
+pub mod Inputs
+pub mod Signers
+pub mod Answers
+pub mod Sound
+pub mod Lists
+pub mod Used
+pub mod Served
+pub mod Bytes
 pub mod Reads
 pub mod Refusals
 pub mod Lending

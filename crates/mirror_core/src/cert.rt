@@ -1,6 +1,6 @@
 // A certificate that is kept.
 ghost use Rattle.std.specs.Prelude.{◌≡◌, ◌++◌, [], ◌∷◌, IfOk, map};
-ghost use Rattle.mirror_terms.specs.Signers as signers;
+ghost use Rattle.mirror_core.specs.Signers as signers;
 
 use authority_certs::Cert;
 use bytes::Bytes;
@@ -17,7 +17,7 @@ pub(crate) struct HeldCert {
 }
 
 impl Model for HeldCert {
-    ghost use Rattle.mirror_terms.specs.States.{KeptCert};
+    ghost use Rattle.mirror_core.specs.States.{KeptCert};
 
     ghost Value = { KeptCert };
 

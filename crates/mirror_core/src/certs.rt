@@ -2,20 +2,21 @@
 ghost use Rattle.std.specs.Prelude.{◌≡◌, ◌≢◌, ◌+◌, ◌-◌, ◌<◌, ◌≤◌, ◌^◌, ◌++◌, [], ◌∷◌, Err, IfOk, OnOk, IfErr, length, option_map};
 ghost use Rattle.dir_bytes.specs.Causes.{Rose};
 ghost use Rattle.key_port.specs.Answers.{rules};
-ghost use Rattle.mirror_terms.specs.Answers as answers;
-ghost use Rattle.mirror_terms.specs.Answers.{TakesCert, TakesChecked, TakesEach};
-ghost use Rattle.mirror_terms.specs.Sound.{CertsAscend};
+ghost use Rattle.mirror_core.specs.Answers as answers;
+ghost use Rattle.mirror_core.specs.Answers.{TakesCert, TakesChecked, TakesEach};
+ghost use Rattle.mirror_core.specs.Sound.{CertsAscend};
 ghost use Rattle.mirror_core.specs.Tallies.{cert_total};
 ghost use Rattle.mirror_core.specs.Lending as lending;
 ghost use Rattle.mirror_core.specs.Lending.{IsNoSigning};
 
 use crate::cert::HeldCert;
+use crate::report::CertReport;
+use crate::terms_refusal::MirrorRefusal;
 use authority_certs::{Cert, CertAnswer, check};
 use bytes::Bytes;
 use dir_bytes::{Memory, Text};
 use dir_values::{Fingerprint, Roster};
 use key_port::Verifier;
-use mirror_terms::{CertReport, MirrorRefusal};
 use std::alloc::Global;
 use std::collections::VecDeque;
 use std::marker::Model;
@@ -28,8 +29,8 @@ pub(crate) struct Tally {
 }
 
 impl Model for Tally {
-    ghost use Rattle.mirror_terms.specs.Answers.{CertTally};
-    ghost use Rattle.mirror_terms.specs.Sound.{CertsAscend};
+    ghost use Rattle.mirror_core.specs.Answers.{CertTally};
+    ghost use Rattle.mirror_core.specs.Sound.{CertsAscend};
 
     ghost Value = { CertTally };
 
@@ -242,7 +243,7 @@ fn kept(report: CertReport) -> CertReport
 }
 
 /// The tally with one certificate more, which is kept.
-#[tactic(auto, using(mirror_laws::proofs::CertLaws::ascends))]
+#[tactic(auto, using(crate::proofs::CertLaws::ascends))]
 fn keep(alloc: Global, tally: &Tally, new: HeldCert) -> Result<Tally, Memory>
     requires { cert_total tally.now.report < 2 ^ 32 - 1 }
     ensures { IfOk result (λ with. with ≡ answers.keeps tally.now new) }

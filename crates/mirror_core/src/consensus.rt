@@ -1,17 +1,17 @@
 // A consensus that a mirror is given.
 ghost use Rattle.std.specs.Prelude.{◌≡◌, ◌<◌, ◌≤◌, ◌^◌, ◌++◌, true, length, map, IfOk, OnOk, IfErr, MatchResult};
 ghost use Rattle.count_terms.specs.Counts as counts;
-ghost use Rattle.mirror_terms.specs.Answers as answers;
-ghost use Rattle.mirror_terms.specs.Answers.{IsMicrodesc};
-ghost use Rattle.mirror_terms.specs.States as states;
+ghost use Rattle.mirror_core.specs.Answers as answers;
+ghost use Rattle.mirror_core.specs.Answers.{IsMicrodesc};
+ghost use Rattle.mirror_core.specs.States as states;
 ghost use Rattle.std.specs.Option.{option_to_list};
 ghost use Rattle.mirror_core.specs.Lending.{IsNoMicrodesc, IsNotNewer};
 
 use crate::refusal::of_read;
+use crate::terms_refusal::MirrorRefusal;
 use consensus_terms::{Flavour, Routerline, SignedConsensus};
 use dir_bytes::Memory;
 use dir_values::Digest2;
-use mirror_terms::MirrorRefusal;
 use std::alloc::Global;
 
 /// The microdesc consensus that the bytes are.

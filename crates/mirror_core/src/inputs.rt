@@ -2,7 +2,7 @@
 ghost use Rattle.std.specs.Prelude.{◌≡◌, ◌<◌, ◌≤◌, ◌^◌, ℕ, List, length, drop, slice_range, MatchResult, IfOk, IfErr};
 ghost use Rattle.std.specs.declared.result.Result.{Result};
 ghost use Rattle.frame_terms.specs.declared.fault.ReadRefusal.{ReadRefusal};
-ghost use Rattle.mirror_terms.specs.Inputs.{AreAll};
+ghost use Rattle.mirror_core.specs.Inputs.{AreAll};
 ghost use Rattle.mirror_core.specs.Reads.{IsWithin, ReadsOne, ReadsAt, RefusesAll};
 
 use blank_lines::{after_blanks, fault_behind};

@@ -1,12 +1,13 @@
 // Microdescriptors that are taken.
 ghost use Rattle.std.specs.Prelude.{◌≡◌, ◌+◌, ◌<◌, ◌≤◌, ◌^◌, ◌-◌, length};
-ghost use Rattle.mirror_terms.specs.Answers as answers;
+ghost use Rattle.mirror_core.specs.Answers as answers;
 ghost use Rattle.mirror_core.specs.Tallies.{total};
 
+use crate::report::MicroReport;
+use crate::shelf::Shelf;
+use crate::taken::Taken;
 use bytes::Bytes;
 use micro_desc::Micro;
-use micro_shelf::{Shelf, Taken};
-use mirror_terms::MicroReport;
 use std::collections::VecDeque;
 
 /// A report with one more.

@@ -2,11 +2,11 @@
 ghost use Rattle.std.specs.Prelude.{◌≡◌, ◌≤◌, ◌<◌, ◌-◌, ◌^◌, Err, IfOk, IfErr, length, map, option_map};
 ghost use Rattle.dir_bytes.specs.Causes.{Rose};
 ghost use Rattle.key_port.specs.Answers.{rules};
-ghost use Rattle.mirror_terms.specs.Answers as answers;
-ghost use Rattle.mirror_terms.specs.Answers.{AnswersCerts, AnswersConsensus, AnswersMicros};
-ghost use Rattle.mirror_terms.specs.Answers.{IsSignedBy};
-ghost use Rattle.mirror_terms.specs.States as states;
-ghost use Rattle.micro_shelf.specs.Rows.{rows_of};
+ghost use Rattle.mirror_core.specs.Answers as answers;
+ghost use Rattle.mirror_core.specs.Answers.{AnswersCerts, AnswersConsensus, AnswersMicros};
+ghost use Rattle.mirror_core.specs.Answers.{IsSignedBy};
+ghost use Rattle.mirror_core.specs.States as states;
+ghost use Rattle.mirror_core.specs.Rows.{rows_of};
 ghost use Rattle.mirror_core.specs.Lending.{IsMajority, IsMinority, IsUnsigned};
 
 use crate::cert::HeldCert;
@@ -17,15 +17,17 @@ use crate::inputs::read_all;
 use crate::kinds::{Certs, Micros};
 use crate::micros::take_each;
 use crate::refusal::of_read;
+use crate::report::{CertReport, MicroReport};
+use crate::shelf::Shelf;
 use crate::signing::signers_of;
+use crate::terms_refusal::MirrorRefusal;
+use crate::wanting::wanted;
 use bytes::Bytes;
 use consensus_terms::SignedConsensus;
 use detached_sigs::SignerKey;
 use dir_bytes::Memory;
 use dir_values::{Digest2, Roster};
 use key_port::Verifier;
-use micro_shelf::{Shelf, wanted};
-use mirror_terms::{CertReport, MicroReport, MirrorRefusal};
 use std::alloc::Global;
 use std::marker::{Model, PhantomData};
 use std::snapshot::Snapshot;
@@ -50,9 +52,9 @@ pub struct Mirror<V: Verifier> {
 }
 
 impl<V: Verifier> Model for Mirror<V> {
-    ghost use Rattle.mirror_terms.specs.States.{Mirrored};
+    ghost use Rattle.mirror_core.specs.States.{Mirrored};
     ghost use Rattle.key_port.specs.Answers.{rules};
-    ghost use Rattle.mirror_terms.specs.Sound.{IsSound};
+    ghost use Rattle.mirror_core.specs.Sound.{IsSound};
 
     ghost Value = { Mirrored };
 

@@ -2,8 +2,8 @@
 ghost use Rattle.std.specs.Prelude.{◌≡◌};
 ghost use Rattle.mirror_core.specs.Refusals as refusals;
 
+use crate::terms_refusal::MirrorRefusal;
 use frame_terms::ReadRefusal;
-use mirror_terms::MirrorRefusal;
 
 /// A document that was not read.
 pub(crate) fn of_read(refusal: ReadRefusal) -> MirrorRefusal

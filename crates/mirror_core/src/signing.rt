@@ -2,18 +2,18 @@
 ghost use Rattle.std.specs.Prelude.{◌≡◌, ◌≢◌, ◌≤◌, ◌<◌, ◌++◌, [], ◌∷◌, Err, IfOk, OnOk, MatchResult};
 ghost use Rattle.dir_bytes.specs.Causes.{Rose};
 ghost use Rattle.key_port.specs.Answers.{rules};
-ghost use Rattle.mirror_terms.specs.Signers as signers;
-ghost use Rattle.mirror_terms.specs.Signers.{AreSignersOf};
-ghost use Rattle.mirror_terms.specs.Sound.{CertsAscend};
+ghost use Rattle.mirror_core.specs.Signers as signers;
+ghost use Rattle.mirror_core.specs.Signers.{AreSignersOf};
+ghost use Rattle.mirror_core.specs.Sound.{CertsAscend};
 ghost use Rattle.mirror_core.specs.Lending.{IsNoSigning};
 
 use crate::cert::{HeldCert, keys_of};
+use crate::terms_refusal::MirrorRefusal;
 use consensus_terms::{SignatureLine, SignedConsensus};
 use detached_sigs::{SignerKey, signers_among};
 use dir_bytes::Memory;
 use frame_values::between;
 use key_port::Verifier;
-use mirror_terms::MirrorRefusal;
 use sha2::{Digest, Sha256};
 use std::alloc::Global;
 

@@ -1,12 +1,12 @@
 -- A mirror lacks fewer microdescriptors after a batch of which one was kept.
 use Rattle.std.proofs.Common.{◌≡◌, ℕ, ◌+◌, ◌<◌, ◌≤◌, List, [], ◌∷◌, refl, sym, ap, subst, arith}
 use Rattle.micro_desc.specs.declared.micro.Micro.{Micro}
-use Rattle.micro_shelf.specs.Rows.{rows_by, taking}
-use Rattle.micro_shelf.specs.declared.taken.Taken.{Taken}
-use Rattle.micro_shelf.specs.declared.taken.Taken.TheVariants as taken
-use Rattle.mirror_terms.specs.Answers.{MicroTally, TakesMicros, counted, no_micros_yet, with_micro, with_micros}
-use Rattle.mirror_terms.specs.States.{Mirrored}
-use Rattle.mirror_terms.specs.declared.report.MicroReport.{MicroReport}
+use Rattle.mirror_core.specs.Rows.{rows_by, taking}
+use Rattle.mirror_core.specs.declared.taken.Taken.{Taken}
+use Rattle.mirror_core.specs.declared.taken.Taken.TheVariants as taken
+use Rattle.mirror_core.specs.Answers.{MicroTally, TakesMicros, counted, no_micros_yet, with_micro, with_micros}
+use Rattle.mirror_core.specs.States.{Mirrored}
+use Rattle.mirror_core.specs.declared.report.MicroReport.{MicroReport}
 use Rattle.mirror_daemon.specs.Lacking.{lacking, rows_lacking}
 use Rattle.mirror_daemon.proofs.Rows.{kept_fewer}
 

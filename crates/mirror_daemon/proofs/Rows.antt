@@ -9,9 +9,9 @@ use Rattle.std.specs.Ordering.{is_eq, match_ordering, nat_cmp}
 use Rattle.std.specs.declared.cmp.Ordering.{Ordering}
 use Rattle.std.specs.declared.cmp.Ordering.TheVariants.{Less, Equal, Greater}
 use Rattle.sha2.specs.Sha256.{sha256}
-use Rattle.micro_shelf.specs.Rows.{Rows, row_of, taken_by, taking, with_row}
-use Rattle.micro_shelf.specs.declared.taken.Taken.TheVariants as taken
-use Rattle.micro_shelf.proofs.RowLaws.{row_more}
+use Rattle.mirror_core.specs.Rows.{Rows, row_of, taken_by, taking, with_row}
+use Rattle.mirror_core.specs.declared.taken.Taken.TheVariants as taken
+use Rattle.mirror_core.proofs.RowLaws.{row_more}
 use Rattle.mirror_daemon.specs.Lacking.{has_no_text, is_lacking, rows_lacking, rows_where}
 
 abbrev finds : List ℕ → List ℕ → Bool

@@ -1,3 +1,7 @@
+pub mod CommandLine
+pub mod Words
+pub mod Lending
+pub mod Lines
 pub mod Paths
 pub mod Asking
 pub mod Lacking

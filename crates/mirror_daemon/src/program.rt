@@ -1,17 +1,18 @@
 // The program of a mirror over what stands outside.
 ghost use Rattle.std.specs.Prelude.{◌≡◌, Some};
-ghost use Rattle.mirror_words.specs.Lines.{Writes, line_of};
-ghost use Rattle.mirror_words.specs.Words.{mirror_words};
+ghost use Rattle.mirror_daemon.specs.Lines.{Writes, line_of};
+ghost use Rattle.mirror_daemon.specs.Words.{mirror_words};
 ghost use Rattle.mirror_daemon.specs.Runs.{IsRun, IsUntouched, LeavesAll};
 
 use crate::keeping::keep_mirror;
 use crate::outside::MirrorOutside;
+use crate::status::{MirrorStatus, report};
+use crate::words::{MirrorWords, mirror_words_of};
 use dir_bytes::{Clock, Sink};
 use dir_http::{Gate, Link, ListenAnswer};
 use gate_workers::End;
 use key_port::Verifier;
 use mirror_core::Mirror;
-use mirror_words::{MirrorStatus, MirrorWords, mirror_words_of, report};
 use std::alloc::Global;
 use std::sync::Wait;
 

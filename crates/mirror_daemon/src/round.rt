@@ -1,7 +1,7 @@
 // What a mirror asks its peers for, and takes.
 ghost use Rattle.std.specs.Prelude.{◌≡◌, ◌<◌, ◌≤◌, true};
 ghost use Rattle.key_port.specs.Answers.{rules};
-ghost use Rattle.mirror_terms.specs.States.{Mirrored};
+ghost use Rattle.mirror_core.specs.States.{Mirrored};
 ghost use Rattle.mirror_daemon.specs.Asking.{IsWithin};
 ghost use Rattle.mirror_daemon.specs.Keeping.{ComesOf};
 ghost use Rattle.mirror_daemon.specs.Lacking.{lacking};

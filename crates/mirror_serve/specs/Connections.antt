@@ -2,12 +2,12 @@
 use Rattle.std.specs.Prelude.{◌≡◌, ◌≢◌, ℕ, List, Option, Some, None}
 use Rattle.dir_bytes.specs.Causes.{Rose}
 use Rattle.http_words.specs.declared.asked.Asked.{Asked}
-use Rattle.http_answers.specs.declared.connection.ConnStatus.{ConnStatus}
-use Rattle.http_answers.specs.declared.connection.ConnStatus.TheVariants as status
-use Rattle.http_answers.specs.declared.outcome.Outcome.{Outcome}
-use Rattle.http_answers.specs.Connections.{Handles, Answers, Breaks, TriesShortage}
-use Rattle.http_answers.specs.Outcomes.{code_of}
-use Rattle.mirror_terms.specs.States.{Mirrored}
+use Rattle.http_words.specs.declared.connection.ConnStatus.{ConnStatus}
+use Rattle.http_words.specs.declared.connection.ConnStatus.TheVariants as status
+use Rattle.http_words.specs.declared.outcome.Outcome.{Outcome}
+use Rattle.http_words.specs.Connections.{Handles, Answers, Breaks, TriesShortage}
+use Rattle.http_words.specs.Outcomes.{code_of}
+use Rattle.mirror_core.specs.States.{Mirrored}
 use Rattle.mirror_serve.specs.Given.{outcome_of}
 
 -- what comes of what is asked for is what the mirror gives, whatever the body is

@@ -8,11 +8,11 @@ use Rattle.http_words.specs.declared.asked.Asked.TheVariants as asked
 use Rattle.http_words.specs.declared.asked.Form.TheVariants as form
 use Rattle.http_words.specs.declared.replies.Reply.{Reply}
 use Rattle.http_words.specs.declared.replies.Reply.TheVariants as reply
-use Rattle.http_answers.specs.Found.{unless_empty}
-use Rattle.http_answers.specs.declared.outcome.Outcome.{Outcome}
-use Rattle.http_answers.specs.declared.outcome.Outcome.TheVariants.{Replied, Found}
-use Rattle.mirror_terms.specs.Answers.{certs_text, consensus_text, micro_with}
-use Rattle.mirror_terms.specs.States.{Mirrored}
+use Rattle.http_words.specs.Found.{unless_empty}
+use Rattle.http_words.specs.declared.outcome.Outcome.{Outcome}
+use Rattle.http_words.specs.declared.outcome.Outcome.TheVariants.{Replied, Found}
+use Rattle.mirror_core.specs.Answers.{certs_text, consensus_text, micro_with}
+use Rattle.mirror_core.specs.States.{Mirrored}
 
 -- the bytes of a microdescriptor, or none
 abbrev pub bytes_if : Option (List ℕ) → List ℕ

@@ -2,14 +2,13 @@
 ghost use Rattle.std.specs.Prelude.{◌≡◌, ◌≢◌, ◌++◌, IfOk, OnOk};
 ghost use Rattle.http_words.specs.DigestLists.{digest_list};
 ghost use Rattle.http_words.specs.Replies.{code_of as code_of_reply};
-ghost use Rattle.http_answers.specs.Outcomes.{code_of};
-ghost use Rattle.mirror_terms.specs.Answers.{consensus_text, micro_with};
+ghost use Rattle.http_words.specs.Outcomes.{code_of};
+ghost use Rattle.mirror_core.specs.Answers.{consensus_text, micro_with};
 ghost use Rattle.mirror_serve.specs.Given as given;
 
 use dir_bytes::{Memory, Text};
 use dir_values::Digest2;
-use http_answers::{Outcome, behind, unless_empty};
-use http_words::{Asked, Form, Reply, read_digests};
+use http_words::{Asked, Form, Outcome, Reply, behind, read_digests, unless_empty};
 use key_port::Verifier;
 use mirror_core::Mirror;
 use std::alloc::Global;

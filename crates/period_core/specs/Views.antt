@@ -4,8 +4,8 @@ use Rattle.consensus_terms.specs.declared.consensus.Consensus.{Consensus}
 use Rattle.consensus_terms.specs.declared.flavour.Flavour.TheVariants.{Ns, Microdesc}
 use Rattle.period_terms.specs.declared.state.State.{State}
 use Rattle.period_terms.specs.States.{digest_of}
-pub use Rattle.signature_terms.specs.Keys.{signer_key}
-use Rattle.signature_terms.specs.declared.view.PeriodView.{PeriodView}
+pub use Rattle.period_terms.specs.Keys.{signer_key}
+use Rattle.period_terms.specs.declared.view.PeriodView.{PeriodView}
 
 -- what signatures over a consensus are checked against
 abbrev pub view_over : State → Consensus → PeriodView

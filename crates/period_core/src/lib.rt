@@ -19,5 +19,5 @@ mod view;
 mod weighing;
 
 pub use made::Made;
-pub use signature_terms::{CheckedSig, PeriodView};
+pub use period_terms::{CheckedSig, PeriodView};
 pub use station::{StartFault, Station};

@@ -13,9 +13,8 @@ use crate::station::Station;
 use consensus_terms::{Flavour, SignatureLine};
 use dir_bytes::{Memory, Text};
 use dir_values::Fingerprint;
-use held_lines::own_line;
 use key_port::{Signer, Verifier};
-use period_terms::{Advance, ShortBytes};
+use period_terms::{Advance, ShortBytes, own_line};
 use std::alloc::Global;
 
 /// What comes of the authority's own signing.

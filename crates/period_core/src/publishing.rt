@@ -13,9 +13,8 @@ use crate::station::Station;
 use consensus_terms::{Flavour, SignatureLine};
 use consensus_text::write_signed;
 use dir_bytes::{Memory, Text};
-use held_lines::{put_line, signers_in};
 use key_port::Verifier;
-use period_terms::{Advance, ChangeKind, ShortBytes, Stage};
+use period_terms::{Advance, ChangeKind, ShortBytes, Stage, put_line, signers_in};
 use std::alloc::Global;
 
 /// The text with signatures behind it, where it is wanted.

@@ -12,8 +12,7 @@ use crate::weighing::Weighed;
 use consensus_terms::{Flavour, SignatureLine};
 use dir_values::Fingerprint;
 use key_port::Verifier;
-use period_terms::{ChangeKind, ShortBytes, SignIn};
-use signature_terms::CheckedSig;
+use period_terms::{ChangeKind, CheckedSig, ShortBytes, SignIn};
 use vote_doc::Accepted;
 
 /// Whether a held vote has this authority and this signing key.

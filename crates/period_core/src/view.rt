@@ -8,7 +8,7 @@ use detached_sigs::SignerKey;
 use dir_bytes::{Memory, Seq, Text};
 use dir_values::{Digest1, Digest2};
 use key_port::Verifier;
-use signature_terms::PeriodView;
+use period_terms::PeriodView;
 use std::alloc::Global;
 use vote_doc::{Accepted, Vote};
 

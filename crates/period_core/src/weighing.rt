@@ -7,10 +7,8 @@ use crate::signing_in::has_key;
 use crate::station::Station;
 use consensus_terms::Flavour;
 use dir_values::Fingerprint;
-use held_lines::has_line;
 use key_port::Verifier;
-use period_terms::{ShortBytes, SignIn, Stage};
-use signature_terms::CheckedSig;
+use period_terms::{CheckedSig, ShortBytes, SignIn, Stage, has_line};
 
 /// What is told of an offered signature.
 #[derive(Drop)]

@@ -20,7 +20,7 @@ use Rattle.detached_sigs.specs.Signers.{AreSigners, CountsSigners, is_line_of, i
 use Rattle.period_terms.specs.declared.state.State.{State}
 use Rattle.period_terms.specs.States.{digest_of, lines_of, has_line}
 use Rattle.period_terms.specs.Histories.{run, accepted}
-use Rattle.signature_terms.specs.Keys.{signer_key}
+use Rattle.period_terms.specs.Keys.{signer_key}
 use Rattle.period_laws.specs.Checked.{IsChecked, SignersAreCounted}
 use Rattle.period_laws.proofs.Accepted.{are_held, are_wanted, roster_stays}
 use Rattle.period_laws.proofs.Backed.{NamesIt, Counts, named}

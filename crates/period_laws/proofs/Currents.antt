@@ -28,7 +28,7 @@ use Rattle.period_terms.specs.SignIns.{sign_in}
 use Rattle.period_terms.specs.Steps.{step}
 use Rattle.period_terms.specs.Readings.{current_of}
 use Rattle.period_terms.specs.Histories.{IsStart, IsHistory, run, after}
-use Rattle.signature_terms.specs.Keys.{signer_key}
+use Rattle.period_terms.specs.Keys.{signer_key}
 use Rattle.period_laws.specs.Periods.{IsAccepted}
 use Rattle.period_laws.specs.Checked.{IsChecked, AreChecked, anything, events_of}
 use Rattle.period_laws.specs.Publications.{of_flavour, PublishNone, moved, MayPublish, WasPublished}

@@ -13,7 +13,7 @@ use Rattle.consensus_terms.specs.declared.signature.SignatureLine.{SignatureLine
 use Rattle.detached_sigs.specs.declared.key.SignerKey.{SignerKey}
 use Rattle.detached_sigs.specs.Signers.{AreApart}
 use Rattle.period_terms.specs.States.{has_line}
-use Rattle.signature_terms.specs.Keys.{signer_key}
+use Rattle.period_terms.specs.Keys.{signer_key}
 use Rattle.period_laws.proofs.Members.{In, in_to, found}
 
 -- of each member of a list, in the list

@@ -17,7 +17,7 @@ use Rattle.period_terms.specs.Advances.{MayGiveAt}
 use Rattle.period_terms.specs.States.{lines_of, digest_of, signers}
 use Rattle.period_terms.specs.Histories.{IsStart, IsHistory, run, after, entry_if, accepted}
 use Rattle.period_terms.specs.Steps.{step}
-use Rattle.signature_terms.specs.Keys.{signer_key}
+use Rattle.period_terms.specs.Keys.{signer_key}
 use Rattle.period_laws.specs.Periods.{Along}
 
 -- ---- what was checked

@@ -24,7 +24,7 @@ use Rattle.period_terms.specs.declared.state.State.{State}
 use Rattle.period_terms.specs.Readings.{current_of}
 use Rattle.period_terms.specs.States.{lines_of, digest_of, signers}
 use Rattle.period_terms.specs.Histories.{IsStart, after, accepted}
-use Rattle.signature_terms.specs.Keys.{signer_key}
+use Rattle.period_terms.specs.Keys.{signer_key}
 use Rattle.period_laws.specs.Periods.{IsAccepted}
 use Rattle.period_laws.specs.Checked.{IsCheckedHistory, events_of}
 

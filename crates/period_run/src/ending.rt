@@ -1,5 +1,6 @@
 // What an authority holds at the end: its changes, and its documents.
 use anyhow::{Result, bail};
+use checked_sigs::next_signatures;
 use consensus_terms::Flavour;
 use dir_bytes::Text;
 use dir_values::Fingerprint;
@@ -8,7 +9,6 @@ use key_port::TestKeys;
 use period_core::Station;
 use period_terms::{Change, ChangeKind, Name};
 use sha2::{Digest, Sha256};
-use signature_document::next_signatures;
 use std::alloc::{AllocError, Global};
 
 // The name of a kind of changes.

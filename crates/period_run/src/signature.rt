@@ -9,7 +9,7 @@ use dir_values::{Digest1, Digest2};
 use hex::encode_upper;
 use key_port::TestKeys;
 use period_core::Station;
-use signature_terms::{CheckedSig, PeriodView};
+use period_terms::{CheckedSig, PeriodView};
 use std::alloc::{AllocError, Global};
 
 /// The two digests that are signed.

@@ -7,3 +7,6 @@ pub mod Readings
 pub mod Steps
 pub mod Histories
 pub mod KeptFacts
+pub mod Dropping
+pub mod Offered
+pub mod Keys

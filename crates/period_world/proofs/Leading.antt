@@ -6,7 +6,7 @@ use Rattle.key_port.specs.Answers.{Relation, Rules}
 use Rattle.period_terms.specs.declared.answer.Answer.{Answer}
 use Rattle.period_terms.specs.declared.state.State.{State}
 use Rattle.period_laws.specs.Worlds.{World}
-use Rattle.period_calls.specs.Calls.{Arrival, TakesOne}
+use Rattle.period_world.specs.Calls.{Arrival, TakesOne}
 use Rattle.period_world.specs.WorldCalls.{LeadsOn}
 
 pub leads_on : (may_give : Relation) (rules : Rules) (old new : State) (coming : Arrival) (answer : Answer)

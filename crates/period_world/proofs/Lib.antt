@@ -1,3 +1,5 @@
+pub mod Chains
+pub mod Starts
 pub mod Beginning
 pub mod Leading
 pub mod Reaching

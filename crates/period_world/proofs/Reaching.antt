@@ -9,8 +9,8 @@ use Rattle.period_terms.specs.States.{Outcome}
 use Rattle.period_terms.specs.Steps.{step}
 use Rattle.period_laws.specs.Worlds as w
 use Rattle.period_laws.specs.Worlds.{World, WorldEvent, At, Elsewhere, SignedDigest, may_come}
-use Rattle.period_calls.specs.declared.coming.Coming.TheVariants as comings
-use Rattle.period_calls.specs.Calls.{Arrival, IsEvent}
+use Rattle.period_world.specs.declared.coming.Coming.TheVariants as comings
+use Rattle.period_world.specs.Calls.{Arrival, IsEvent}
 use Rattle.period_world.specs.WorldCalls.{Call, Happening, Called, Alone, may_arrive, IsCall, called, LeadsTo}
 use Rattle.period_world.specs.WorldCalls.{CallsAreWorlds}
 

@@ -9,8 +9,8 @@ use Rattle.key_port.specs.Answers.{Relation, Rules}
 use Rattle.period_terms.specs.declared.answer.Answer.{Answer}
 use Rattle.period_terms.specs.declared.state.State.{State}
 use Rattle.period_laws.specs.Worlds.{World, SignedDigest}
-use Rattle.period_calls.specs.Calls.{Arrival, TakesOne, TakesAll}
-use Rattle.period_calls.proofs.Chains.{one_more}
+use Rattle.period_world.specs.Calls.{Arrival, TakesOne, TakesAll}
+use Rattle.period_world.proofs.Chains.{one_more}
 use Rattle.period_world.specs.WorldCalls.{Call, Happening, Called, Alone, IsCall, LeadsTo, Lead, arrivals_at}
 use Rattle.period_world.specs.WorldCalls.{answers_at, StationsTakeAll}
 

@@ -10,8 +10,8 @@ use Rattle.vote_schedule.specs.Schedules.{Schedule}
 use Rattle.period_core.specs.Starting.{Starts}
 use Rattle.period_laws.specs.Worlds.{World, WorldEvent, SignedDigest, signed_by, is_among, moved, signed_elsewhere}
 use Rattle.period_laws.specs.Worlds.{run_world, IsWorldStart}
-use Rattle.period_calls.specs.declared.coming.Coming.TheVariants.{Vote, Moment, Signature}
-use Rattle.period_calls.specs.Calls.{Arrival, TakesOne, TakesAll}
+use Rattle.period_world.specs.declared.coming.Coming.TheVariants.{Vote, Moment, Signature}
+use Rattle.period_world.specs.Calls.{Arrival, TakesOne, TakesAll}
 
 -- a call at the station of a member: what came, the answer, and the state after it
 pub record Call : Type 0 where

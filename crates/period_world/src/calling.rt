@@ -3,12 +3,12 @@ ghost use Rattle.std.specs.Prelude.{◌≡◌, IfOk, OnErr};
 ghost use Rattle.key_port.specs.Answers.{rules};
 ghost use Rattle.period_world.specs.WorldCalls.{LeadsOn};
 
+use crate::coming::Coming;
+use crate::receiving::take;
 use dir_bytes::Memory;
 use key_port::{Signer, Verifier};
-use period_calls::{Coming, take};
 use period_core::Station;
-use period_terms::Answer;
-use signature_terms::CheckedSig;
+use period_terms::{Answer, CheckedSig};
 use std::alloc::Global;
 use vote_doc::CheckedVote;
 

@@ -6,8 +6,8 @@ use Rattle.base64.specs.GeneralPurpose.{IsBytes}
 use Rattle.dir_bytes.specs.FieldTexts.{hex_text}
 use Rattle.dirdoc_grammar.specs.Writers.{is_argument}
 use Rattle.dirdoc_grammar.specs.Writing.{IsLineRest}
-use Rattle.dirdoc_laws.proofs.LineRests.{rest_of_argument, rest_of_nothing}
-use Rattle.dirdoc_laws.specs.Written.{IsItem}
+use Rattle.grammar_laws.proofs.LineRests.{rest_of_argument, rest_of_nothing}
+use Rattle.grammar_laws.specs.Written.{IsItem}
 use Rattle.frame_terms.specs.declared.keyword.Keyword.{Keyword}
 use Rattle.frame_terms.specs.declared.keyword.Keyword.TheVariants as the
 use Rattle.frame_values.specs.Items.{bare, item_if, timed, with_object}

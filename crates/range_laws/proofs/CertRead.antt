@@ -5,7 +5,7 @@ use Rattle.std.proofs.lemmas.List.Elements.{All-head, All-tail}
 use Rattle.item_terms.specs.Faults.{max_object}
 use Rattle.dirdoc_grammar.specs.Bodies.{object_text}
 use Rattle.dirdoc_grammar.specs.Writing.{AreWritable, IsWritableObject, NewItem, NewObject, item_text}
-use Rattle.dirdoc_laws.specs.Written.{AreWithinLimits, IsItem, IsObject}
+use Rattle.grammar_laws.specs.Written.{AreWithinLimits, IsItem, IsObject}
 use Rattle.authority_certs.specs.Certs.{cert_in}
 use Rattle.authority_certs.specs.Heads.{head_with, no_head}
 use Rattle.authority_certs.specs.Reading.{max_cert, with_cert}

@@ -28,9 +28,9 @@ use Rattle.vote_frame.specs.declared.frame.VoteSection.TheVariants as section
 use Rattle.vote_frame.specs.declared.frame.VoteValue.{VoteValue}
 use Rattle.vote_frame.specs.declared.frame.VoteValue.TheVariants as own
 use Rattle.vote_entries.specs.Saying.{ed_in, ed_of_value}
-use Rattle.table_laws.specs.Items.{IsItemOf}
-use Rattle.table_laws.proofs.Openers.{row_of-one, row_of-same}
-use Rattle.table_laws.proofs.Rules.{Rules, holds}
+use Rattle.document_laws.specs.Items.{IsItemOf}
+use Rattle.document_laws.proofs.Openers.{row_of-one, row_of-same}
+use Rattle.document_laws.proofs.Rules.{Rules, holds}
 use Rattle.range_laws.proofs.EntryRoom.{VoteGroup}
 use Rattle.range_laws.proofs.Noting.{HasKey, IsKeyOf, key_noted, keys_stay}
 use Rattle.range_laws.proofs.VoteStands.{VoteTaken, only_certificates}

@@ -24,7 +24,7 @@ use Rattle.relay_entries.specs.declared.said.Bandwidths.{Bandwidths}
 use Rattle.relay_entries.specs.declared.said.EdOpinion.{EdOpinion}
 use Rattle.relay_entries.specs.declared.said.EdOpinion.TheVariants as opinion
 use Rattle.relay_entries.specs.declared.said.MicroLine.{MicroLine}
-use Rattle.entry_laws.specs.Ranges.{AreBandwidthsInRange, AreThirtyTwo, IsOpinionInRange}
+use Rattle.group_laws.specs.Ranges.{AreBandwidthsInRange, AreThirtyTwo, IsOpinionInRange}
 use Rattle.row_laws.proofs.ItemArguments.{AreFound, IsSound, are_found, others_found}
 use Rattle.row_laws.proofs.ReadBytes.{base64_bytes, bytes_drop}
 use Rattle.row_laws.proofs.ReadSteps.{ReadAs, any_reads, field_reads, next_reads, number_within, found_bytes}

@@ -13,8 +13,8 @@ use Rattle.vote_frame.specs.Tables.{vote_tables}
 use Rattle.vote_frame.specs.declared.frame.VoteSection.{VoteSection}
 use Rattle.vote_frame.specs.declared.frame.VoteSection.TheVariants as section
 use Rattle.vote_frame.specs.declared.frame.VoteValue.{VoteValue}
-use Rattle.table_laws.specs.Items.{IsItemOf}
-use Rattle.table_laws.proofs.Rules.{Rules, holds}
+use Rattle.document_laws.specs.Items.{IsItemOf}
+use Rattle.document_laws.proofs.Rules.{Rules, holds}
 use Rattle.range_laws.proofs.Noting.{counted, opener_relay}
 use Rattle.range_laws.proofs.VoteStands.{VoteTaken, only_certificates}
 

@@ -28,7 +28,7 @@ use Rattle.list_values.specs.Parts.{is_comma, parts_of}
 use Rattle.relay_entries.specs.Fields.{methods_in}
 use Rattle.relay_entries.specs.declared.said.EntryKind.TheVariants as entry
 use Rattle.relay_entries.specs.declared.said.EntryValue.TheVariants as entry_said
-use Rattle.entry_laws.specs.Ranges.{AreBandwidthsInRange, AreMethodsInRange, IsAddressInRange, IsOpinionInRange}
+use Rattle.group_laws.specs.Ranges.{AreBandwidthsInRange, AreMethodsInRange, IsAddressInRange, IsOpinionInRange}
 use Rattle.vote_frame.specs.Tables.{vote_tables}
 use Rattle.vote_frame.specs.declared.frame.VoteKind.TheVariants as kind
 use Rattle.vote_frame.specs.declared.frame.VoteSection.TheVariants as section
@@ -40,7 +40,7 @@ use Rattle.vote_entries.specs.Saying.{addresses_in, bandwidths_in, bandwidths_of
 use Rattle.vote_entries.specs.Saying.{micro_with, micros_in, onto_if, relay_in, relay_of_value}
 use Rattle.vote_entries.specs.declared.row.KeptMicro.{KeptMicro}
 use Rattle.vote_laws.specs.Again.{IsEntryInRange, IsMicroInRange}
-use Rattle.table_laws.specs.Order.{BeginsWithOpener}
+use Rattle.document_laws.specs.Order.{BeginsWithOpener}
 use Rattle.row_laws.proofs.ReadSteps.{number_within}
 use Rattle.range_laws.proofs.ValueTexts.{TextIs, text_ranged}
 use Rattle.range_laws.proofs.EntryReads.{HasDigest}

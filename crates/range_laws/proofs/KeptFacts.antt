@@ -9,8 +9,8 @@ use Rattle.dir_values.specs.Numbers.{number_in, numbers_in}
 use Rattle.dir_values.proofs.Flags.{Ascend-as_set}
 use Rattle.frame_values.specs.Parts.{part}
 use Rattle.frame_values.specs.declared.found.Span.{Span}
-use Rattle.list_laws.specs.Ranges.{AreProtocolsInRange, AreVersionsInRange}
-use Rattle.list_lines.specs.Listed.{params_in, protocols_in, versions_in}
+use Rattle.value_laws.specs.Ranges.{AreProtocolsInRange, AreVersionsInRange}
+use Rattle.value_groups.specs.Listed.{params_in, protocols_in, versions_in}
 use Rattle.vote_entries.specs.Entries.{entry_in}
 use Rattle.vote_doc.specs.Facts.{facts_of}
 use Rattle.vote_doc.specs.Lists.{vote_lists}

@@ -18,10 +18,10 @@ use Rattle.frame_values.specs.Values.{item_at, text_if}
 use Rattle.frame_values.specs.declared.found.DirSource.{DirSource}
 use Rattle.frame_values.specs.declared.found.Span.{Span}
 use Rattle.frame_values.specs.declared.values.Value.{Value}
-use Rattle.random_lines.specs.declared.line.RandomLine.{RandomLine}
-use Rattle.random_lines.specs.declared.line.RandomLine.TheVariants as line
-use Rattle.random_lines.specs.declared.value.SharedRandom.{SharedRandom}
-use Rattle.line_laws.specs.Again.{IsRandomInRange}
+use Rattle.value_groups.specs.declared.line.RandomLine.{RandomLine}
+use Rattle.value_groups.specs.declared.line.RandomLine.TheVariants as line
+use Rattle.value_groups.specs.declared.value.SharedRandom.{SharedRandom}
+use Rattle.group_laws.specs.LineAgain.{IsRandomInRange}
 use Rattle.authority_certs.specs.Certs.{cert_in}
 use Rattle.certificate_laws.specs.Again.{SaysInRange}
 use Rattle.vote_frame.specs.Across.{keyword_of}
@@ -35,7 +35,7 @@ use Rattle.vote_doc.specs.Kept.{kept_with, none_kept}
 use Rattle.vote_doc.specs.Saying.{random_in, signature_in}
 use Rattle.vote_doc.specs.declared.head.Head.{Head}
 use Rattle.vote_doc.specs.declared.kept.Kept.{Kept}
-use Rattle.table_laws.specs.Order.{BeginsWithOpener}
+use Rattle.document_laws.specs.Order.{BeginsWithOpener}
 use Rattle.row_laws.proofs.ReadBytes.{twenty_zeros}
 use Rattle.range_laws.proofs.CertRanges.{HaveCertificates, nothing_says, section_says}
 use Rattle.range_laws.proofs.ValueTexts.{TextIs, text_ranged}

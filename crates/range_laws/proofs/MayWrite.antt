@@ -7,14 +7,14 @@ use Rattle.base64.specs.GeneralPurpose.{IsBytes}
 use Rattle.dir_bytes.specs.FieldTexts.{clock_text, date_text, moment_text}
 use Rattle.item_terms.specs.Words.{are_words, first_is, is_letter_or_digit, is_word_byte}
 use Rattle.dirdoc_grammar.specs.Writing.{IsLineRest, NewItem}
-use Rattle.dirdoc_laws.specs.Written.{IsItem}
+use Rattle.grammar_laws.specs.Written.{IsItem}
 use Rattle.frame_terms.specs.Keywords.{text_of}
 use Rattle.frame_terms.specs.declared.keyword.Keyword.{Keyword}
 use Rattle.frame_terms.specs.declared.keyword.Keyword.TheVariants.{NetworkStatusVersion}
 use Rattle.frame_values.specs.Items.{bare, item_if, timed, with_object}
 use Rattle.frame_values.specs.Parts.{moment_of}
 use Rattle.frame_laws.proofs.WordTexts.{two_words, word_of_clock, word_of_date}
-use Rattle.list_laws.proofs.LineWords.{rest_of_words}
+use Rattle.value_laws.proofs.LineWords.{rest_of_words}
 
 -- ---- keywords
 

@@ -20,9 +20,9 @@ use Rattle.frame_terms.specs.declared.row.Count.TheVariants.{One}
 use Rattle.frame_terms.specs.declared.row.Limit.TheVariants.{Entries}
 use Rattle.frame_values.specs.declared.values.Value.{Value}
 use Rattle.frame_values.specs.declared.values.Value.TheVariants as value
-use Rattle.random_lines.specs.declared.line.RandomLine.{RandomLine}
-use Rattle.random_lines.specs.declared.line.RandomLine.TheVariants as random_line
-use Rattle.random_lines.specs.declared.value.SharedRandom.{SharedRandom}
+use Rattle.value_groups.specs.declared.line.RandomLine.{RandomLine}
+use Rattle.value_groups.specs.declared.line.RandomLine.TheVariants as random_line
+use Rattle.value_groups.specs.declared.value.SharedRandom.{SharedRandom}
 use Rattle.frame_laws.proofs.KnownWords.{same-sym}
 use Rattle.relay_entries.specs.Lines.{ed_of, micro_of, relay_of}
 use Rattle.relay_entries.specs.Listing.{fault_at, is_next, with_key, with_relay}
@@ -45,7 +45,7 @@ use Rattle.vote_frame.specs.declared.frame.VoteValue.{VoteValue}
 use Rattle.vote_frame.specs.declared.frame.VoteValue.TheVariants as own
 use Rattle.vote_laws.proofs.EntryNotes.{knowing}
 use Rattle.vote_laws.proofs.Heard.{is_quiet, kinds_pass}
-use Rattle.table_laws.specs.Items.{IsItemOf}
+use Rattle.document_laws.specs.Items.{IsItemOf}
 use Rattle.row_laws.proofs.ReadSteps.{any_reads, no_fault, was_read}
 use Rattle.row_laws.proofs.Saying.{by_own_row}
 use Rattle.range_laws.proofs.EntrySays.{lifted_reads}

@@ -10,12 +10,12 @@ use Rattle.frame_values.specs.Arguments.{arguments_of, field, front, next, other
 use Rattle.frame_values.specs.Values.{own_of_value}
 use Rattle.frame_values.specs.declared.values.Value.{Value}
 use Rattle.frame_values.specs.declared.values.Value.TheVariants as value
-use Rattle.random_lines.specs.Lines.{random_of}
-use Rattle.random_lines.specs.Values.{padded_digest, without_padding}
-use Rattle.random_lines.specs.declared.line.RandomLine.{RandomLine}
-use Rattle.random_lines.specs.declared.value.SharedRandom.{SharedRandom}
-use Rattle.line_laws.specs.Again.{IsRandomInRange}
-use Rattle.entry_laws.specs.Ranges.{AreThirtyTwo}
+use Rattle.value_groups.specs.Lines.{random_of}
+use Rattle.value_groups.specs.Values.{padded_digest, without_padding}
+use Rattle.value_groups.specs.declared.line.RandomLine.{RandomLine}
+use Rattle.value_groups.specs.declared.value.SharedRandom.{SharedRandom}
+use Rattle.group_laws.specs.LineAgain.{IsRandomInRange}
+use Rattle.group_laws.specs.Ranges.{AreThirtyTwo}
 use Rattle.vote_frame.specs.Tables.{value_at}
 use Rattle.vote_frame.specs.declared.frame.VoteKind.TheVariants as kind
 use Rattle.vote_frame.specs.declared.frame.VoteValue.{VoteValue}

@@ -30,9 +30,9 @@ use Rattle.list_values.specs.VersionLists.{are_versions, is_version}
 use Rattle.list_values.specs.VersionLists as version
 use Rattle.list_values.proofs.Maps.{Ascend-nil, Ascend-with_value}
 use Rattle.list_values.specs.Parts.{parts_of}
-use Rattle.list_laws.specs.Ranges.{AreNumbersInRange, AreParamsInRange, AreProtocolsInRange, AreVersionsInRange}
-use Rattle.list_laws.specs.Ranges.{IsParamInRange, IsProtocolInRange}
-use Rattle.list_lines.specs.Listed.{members_of, params_in, protocols_in, versions_in}
+use Rattle.value_laws.specs.Ranges.{AreNumbersInRange, AreParamsInRange, AreProtocolsInRange, AreVersionsInRange}
+use Rattle.value_laws.specs.Ranges.{IsParamInRange, IsProtocolInRange}
+use Rattle.value_groups.specs.Listed.{members_of, params_in, protocols_in, versions_in}
 use Rattle.row_laws.proofs.ReadSteps.{number_within}
 use Rattle.range_laws.proofs.ReadNames.{IsName, names_if}
 

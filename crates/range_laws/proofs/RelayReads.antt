@@ -25,7 +25,7 @@ use Rattle.frame_laws.proofs.StandingParts.{rest_part}
 use Rattle.relay_entries.specs.Fields.{identity, is_address}
 use Rattle.relay_entries.specs.Lines.{address_of, relay_of}
 use Rattle.relay_entries.specs.declared.said.RelayLine.{RelayLine}
-use Rattle.entry_laws.specs.Ranges.{IsAddressInRange, IsRelayInRange}
+use Rattle.group_laws.specs.Ranges.{IsAddressInRange, IsRelayInRange}
 use Rattle.row_laws.proofs.ItemArguments.{AreFound, IsSound, are_found, found_word, front_found, others_found}
 use Rattle.row_laws.proofs.ReadSteps.{base64_made, front_bytes, ReadAs, address_within, any_reads, field_reads}
 use Rattle.row_laws.proofs.ReadSteps.{next_reads, number_within, rest_reads, span_reads}

@@ -23,10 +23,10 @@ use Rattle.vote_doc.specs.Reading.{max_vote}
 use Rattle.vote_doc.specs.declared.head.Head.{Head}
 use Rattle.vote_doc.specs.declared.kept.Kept.{Kept}
 use Rattle.vote_laws.specs.Again.{AreEntriesInRange, DifferInKey, IsEntryInRange}
-use Rattle.table_laws.specs.Items.{AreItemsIn}
-use Rattle.table_laws.specs.Order.{AreInOrder, BeginsWithOpener, Part, sections_of}
-use Rattle.table_laws.proofs.Ordering.{stand_in_order}
-use Rattle.table_laws.proofs.Taking.{are_said}
+use Rattle.document_laws.specs.Items.{AreItemsIn}
+use Rattle.document_laws.specs.Order.{AreInOrder, BeginsWithOpener, Part, sections_of}
+use Rattle.document_laws.proofs.Ordering.{stand_in_order}
+use Rattle.document_laws.proofs.Taking.{are_said}
 use Rattle.row_laws.proofs.ReadBytes.{bytes_drop, bytes_take}
 use Rattle.row_laws.proofs.Saying.{EachSound, all_sound, each_stands}
 use Rattle.vote_kinds.proofs.ClearVotes.{vote_kinds_are_clear}

@@ -19,8 +19,8 @@ use Rattle.vote_frame.specs.declared.frame.VoteKind.{VoteKind}
 use Rattle.vote_frame.specs.declared.frame.VoteSection.{VoteSection}
 use Rattle.vote_frame.specs.declared.frame.VoteSection.TheVariants as section
 use Rattle.vote_frame.specs.declared.frame.VoteValue.{VoteValue}
-use Rattle.table_laws.specs.Items.{IsItemIn}
-use Rattle.table_laws.specs.Order.{BeginsWithOpener}
+use Rattle.document_laws.specs.Items.{IsItemIn}
+use Rattle.document_laws.specs.Order.{BeginsWithOpener}
 use Rattle.row_laws.proofs.Saying.{EachStands, Says, Stands, found, of_row}
 use Rattle.range_laws.proofs.VoteReads.{VoteSays}
 

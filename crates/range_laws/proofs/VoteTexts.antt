@@ -6,8 +6,8 @@ use Rattle.base64.specs.GeneralPurpose.{IsBytes}
 use Rattle.dir_bytes.specs.FieldTexts.{address_text, hex_text}
 use Rattle.dirdoc_grammar.specs.Writers.{is_argument}
 use Rattle.dirdoc_grammar.specs.Writing.{IsLineRest}
-use Rattle.dirdoc_laws.proofs.LineRests.{rest_of_argument, rest_of_nothing}
-use Rattle.dirdoc_laws.specs.Written.{IsItem}
+use Rattle.grammar_laws.proofs.LineRests.{rest_of_argument, rest_of_nothing}
+use Rattle.grammar_laws.specs.Written.{IsItem}
 use Rattle.dir_values.specs.FlagSets.{set_text}
 use Rattle.dir_values.specs.Names.{is_nickname}
 use Rattle.dir_values.specs.Numbers.{numbers_text}
@@ -17,20 +17,20 @@ use Rattle.frame_terms.specs.declared.keyword.Keyword.{Keyword}
 use Rattle.frame_terms.specs.declared.keyword.Keyword.TheVariants as the
 use Rattle.frame_values.specs.Items.{bare, item_if, timed, with_object}
 use Rattle.frame_values.specs.Ranges.{AreTwenty}
-use Rattle.random_lines.specs.Values.{random_text}
-use Rattle.random_lines.specs.declared.value.SharedRandom.{SharedRandom}
+use Rattle.value_groups.specs.Values.{random_text}
+use Rattle.value_groups.specs.declared.value.SharedRandom.{SharedRandom}
 use Rattle.frame_laws.proofs.WordTexts.{IsWord, two_words, word_of_address, word_of_identity, word_of_nickname}
 use Rattle.frame_laws.proofs.WordTexts.{word_of_number, words_of_flags, words_of_numbers}
-use Rattle.line_laws.specs.Again.{IsRandomInRange}
+use Rattle.group_laws.specs.LineAgain.{IsRandomInRange}
 use Rattle.list_values.specs.declared.named.Named.{Named}
 use Rattle.list_values.specs.Params.{params_text}
 use Rattle.list_values.specs.Protocols.{protocols_text}
 use Rattle.list_values.specs.VersionLists.{versions_text}
-use Rattle.list_laws.specs.Ranges.{AreProtocolsInRange, AreVersionsInRange}
-use Rattle.list_laws.proofs.LineWords.{rest_of_words}
-use Rattle.list_laws.proofs.ParamsAgain.{params_fill}
-use Rattle.list_laws.proofs.ProtocolsAgain.{protocols_fill}
-use Rattle.list_laws.proofs.VersionsAgain.{versions_fill}
+use Rattle.value_laws.specs.Ranges.{AreProtocolsInRange, AreVersionsInRange}
+use Rattle.value_laws.proofs.LineWords.{rest_of_words}
+use Rattle.value_laws.proofs.ParamsAgain.{params_fill}
+use Rattle.value_laws.proofs.ProtocolsAgain.{protocols_fill}
+use Rattle.value_laws.proofs.VersionsAgain.{versions_fill}
 use Rattle.authority_certs.specs.Texts.{cert_items}
 use Rattle.certificate_laws.specs.Again.{SaysInRange}
 use Rattle.vote_terms.specs.declared.facts.SignatureFacts.{SignatureFacts}

@@ -1,7 +1,7 @@
 -- What is read of a certificate is in range, but for the limits (dir-spec, "Creating key certificates").
 use Rattle.std.specs.Prelude.{◌≡◌, ℕ, List, All, Ok}
 use Rattle.base64.specs.GeneralPurpose.{IsBytes}
-use Rattle.dirdoc_laws.specs.Written.{AreWithinLimits, IsItem}
+use Rattle.grammar_laws.specs.Written.{AreWithinLimits, IsItem}
 use Rattle.authority_certs.specs.Reading.{cert_of, max_cert}
 use Rattle.authority_certs.specs.Texts.{cert_items}
 use Rattle.authority_certs.specs.declared.cert.Cert.{Cert}

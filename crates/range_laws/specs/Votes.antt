@@ -4,11 +4,11 @@ use Rattle.base64.specs.GeneralPurpose.{IsBytes}
 use Rattle.dir_bytes.specs.Causes.{last_moment}
 use Rattle.dir_values.specs.Names.{is_nickname}
 use Rattle.dirdoc_grammar.specs.Writers.{is_argument}
-use Rattle.dirdoc_laws.specs.Written.{AreWithinLimits, IsItem}
+use Rattle.grammar_laws.specs.Written.{AreWithinLimits, IsItem}
 use Rattle.frame_values.specs.Ranges.{AreTwenty}
 use Rattle.authority_certs.specs.Texts.{cert_text}
 use Rattle.certificate_laws.specs.Again.{SaysInRange}
-use Rattle.line_laws.specs.Again.{IsRandomInRange}
+use Rattle.group_laws.specs.LineAgain.{IsRandomInRange}
 use Rattle.vote_terms.specs.Votes.{ReadVote}
 use Rattle.vote_terms.specs.declared.facts.VoteFacts.{VoteFacts}
 use Rattle.vote_text.specs.Texts.{vote_items}

@@ -16,7 +16,7 @@ use Rattle.dir_bytes.proofs.Spelling.{length-hex_text}
 use Rattle.dirdoc_grammar.specs.Bodies.{object_text}
 use Rattle.dirdoc_grammar.specs.Writing.{NewItem, all_written, item_text, items_text}
 use Rattle.dirdoc_grammar.specs.Writing.{keyword_text, written}
-use Rattle.dirdoc_laws.proofs.ItemsAgain.{items_again}
+use Rattle.grammar_laws.proofs.ItemsAgain.{items_again}
 use Rattle.frame_terms.specs.Keywords.{same, text_of, word_of}
 use Rattle.frame_terms.specs.Order.{is_strange}
 use Rattle.frame_terms.specs.Sections.{row_of}
@@ -35,7 +35,7 @@ use Rattle.certificate_laws.specs.Again.{IsInRange, SaysInRange, as_written}
 use Rattle.certificate_laws.proofs.CertAgain.{certificates_again}
 use Rattle.vote_frame.specs.Tables.{vote_tables}
 use Rattle.vote_frame.specs.declared.frame.VoteSection.TheVariants as section
-use Rattle.given_certs.specs.Given.{IsGiven, IsNoStranger}
+use Rattle.certificate_laws.specs.Given.{IsGiven, IsNoStranger}
 use Rattle.range_laws.proofs.CertItems.{HasBytes, cert_may}
 use Rattle.vote_rehearsal.specs.Authorities.{authority_of}
 use Rattle.vote_rehearsal.specs.Certificates.{certificate_bytes, certificate_expires, certificate_of}

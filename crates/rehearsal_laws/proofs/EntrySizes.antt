@@ -17,8 +17,8 @@ use Rattle.frame_terms.specs.declared.keyword.Keyword.TheVariants as the
 use Rattle.frame_values.specs.Items.{bare, item_if}
 use Rattle.frame_values.specs.Parts.{moment_of}
 use Rattle.frame_values.specs.Ranges.{AreTwenty}
-use Rattle.entry_laws.specs.Ranges.{AreThirtyTwo}
-use Rattle.entry_laws.proofs.WrittenRelays.{relay_shape, words_of_relay}
+use Rattle.group_laws.specs.Ranges.{AreThirtyTwo}
+use Rattle.group_laws.proofs.WrittenRelays.{relay_shape, words_of_relay}
 use Rattle.flag_rules.specs.Names.{names_of}
 use Rattle.relay_entries.specs.Texts.{bandwidths_text, ed_text, methods_text, number_word, relay_text}
 use Rattle.relay_entries.specs.declared.said.EdOpinion.TheVariants as opinion

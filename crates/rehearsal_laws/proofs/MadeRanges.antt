@@ -8,7 +8,7 @@ use Rattle.std.proofs.lemmas.List.Sums.{AllPass-from_list_all}
 use Rattle.sha1.specs.Sha1.{sha1}
 use Rattle.dir_values.specs.FlagSets.{is_name}
 use Rattle.dirdoc_grammar.specs.Writing.{items_text}
-use Rattle.dirdoc_laws.specs.Written.{IsItem}
+use Rattle.grammar_laws.specs.Written.{IsItem}
 use Rattle.frame_values.proofs.ItemsTexts.{sections}
 use Rattle.flag_rules.specs.Names.{names_of}
 use Rattle.authority_certs.specs.Texts.{cert_items}
@@ -18,7 +18,7 @@ use Rattle.vote_text.specs.Texts.{authority_items, footer_items}
 use Rattle.vote_text.specs.Texts.{preamble_items}
 use Rattle.vote_doc.specs.Reading.{max_vote}
 use Rattle.vote_laws.specs.Again.{AreFlags, AreListsInRange, AreMethods, HasValuesInRange, IsSignatureInRange}
-use Rattle.made_laws.specs.Made.{IsMadeInRange}
+use Rattle.vote_laws.specs.Made.{IsMadeInRange}
 use Rattle.range_laws.proofs.VoteTexts.{SaysWhole, vote_may}
 use Rattle.vote_rehearsal.specs.Authorities.{authority_of}
 use Rattle.vote_rehearsal.specs.Certificates.{certificate_bytes, certificate_of}

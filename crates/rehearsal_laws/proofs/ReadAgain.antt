@@ -11,9 +11,9 @@ use Rattle.blank_lines.specs.Behind.{behind}
 use Rattle.vote_doc.specs.Reading.{max_vote, vote_of}
 use Rattle.vote_frame.specs.Tables.{vote_tables}
 use Rattle.vote_frame.specs.declared.frame.VoteSection.TheVariants as section
-use Rattle.given_certs.specs.Given.{IsGiven}
-use Rattle.made_laws.specs.Made.{MadeVotesAreRead}
-use Rattle.made_laws.proofs.MadeAgain.{made_again}
+use Rattle.certificate_laws.specs.Given.{IsGiven}
+use Rattle.vote_laws.specs.Made.{MadeVotesAreRead}
+use Rattle.vote_laws.proofs.MadeAgain.{made_again}
 use Rattle.vote_rehearsal.specs.Authorities.{authority_of, voters}
 use Rattle.vote_rehearsal.specs.Certificates.{certificate_bytes, certificate_of}
 use Rattle.vote_rehearsal.specs.Relays.{ascending_relays, relay_of, seeded}

@@ -10,7 +10,7 @@ use Rattle.dirdoc_grammar.specs.Bodies.{base64_of, begin_line, body_text, end_li
 use Rattle.dirdoc_grammar.specs.Writing.{AreWritable, IsWritableObject, NewItem, NewObject, item_text, items_text}
 use Rattle.dirdoc_grammar.specs.Writing.{keyword_text, object_text_if, tail}
 use Rattle.dirdoc_grammar.proofs.BodyLines.{length-base64_of}
-use Rattle.dirdoc_laws.specs.Written.{IsItem, IsObject}
+use Rattle.grammar_laws.specs.Written.{IsItem, IsObject}
 use Rattle.frame_terms.specs.Keywords.{text_of}
 use Rattle.frame_terms.specs.declared.keyword.Keyword.{Keyword}
 use Rattle.frame_terms.specs.declared.keyword.Keyword.TheVariants.{NetworkStatusVersion}

@@ -4,7 +4,7 @@ use Rattle.std.proofs.Common.{refl, ap, sym, ◌∙◌, arith, length-drop}
 use Rattle.std.proofs.Common.{append_assoc, append-nil}
 use Rattle.frame_terms.specs.declared.fault.FrameFault.{FrameFault}
 use Rattle.frame_terms.specs.declared.fault.ReadRefusal.TheVariants.{Frame}
-use Rattle.fault_laws.proofs.VoteFaults.{fault_of_vote}
+use Rattle.vote_parts.proofs.VoteFaults.{fault_of_vote}
 use Rattle.vote_terms.specs.Votes.{ReadVote}
 use Rattle.blank_lines.specs.Behind.{behind, refusal_behind}
 use Rattle.vote_doc.specs.Reading.{ReadsVote, vote_from, vote_of}

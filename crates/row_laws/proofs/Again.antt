@@ -7,7 +7,7 @@ use Rattle.std.proofs.lemmas.List.Elements.{All-head}
 use Rattle.item_terms.specs.Items.{Contents, contents, contents_of, items_of, nothing}
 use Rattle.item_terms.specs.Words.{begins_dash}
 use Rattle.dirdoc_grammar.specs.Writing.{AreWritable, NewItem, all_written, in_front, is_open, items_text, written}
-use Rattle.dirdoc_laws.proofs.ItemsAgain.{items_again}
+use Rattle.grammar_laws.proofs.ItemsAgain.{items_again}
 use Rattle.frame_terms.specs.Documents.{Document, document_of, group, read_items}
 use Rattle.frame_terms.specs.Order.{following, inner, must_open}
 use Rattle.frame_terms.specs.Tables.{Tables}

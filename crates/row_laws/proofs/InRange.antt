@@ -4,7 +4,7 @@ use Rattle.item_terms.specs.Items.{Item}
 use Rattle.frame_terms.specs.Tables.{Tables}
 use Rattle.frame_terms.specs.declared.document.Taken.{Taken}
 use Rattle.frame_terms.specs.declared.row.Row.{Row}
-use Rattle.table_laws.specs.Items.{IsItemIn, IsItemOf}
+use Rattle.document_laws.specs.Items.{IsItemIn, IsItemOf}
 use Rattle.row_laws.proofs.ItemArguments.{IsSound}
 use Rattle.row_laws.proofs.Saying.{EachStands}
 use Rattle.row_laws.proofs.Rows.{Meaning, ReadLaws}

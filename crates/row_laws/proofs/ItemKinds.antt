@@ -16,7 +16,7 @@ use Rattle.item_terms.specs.Items.{Item, Object}
 use Rattle.item_terms.specs.Words.{words_of}
 use Rattle.dirdoc_grammar.specs.Bodies.{body_text}
 use Rattle.dirdoc_grammar.specs.Writing.{IsLineRest, IsWritableObject}
-use Rattle.dirdoc_laws.proofs.WrittenBytes.{decoded-body_text}
+use Rattle.grammar_laws.proofs.WrittenBytes.{decoded-body_text}
 use Rattle.frame_values.specs.Arguments.{arguments_of, front, next}
 use Rattle.frame_values.specs.Faults.{at_place}
 use Rattle.frame_values.specs.Lines.{literal, rest_of, time_of}

@@ -13,8 +13,8 @@ use Rattle.item_terms.specs.Items.{Contents, Item, items_from}
 use Rattle.item_terms.specs.Lines.{Line, lines, onto, size}
 use Rattle.item_terms.specs.Words.{after_keyword, arguments, is_blank, keyword_len, nul_in, trim, trim_end, trim_front}
 use Rattle.dirdoc_grammar.specs.Writing.{IsLineRest}
-use Rattle.dirdoc_laws.specs.Blocks.{AreLinesOfItems}
-use Rattle.dirdoc_laws.proofs.BlockFronts.{fault_is_there, items_are_there}
+use Rattle.grammar_laws.specs.Blocks.{AreLinesOfItems}
+use Rattle.grammar_laws.proofs.BlockFronts.{fault_is_there, items_are_there}
 
 -- ---- lines have no NL
 

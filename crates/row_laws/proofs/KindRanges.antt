@@ -25,11 +25,11 @@ use Rattle.frame_terms.specs.declared.row.Row.{Row}
 use Rattle.frame_values.specs.Arguments.{next}
 use Rattle.frame_values.specs.Faults.{at_place, unless_fault}
 use Rattle.frame_values.specs.Values.{item_at}
-use Rattle.table_laws.specs.Items.{AreItemsIn}
-use Rattle.table_laws.specs.Counts.{RowsStand}
-use Rattle.table_laws.proofs.Counting.{stand_as_often}
-use Rattle.table_laws.proofs.Taking.{are_said}
-use Rattle.table_laws.proofs.Times.{none_stands}
+use Rattle.document_laws.specs.Items.{AreItemsIn}
+use Rattle.document_laws.specs.Counts.{RowsStand}
+use Rattle.document_laws.proofs.Counting.{stand_as_often}
+use Rattle.document_laws.proofs.Taking.{are_said}
+use Rattle.document_laws.proofs.Times.{none_stands}
 use Rattle.row_laws.proofs.ItemArguments.{IsSound}
 use Rattle.row_laws.proofs.ItemKinds.{Kind, KindLaws}
 use Rattle.row_laws.proofs.Lookups.{fold_holds}

@@ -8,7 +8,7 @@ use Rattle.item_terms.specs.Items.{Item}
 use Rattle.frame_terms.specs.Tables.{Tables}
 use Rattle.frame_terms.specs.declared.document.Taken.{Taken}
 use Rattle.frame_terms.specs.declared.fault.FrameFault.{FrameFault}
-use Rattle.table_laws.specs.Items.{AreItemsIn, IsItemIn, IsItemOf}
+use Rattle.document_laws.specs.Items.{AreItemsIn, IsItemIn, IsItemOf}
 use Rattle.row_laws.proofs.Saying.{EachSound, sound_parts}
 use Rattle.row_laws.proofs.ItemArguments.{IsSound}
 use Rattle.row_laws.proofs.Rows.{Meaning, ReadLaws, RowLaws}

@@ -14,8 +14,8 @@ use Rattle.frame_terms.specs.Sections.{row_of}
 use Rattle.frame_terms.specs.Tables.{Tables}
 use Rattle.frame_values.specs.Values.{item_at}
 use Rattle.frame_laws.proofs.KnownWords.{same-through}
-use Rattle.table_laws.specs.Items.{AreItemsIn, IsItemIn, IsItemOf}
-use Rattle.table_laws.proofs.Openers.{row_of-one, row_of-same}
+use Rattle.document_laws.specs.Items.{AreItemsIn, IsItemIn, IsItemOf}
+use Rattle.document_laws.proofs.Openers.{row_of-one, row_of-same}
 use Rattle.row_laws.proofs.ItemArguments.{IsSound}
 use Rattle.row_laws.proofs.ItemRests.{HaveRests, have_rests}
 

@@ -13,7 +13,7 @@ use Rattle.item_terms.specs.Items.{Item, Object}
 use Rattle.item_terms.specs.Words.{words_of}
 use Rattle.dirdoc_grammar.specs.Bodies.{body_text}
 use Rattle.dirdoc_grammar.specs.Writers.{is_argument}
-use Rattle.dirdoc_laws.proofs.WrittenBytes.{decoded-body_text}
+use Rattle.grammar_laws.proofs.WrittenBytes.{decoded-body_text}
 use Rattle.dir_values.specs.Arguments.{Argument}
 use Rattle.dir_values.specs.Digests.{fingerprint, key_digest}
 use Rattle.dir_values.specs.Names.{algorithm}

@@ -10,9 +10,9 @@ use Rattle.period_terms.specs.Readings.{document_of}
 use Rattle.http_words.specs.DigestLists.{digest_list}
 use Rattle.http_words.specs.declared.asked.Asked.{Asked}
 use Rattle.http_words.specs.declared.asked.Asked.TheVariants as asked
-use Rattle.board_terms.specs.Boards.{Locks, Parts}
-use Rattle.board_laws.specs.Going.{Goes}
-use Rattle.board_laws.proofs.Going.{goes_same, goes_sees, goes_looks}
+use Rattle.serve_board.specs.Boards.{Locks, Parts}
+use Rattle.serve_board.specs.Going.{Goes}
+use Rattle.serve_board.proofs.Going.{goes_same, goes_sees, goes_looks}
 use Rattle.serve_answers.specs.Finding.{Reads, ReadsCurrent, Finds, FindsNothing, FindsMicros, FindsAsked, flavour_of}
 use Rattle.serve_answers.specs.Finding.{AddsNothing}
 

@@ -4,7 +4,7 @@ use Rattle.key_port.specs.Answers.{Rules}
 use Rattle.http_words.specs.declared.replies.Reply.{Reply}
 use Rattle.period_terms.specs.declared.answer.Offer.{Offer}
 use Rattle.period_terms.specs.declared.answer.Offer.TheVariants as offers
-use Rattle.board_terms.specs.Boards.{Locks, Parts}
+use Rattle.serve_board.specs.Boards.{Locks, Parts}
 use Rattle.serve_answers.specs.Answers.{IsCaused, TakesVote}
 use Rattle.serve_answers.specs.Words.{reply_to_offer}
 

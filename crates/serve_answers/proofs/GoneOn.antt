@@ -8,9 +8,9 @@ use Rattle.http_words.specs.declared.replies.Reply.{Reply}
 use Rattle.period_terms.specs.declared.answer.Answer.TheVariants.{Vote}
 use Rattle.period_terms.specs.declared.event.Event.TheVariants.{Offered}
 use Rattle.period_terms.specs.declared.event.Via.TheVariants.{Upload}
-use Rattle.board_terms.specs.Boards.{Locks, Parts}
-use Rattle.board_laws.specs.Going.{Goes}
-use Rattle.board_laws.proofs.Going.{goes_same, goes_makes, goes_stores}
+use Rattle.serve_board.specs.Boards.{Locks, Parts}
+use Rattle.serve_board.specs.Going.{Goes}
+use Rattle.serve_board.proofs.Going.{goes_same, goes_makes, goes_stores}
 use Rattle.serve_answers.specs.Answers.{TakesVote, TakesDescriptor, TakesRuled}
 
 -- a pass that is as it was has gone on

@@ -7,10 +7,10 @@ use Rattle.http_words.specs.declared.asked.Asked.{Asked}
 use Rattle.http_words.specs.declared.asked.Asked.TheVariants as asked
 use Rattle.http_words.specs.declared.replies.Reply.{Reply}
 use Rattle.http_words.specs.Paths.{asked_by}
-use Rattle.http_answers.specs.declared.outcome.Outcome.{Outcome}
-use Rattle.http_answers.specs.declared.outcome.Outcome.TheVariants.{Replied}
-use Rattle.http_answers.specs.Connections.{Handles}
-use Rattle.board_terms.specs.Boards.{Parts}
+use Rattle.http_words.specs.declared.outcome.Outcome.{Outcome}
+use Rattle.http_words.specs.declared.outcome.Outcome.TheVariants.{Replied}
+use Rattle.http_words.specs.Connections.{Handles}
+use Rattle.serve_board.specs.Boards.{Parts}
 use Rattle.serve_answers.specs.Connections.{TakesBody}
 
 -- what comes of the body of a vote comes of its request

@@ -9,7 +9,7 @@ use Rattle.period_terms.specs.declared.answer.Answer.TheVariants.{Signature}
 use Rattle.period_terms.specs.declared.answer.SignIn.{SignIn}
 use Rattle.period_terms.specs.declared.event.Event.TheVariants.{SignedIn}
 use Rattle.period_terms.specs.declared.signature.OfferedSignature.{OfferedSignature}
-use Rattle.board_terms.specs.Boards.{Locks, Parts, Makes}
+use Rattle.serve_board.specs.Boards.{Locks, Parts, Makes}
 use Rattle.serve_answers.specs.Handling.{SignsEach, SignsHeld, is_held}
 
 as_number : (b : Bool) → from_bool b ≡ cond b 1 0

@@ -8,7 +8,7 @@ use Rattle.key_port.specs.Answers.{Rules, Steps}
 use Rattle.detached_doc.specs.declared.detached.Detached.{Detached}
 use Rattle.detached_doc.specs.declared.detached.DetachedLine.{DetachedLine}
 use Rattle.period_terms.specs.declared.signature.OfferedSignature.{OfferedSignature}
-use Rattle.signature_terms.specs.declared.view.PeriodView.{PeriodView}
+use Rattle.period_terms.specs.declared.view.PeriodView.{PeriodView}
 use Rattle.checked_sigs.specs.Asking.{offered_by}
 use Rattle.checked_sigs.specs.Checks.{Judgement, Tally, TellsLines}
 

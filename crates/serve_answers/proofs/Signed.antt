@@ -8,8 +8,8 @@ use Rattle.http_words.specs.declared.replies.Reply.{Reply}
 use Rattle.http_words.specs.declared.replies.Reply.TheVariants as reply
 use Rattle.period_core.specs.Views.{view_of}
 use Rattle.period_terms.specs.declared.state.State.{State}
-use Rattle.signature_terms.specs.declared.view.PeriodView.{PeriodView}
-use Rattle.board_terms.specs.Boards.{Locks, Parts, Sees}
+use Rattle.period_terms.specs.declared.view.PeriodView.{PeriodView}
+use Rattle.serve_board.specs.Boards.{Locks, Parts, Sees}
 use Rattle.serve_answers.specs.Handling.{OffersAccepted, SeesView, TakesSignatures}
 use Rattle.serve_answers.proofs.LineCounts.{line_count}
 

@@ -9,7 +9,7 @@ use Rattle.period_terms.specs.declared.name.Name.TheVariants as names
 use Rattle.period_terms.specs.declared.state.State.{State}
 use Rattle.period_terms.specs.Readings.{document_of}
 use Rattle.period_laws.proofs.Currents.{were_published}
-use Rattle.board_terms.specs.Boards.{Locks, Parts, Sees}
+use Rattle.serve_board.specs.Boards.{Locks, Parts, Sees}
 use Rattle.serve_answers.specs.Finding.{IsPublished, ReadsCurrent}
 use Rattle.serve_answers.proofs.Nothing.{sees_adds}
 

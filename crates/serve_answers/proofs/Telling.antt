@@ -1,11 +1,11 @@
 -- A request of which something came is served where that is told.
 use Rattle.std.proofs.Common.{◌≡◌, ℕ, List, Option, inr}
 use Rattle.http_words.specs.declared.asked.Asked.{Asked}
-use Rattle.http_answers.specs.declared.connection.ConnStatus.{ConnStatus}
-use Rattle.http_answers.specs.declared.connection.ConnStatus.TheVariants as status
-use Rattle.http_answers.specs.declared.outcome.Outcome.{Outcome}
-use Rattle.http_answers.specs.Connections.{Handles, Tells}
-use Rattle.board_terms.specs.Boards.{Parts}
+use Rattle.http_words.specs.declared.connection.ConnStatus.{ConnStatus}
+use Rattle.http_words.specs.declared.connection.ConnStatus.TheVariants as status
+use Rattle.http_words.specs.declared.outcome.Outcome.{Outcome}
+use Rattle.http_words.specs.Connections.{Handles, Tells}
+use Rattle.serve_board.specs.Boards.{Parts}
 use Rattle.serve_answers.specs.Connections.{Serves}
 
 module _ (written written_then : Option (List ℕ)) (write_faults write_faults_then : ℕ) (outcome : Outcome)

@@ -21,7 +21,7 @@ use Rattle.vote_maker.specs.Relays.{known_of}
 use Rattle.vote_pool.specs.declared.answers.Keep.{Keep}
 use Rattle.vote_terms.specs.Acceptable.{IsAcceptable}
 use Rattle.vote_terms.specs.Votes.{ReadVote}
-use Rattle.board_terms.specs.Boards.{Locks, Parts, Makes, Stores}
+use Rattle.serve_board.specs.Boards.{Locks, Parts, Makes, Stores}
 use Rattle.lone_vote.specs.Alone.{IsVote, NoneIs}
 use Rattle.serve_answers.specs.Uploads.{IsDescriptor}
 use Rattle.serve_answers.specs.Words.{reply_to_offer, reply_to_keep, reply_to_vote, reply_to_descriptor}

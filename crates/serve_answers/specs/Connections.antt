@@ -6,11 +6,11 @@ use Rattle.dir_http.specs.declared.head.Head.{Head}
 use Rattle.dir_http.specs.Requests.{ReadsBody, ReadsWhole, body_ahead}
 use Rattle.http_words.specs.declared.asked.Asked.{Asked}
 use Rattle.http_words.specs.declared.replies.Reply.{Reply}
-use Rattle.http_answers.specs.declared.connection.ConnStatus.{ConnStatus}
-use Rattle.http_answers.specs.declared.connection.ConnStatus.TheVariants as status
-use Rattle.http_answers.specs.declared.outcome.Outcome.{Outcome}
-use Rattle.http_answers.specs.Connections.{Handles, Answers, Breaks, TriesShortage}
-use Rattle.board_terms.specs.Boards.{Parts}
+use Rattle.http_words.specs.declared.connection.ConnStatus.{ConnStatus}
+use Rattle.http_words.specs.declared.connection.ConnStatus.TheVariants as status
+use Rattle.http_words.specs.declared.outcome.Outcome.{Outcome}
+use Rattle.http_words.specs.Connections.{Handles, Answers, Breaks, TriesShortage}
+use Rattle.serve_board.specs.Boards.{Parts}
 use Rattle.serve_answers.specs.declared.answering.Handled.{Handled}
 use Rattle.serve_answers.specs.declared.answering.Handled.TheVariants as handled
 use Rattle.serve_answers.specs.Finding.{AddsNothing}

@@ -17,10 +17,10 @@ use Rattle.period_terms.specs.declared.state.State.{State}
 use Rattle.period_terms.specs.Histories.{IsStart}
 use Rattle.period_terms.specs.Readings.{document_of, next_consensus_of}
 use Rattle.period_laws.specs.Publications.{WasPublished}
-use Rattle.signature_document.specs.Next.{next_signatures_of}
-use Rattle.board_terms.specs.Boards.{Locks, Parts, Sees, Looks}
-use Rattle.board_laws.specs.Going.{Goes}
-use Rattle.http_answers.specs.Found.{unless_empty}
+use Rattle.checked_sigs.specs.Next.{next_signatures_of}
+use Rattle.serve_board.specs.Boards.{Locks, Parts, Sees, Looks}
+use Rattle.serve_board.specs.Going.{Goes}
+use Rattle.http_words.specs.Found.{unless_empty}
 use Rattle.serve_answers.specs.Documents.{certificates_of, certificate_if, descriptors_of, descriptor_if, micros_with}
 
 -- the flavour of a consensus

@@ -9,8 +9,8 @@ use Rattle.checked_sigs.specs.declared.report.SigRefusal.TheVariants as refusals
 use Rattle.detached_doc.specs.declared.detached.Detached.{Detached}
 use Rattle.flag_rules.specs.declared.relay.RelayFacts.{RelayFacts}
 use Rattle.flag_rules.specs.declared.ruling.Ruling.{Ruling}
-use Rattle.http_answers.specs.declared.outcome.Outcome.{Outcome}
-use Rattle.http_answers.specs.declared.outcome.Outcome.TheVariants.{Replied, Found}
+use Rattle.http_words.specs.declared.outcome.Outcome.{Outcome}
+use Rattle.http_words.specs.declared.outcome.Outcome.TheVariants.{Replied, Found}
 use Rattle.http_words.specs.declared.asked.Asked.{Asked}
 use Rattle.http_words.specs.declared.asked.Asked.TheVariants as asked
 use Rattle.http_words.specs.declared.replies.Reply.{Reply}
@@ -22,8 +22,8 @@ use Rattle.period_terms.specs.declared.answer.SignIn.{SignIn}
 use Rattle.period_terms.specs.declared.answer.SignIn.TheVariants as signs
 use Rattle.period_terms.specs.declared.event.Event.TheVariants.{SignedIn}
 use Rattle.period_terms.specs.declared.signature.OfferedSignature.{OfferedSignature}
-use Rattle.signature_terms.specs.declared.view.PeriodView.{PeriodView}
-use Rattle.board_terms.specs.Boards.{Locks, Parts, Makes, Sees}
+use Rattle.period_terms.specs.declared.view.PeriodView.{PeriodView}
+use Rattle.serve_board.specs.Boards.{Locks, Parts, Makes, Sees}
 use Rattle.serve_answers.specs.Finding.{FindsAsked}
 use Rattle.serve_answers.specs.declared.answering.Handled.{Handled}
 use Rattle.serve_answers.specs.declared.answering.Handled.TheVariants as handled

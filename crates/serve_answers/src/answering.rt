@@ -5,8 +5,8 @@ ghost use Rattle.key_port.specs.Answers.{rules};
 ghost use Rattle.flag_rules.specs.Rules.{KeepsTo};
 ghost use Rattle.http_words.specs.Paths.{asked_by as asked_of};
 ghost use Rattle.dir_http.specs.Requests.{ReadsHead};
-ghost use Rattle.board_terms.specs.Boards.{IsAt};
-ghost use Rattle.board_laws.specs.Going.{Goes};
+ghost use Rattle.serve_board.specs.Boards.{IsAt};
+ghost use Rattle.serve_board.specs.Going.{Goes};
 ghost use Rattle.serve_answers.specs.Answers.{IsCaused, TakesVote};
 ghost use Rattle.serve_answers.specs.Handling.{Does, IsCausedHandled};
 ghost use Rattle.serve_answers.specs.Connections.{IsHandled, TakesAhead};
@@ -17,13 +17,12 @@ use bytes::Bytes;
 use dir_bytes::{Clock, Source};
 use dir_http::{Head, HttpFault, read_head, read_rest};
 use flag_rules::{Hook, RelayFacts, Rules, Ruling};
-use http_answers::Outcome;
-use http_words::{Asked, Reply, asked_by};
+use http_words::{Asked, Outcome, Reply, asked_by};
 use key_port::Verifier;
+use lone_vote::read_vote;
 use serve_board::{Board, Pass};
 use std::alloc::Global;
 use std::sync::Wait;
-use vote_upload::read_vote;
 
 /// What comes of a request.
 #[derive(Drop)]

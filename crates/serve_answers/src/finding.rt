@@ -2,8 +2,8 @@
 ghost use Rattle.std.specs.Prelude.{◌≡◌};
 ghost use Rattle.key_port.specs.Answers.{rules};
 ghost use Rattle.http_words.specs.DigestLists.{digest_list};
-ghost use Rattle.board_laws.specs.Going.{Goes};
-ghost use Rattle.board_terms.specs.Boards.{IsAt};
+ghost use Rattle.serve_board.specs.Going.{Goes};
+ghost use Rattle.serve_board.specs.Boards.{IsAt};
 ghost use Rattle.serve_answers.specs.Finding as finding;
 ghost use Rattle.serve_answers.specs.Finding.{FindsAsked, FindsMicros};
 
@@ -14,8 +14,7 @@ use crate::relays::{AskAllDescriptors, AskDescriptor};
 use consensus_terms::Flavour;
 use dir_bytes::{Memory, Text};
 use dir_values::{Digest1, Fingerprint};
-use http_answers::behind;
-use http_words::{Asked, Form, read_digests};
+use http_words::{Asked, Form, behind, read_digests};
 use key_port::Verifier;
 use period_terms::Name;
 use serve_board::{Board, Pass};

@@ -2,8 +2,8 @@
 ghost use Rattle.std.specs.Prelude.{◌≡◌, ◌≤◌, ◌<◌, ◌^◌, IfOk, OnErr, length};
 ghost use Rattle.key_port.specs.Answers.{rules};
 ghost use Rattle.flag_rules.specs.Rules.{KeepsTo};
-ghost use Rattle.board_terms.specs.Boards.{IsAt};
-ghost use Rattle.board_laws.specs.Going.{Goes};
+ghost use Rattle.serve_board.specs.Boards.{IsAt};
+ghost use Rattle.serve_board.specs.Going.{Goes};
 ghost use Rattle.serve_answers.specs.Finding.{AddsNothing};
 ghost use Rattle.serve_answers.specs.Handling.{Does, Finds, IsCausedOutcome};
 
@@ -14,8 +14,7 @@ use crate::votes::take_vote;
 use bytes::Bytes;
 use dir_bytes::{Clock, Memory};
 use flag_rules::{Hook, RelayFacts, Rules, Ruling};
-use http_answers::Outcome;
-use http_words::{Asked, Reply};
+use http_words::{Asked, Outcome, Reply};
 use key_port::Verifier;
 use lone_vote::lone_vote;
 use serve_board::{Board, Pass};

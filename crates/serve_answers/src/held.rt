@@ -1,12 +1,12 @@
 // The signatures that are held.
 ghost use Rattle.std.specs.Prelude.{◌≡◌, MatchResult};
-ghost use Rattle.signature_document.specs.Next.{next_signatures_of};
+ghost use Rattle.checked_sigs.specs.Next.{next_signatures_of};
 
+use checked_sigs::next_signatures;
 use dir_bytes::{Memory, Text};
 use key_port::Verifier;
 use period_core::Station;
 use serve_board::Question;
-use signature_document::next_signatures;
 use std::alloc::Global;
 
 /// What is the document of the signatures that are held?

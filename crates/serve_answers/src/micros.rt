@@ -1,12 +1,12 @@
 // The microdescriptors of the pool.
 ghost use Rattle.std.specs.Prelude.{◌≡◌, ◌++◌, ◌<◌, All, IfOk, OnOk, MatchResult, length};
-ghost use Rattle.http_answers.specs.Found as found;
+ghost use Rattle.http_words.specs.Found as found;
 ghost use Rattle.serve_answers.specs.Documents as lists;
 ghost use Rattle.serve_answers.specs.Places as lending;
 
 use crate::places::places;
 use dir_bytes::{Memory, Text};
-use http_answers::unless_empty;
+use http_words::unless_empty;
 use key_port::Verifier;
 use serve_board::Question;
 use std::alloc::Global;

@@ -1,12 +1,12 @@
 // The descriptors of the pool.
 ghost use Rattle.std.specs.Prelude.{◌≡◌, IfOk, MatchResult};
 ghost use Rattle.vote_pool.specs.Pools.{descriptor_for};
-ghost use Rattle.http_answers.specs.Found as found;
+ghost use Rattle.http_words.specs.Found as found;
 ghost use Rattle.serve_answers.specs.Documents as lists;
 
 use dir_bytes::{Memory, Text};
 use dir_values::Fingerprint;
-use http_answers::unless_empty;
+use http_words::unless_empty;
 use key_port::Verifier;
 use serve_board::Question;
 use std::alloc::Global;

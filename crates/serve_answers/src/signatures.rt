@@ -2,8 +2,8 @@
 ghost use Rattle.std.specs.Prelude.{◌≡◌, ◌≤◌, ◌<◌, ◌^◌, IfOk, OnErr, length};
 ghost use Rattle.key_port.specs.Answers.{rules};
 ghost use Rattle.checked_sigs.specs.Checks.{tally_of};
-ghost use Rattle.board_terms.specs.Boards.{IsAt};
-ghost use Rattle.board_laws.specs.Going.{Goes};
+ghost use Rattle.serve_board.specs.Boards.{IsAt};
+ghost use Rattle.serve_board.specs.Going.{Goes};
 ghost use Rattle.serve_answers.specs.Answers.{IsCaused};
 ghost use Rattle.serve_answers.specs.Finding.{AddsNothing};
 ghost use Rattle.serve_answers.specs.Handling as handling;
@@ -13,9 +13,8 @@ use checked_sigs::{SigRefusal, SigReport, check_signatures};
 use dir_bytes::Memory;
 use http_words::{Reply, Word};
 use key_port::Verifier;
-use period_terms::SignIn;
+use period_terms::{CheckedSig, SignIn};
 use serve_board::{Board, Pass};
-use signature_terms::CheckedSig;
 use std::alloc::Global;
 use std::sync::Wait;
 

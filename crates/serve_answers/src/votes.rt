@@ -1,7 +1,7 @@
 // A vote that is uploaded.
 ghost use Rattle.std.specs.Prelude.{◌≤◌, ℕ, List};
 ghost use Rattle.key_port.specs.Answers.{rules};
-ghost use Rattle.board_terms.specs.Boards.{IsAt};
+ghost use Rattle.serve_board.specs.Boards.{IsAt};
 ghost use Rattle.lone_vote.specs.Alone.{IsFound, IsVote};
 ghost use Rattle.serve_answers.specs.Answers.{TakesVote};
 

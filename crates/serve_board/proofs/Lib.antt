@@ -1,3 +1,10 @@
+pub mod Standing
+pub mod Stations
+pub mod Stocks
+pub mod Told
+pub mod Places
+pub mod Meetings
+pub mod Going
 pub mod Moving
 pub mod Pairing
 pub mod Views

@@ -18,13 +18,13 @@ use Rattle.period_laws.specs.Checked.{IsCheckedHistory}
 use Rattle.period_laws.proofs.Verified.{anyone_may}
 use Rattle.period_terms.specs.States.{Outcome, vote_of}
 use Rattle.period_laws.proofs.Given.{told}
-use Rattle.board_terms.specs.Boards as boards
-use Rattle.board_terms.specs.Boards.{Locks, Parts, answer_at}
+use Rattle.serve_board.specs.Boards as boards
+use Rattle.serve_board.specs.Boards.{Locks, Parts, answer_at}
 use Rattle.serve_board.specs.Events.{MovesThere, moved_entry}
-use Rattle.board_terms.specs.Turns.{Stands}
-use Rattle.board_terms.proofs.Standing.{event_told, reading_told}
-use Rattle.board_terms.proofs.Stations.{steps_there, stands_more}
-use Rattle.board_terms.proofs.Told.{told_may}
+use Rattle.serve_board.specs.Turns.{Stands}
+use Rattle.serve_board.proofs.Standing.{event_told, reading_told}
+use Rattle.serve_board.proofs.Stations.{steps_there, stands_more}
+use Rattle.serve_board.proofs.Told.{told_may}
 
 -- what is told is what was given, as the answer and the state tell
 told_is : (old : State) (now : ℕ) (given : Signing) (answer : Advance) (new : State)

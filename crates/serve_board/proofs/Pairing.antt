@@ -9,7 +9,7 @@ use Rattle.vote_pool.specs.Pools.{Pooled}
 use Rattle.period_lock.specs.Turns.{Lock, Knowledge, AreDealt, newcomer}
 use Rattle.period_terms.specs.declared.entry.Entry.{Entry}
 use Rattle.period_terms.specs.declared.state.State.{State}
-use Rattle.board_terms.specs.Boards.{Locks, Parts, IsAt, IsPair}
+use Rattle.serve_board.specs.Boards.{Locks, Parts, IsAt, IsPair}
 use Rattle.serve_board.specs.Passes.{DifferInNumber}
 
 module _ {A : Type 0} where

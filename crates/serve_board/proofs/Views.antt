@@ -11,9 +11,9 @@ use Rattle.period_terms.specs.declared.event.Event.{Event}
 use Rattle.period_terms.specs.declared.state.State.{State}
 use Rattle.period_terms.specs.Histories.{after, entry_if}
 use Rattle.period_laws.specs.Checked.{IsCheckedHistory}
-use Rattle.board_terms.specs.Boards.{Locks, Parts, IsAt, Makes, Sees, Stores, Looks, answer_at}
-use Rattle.board_terms.specs.Stocks.{stock_after, AreKept, kept_if}
-use Rattle.board_terms.specs.Turns.{TakesEvent, TakesReading}
+use Rattle.serve_board.specs.Boards.{Locks, Parts, IsAt, Makes, Sees, Stores, Looks, answer_at}
+use Rattle.serve_board.specs.Stocks.{stock_after, AreKept, kept_if}
+use Rattle.serve_board.specs.Turns.{TakesEvent, TakesReading}
 
 module _ (inside board : Locks) (parts before : Parts) (b : inside ≡ board) (p : parts ≡ before) where
   pub seen_as : (F : Locks → Parts → Type 0) → F inside parts → F board before

@@ -22,9 +22,9 @@ use Rattle.period_terms.specs.declared.state.State.{State}
 use Rattle.period_terms.specs.Advances.{MayGiveAt, given_told}
 use Rattle.period_terms.specs.Histories.{after, entry_if}
 use Rattle.period_laws.specs.Checked.{IsCheckedHistory}
-use Rattle.board_terms.specs.Boards.{StepsThere}
-use Rattle.board_terms.specs.Stocks.{stock_after, AreKept, kept_if}
-use Rattle.board_terms.specs.Turns.{AnswersThere}
+use Rattle.serve_board.specs.Boards.{StepsThere}
+use Rattle.serve_board.specs.Stocks.{stock_after, AreKept, kept_if}
+use Rattle.serve_board.specs.Turns.{AnswersThere}
 
 -- a reply that is there, and is that to an offered vote
 abbrev pub OffersThere : Rules → ReadVote → Via → ℕ → State → List Entry → Option Offer → Type 0

@@ -1,6 +1,6 @@
 -- The passes of one board.
 use Rattle.std.specs.Prelude.{◌≢◌, List, AllPairs}
-use Rattle.board_terms.specs.Boards.{Parts}
+use Rattle.serve_board.specs.Boards.{Parts}
 
 -- no two of the passes have one number
 abbrev pub DifferInNumber : List Parts → Type 0

@@ -4,7 +4,7 @@ ghost use Rattle.dir_bytes.specs.Causes.{Rose};
 ghost use Rattle.key_port.specs.Answers.{rules};
 ghost use Rattle.period_terms.specs.declared.answer.Answer.TheVariants as answers;
 ghost use Rattle.period_terms.specs.declared.event.Event.TheVariants as events;
-ghost use Rattle.board_terms.specs.Boards.{Advances, IsAt, IsNew, IsPlace, Looks, Makes, Sees, Stores, position_of_offer, position_of_sign_in};
+ghost use Rattle.serve_board.specs.Boards.{Advances, IsAt, IsNew, IsPlace, Looks, Makes, Sees, Stores, position_of_offer, position_of_sign_in};
 ghost use Rattle.serve_board.specs.Passes.{DifferInNumber};
 
 use crate::advancing::AdvanceStation;
@@ -20,8 +20,7 @@ use dir_values::{Fingerprint, Roster};
 use key_port::{Signer, Verifier};
 use period_core::Station;
 use period_lock::Shared;
-use period_terms::{Advance, Offer, SignIn, Via};
-use signature_terms::CheckedSig;
+use period_terms::{Advance, CheckedSig, Offer, SignIn, Via};
 use std::alloc::Global;
 use std::marker::Model;
 use std::sync::Wait;
@@ -40,7 +39,7 @@ pub struct Board<V: Verifier> {
 
 impl<V: Verifier> Model for Board<V> {
     ghost use Rattle.std.specs.Prelude.{◌≡◌};
-    ghost use Rattle.board_terms.specs.Boards.{Locks};
+    ghost use Rattle.serve_board.specs.Boards.{Locks};
 
     ghost Value = { Locks };
 

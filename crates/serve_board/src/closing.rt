@@ -1,7 +1,7 @@
 // The meeting of all passes of a board.
 ghost use Rattle.std.specs.Prelude.{◌≡◌, ◌≤◌, [], All, length, map, vec_capacity, IfOk};
 ghost use Rattle.key_port.specs.Answers.{rules};
-ghost use Rattle.board_terms.specs.Boards.{IsAt, Leaves};
+ghost use Rattle.serve_board.specs.Boards.{IsAt, Leaves};
 
 use crate::board::Board;
 use crate::pass::Pass;

@@ -3,7 +3,7 @@ ghost use Rattle.std.specs.Prelude.{◌≡◌, MatchResult, option_map};
 ghost use Rattle.key_port.specs.Answers.{rules};
 ghost use Rattle.period_core.specs.Views as views;
 ghost use Rattle.period_terms.specs.Readings as readings;
-ghost use Rattle.board_terms.specs.Boards.{IsAt, Sees};
+ghost use Rattle.serve_board.specs.Boards.{IsAt, Sees};
 
 use crate::board::Board;
 use crate::pass::Pass;
@@ -12,8 +12,7 @@ use consensus_terms::Flavour;
 use dir_bytes::{Memory, Text};
 use key_port::Verifier;
 use period_core::Station;
-use period_terms::Name;
-use signature_terms::PeriodView;
+use period_terms::{Name, PeriodView};
 use std::alloc::Global;
 use std::sync::Wait;
 

@@ -15,7 +15,7 @@ pub struct Pass<V: Verifier> {
 }
 
 impl<V: Verifier> Model for Pass<V> {
-    ghost use Rattle.board_terms.specs.Boards.{Parts};
+    ghost use Rattle.serve_board.specs.Boards.{Parts};
 
     ghost Value = { Parts };
 

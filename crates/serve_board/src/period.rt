@@ -5,7 +5,7 @@ ghost use Rattle.period_terms.specs.Histories.{after};
 ghost use Rattle.period_laws.specs.Checked.{IsCheckedHistory};
 ghost use Rattle.period_terms.specs.declared.entry.Entry.{Entry};
 ghost use Rattle.period_terms.specs.declared.state.State.{State};
-ghost use Rattle.board_terms.specs.Turns.{Stands};
+ghost use Rattle.serve_board.specs.Turns.{Stands};
 
 use key_port::Verifier;
 use period_core::Station;

@@ -6,8 +6,7 @@ ghost use Rattle.serve_board.specs.Events.{SignsThere, signed_entry};
 use crate::period::Period;
 use key_port::Verifier;
 use period_lock::Event;
-use period_terms::SignIn;
-use signature_terms::CheckedSig;
+use period_terms::{CheckedSig, SignIn};
 
 /// A signature is offered. It is there until then.
 #[derive(Drop)]

@@ -10,7 +10,7 @@ use Rattle.serve_command.specs.declared.refusal.ServeRefusal.{ServeRefusal}
 use Rattle.flag_rules.specs.Rules.{list_allows}
 use Rattle.flag_rules.specs.declared.operator.OperatorRule.{OperatorRule}
 use Rattle.station_input.specs.declared.facts.StationFacts.{StationFacts}
-use Rattle.board_terms.specs.Boards.{Locks, Parts}
+use Rattle.serve_board.specs.Boards.{Locks, Parts}
 use Rattle.serve_work.specs.Serving.{Serves}
 use Rattle.serve_work.specs.Workers.{HasWorked}
 use Rattle.serve_work.specs.declared.serving.Served.{Served}

@@ -7,7 +7,7 @@ use Rattle.authority_certs.specs.Checks.{Checks, certifies, crosscertifies, name
 use Rattle.authority_certs.specs.declared.cert.Cert.{Cert}
 use Rattle.authority_certs.specs.declared.checking.CertAnswer.{CertAnswer}
 use Rattle.authority_certs.specs.declared.checking.CertAnswer.TheVariants as answer
-use Rattle.station_command_laws.specs.Answerable.{HoldsAt}
+use Rattle.station_commands.specs.Answerable.{HoldsAt}
 use Rattle.serve_command.specs.Starting.{RefusesCertificate}
 use Rattle.serve_command.specs.Told.{cert_refused}
 use Rattle.serve_command.specs.declared.refusal.ServeRefusal.{ServeRefusal}

@@ -8,12 +8,12 @@ use Rattle.daemon_words.specs.declared.command.Measures.TheVariants as measures
 use Rattle.station_input.specs.declared.facts.StationFacts.{StationFacts}
 use Rattle.vote_maker.specs.Made.{Basis, schedule_in}
 use Rattle.station_commands.specs.Voting.{IsBasisOf}
-use Rattle.bandwidth_commands.specs.WithFile.{BeginsWithFile, BeginsWithOldFile, IsFaultyBehind, RefusesFile}
-use Rattle.bandwidth_commands.specs.declared.refusal.BandwidthRefusal.{BandwidthRefusal}
-use Rattle.bandwidth_commands.specs.declared.refusal.BandwidthRefusal.TheVariants as bandwidth
-use Rattle.station_command_laws.proofs.FilesNotRefused.{no_fault, not_faulty_behind, one_front, one_start}
-use Rattle.station_command_laws.proofs.NotRefused.{has_period, has_pool, in_order, not_faulty}
-use Rattle.station_command_laws.proofs.OneBasis.{one_basis}
+use Rattle.station_commands.specs.WithFile.{BeginsWithFile, BeginsWithOldFile, IsFaultyBehind, RefusesFile}
+use Rattle.station_commands.specs.declared.file_refusal.BandwidthRefusal.{BandwidthRefusal}
+use Rattle.station_commands.specs.declared.file_refusal.BandwidthRefusal.TheVariants as bandwidth
+use Rattle.station_commands.proofs.FilesNotRefused.{no_fault, not_faulty_behind, one_front, one_start}
+use Rattle.station_commands.proofs.NotRefused.{has_period, has_pool, in_order, not_faulty}
+use Rattle.station_commands.proofs.OneBasis.{one_basis}
 use Rattle.serve_command.specs.Answerable.{CanServe, CanStart, SuchAreNotRefused}
 use Rattle.serve_command.specs.Starting.{IsFaultyIn, RefusesCertificate, RefusesStation, RefusesToServe, StandsBehind}
 use Rattle.serve_command.specs.Starting.{StandsIn}

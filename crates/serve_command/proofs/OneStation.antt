@@ -9,9 +9,9 @@ use Rattle.daemon_words.specs.declared.command.Measures.TheVariants as measures
 use Rattle.frame_terms.specs.declared.fault.FrameFault.{FrameFault}
 use Rattle.serve_command.specs.declared.refusal.ServeRefusal.{ServeRefusal}
 use Rattle.station_input.specs.declared.facts.StationFacts.{StationFacts}
-use Rattle.bandwidth_commands.specs.WithFile.{IsFaultyBehind, station_behind}
-use Rattle.station_command_laws.proofs.FilesNotRefused.{one_front, one_start}
-use Rattle.station_command_laws.proofs.OneBasis.{given_in, one_station, one_used, used_in}
+use Rattle.station_commands.specs.WithFile.{IsFaultyBehind, station_behind}
+use Rattle.station_commands.proofs.FilesNotRefused.{one_front, one_start}
+use Rattle.station_commands.proofs.OneBasis.{given_in, one_station, one_used, used_in}
 use Rattle.serve_command.specs.Starting.{RefusesStation, StandsBehind, StandsIn}
 
 -- ---- what holds of one thing holds of the same

@@ -1,6 +1,6 @@
 -- What was read of what a station is given, or why it was not.
 use Rattle.std.proofs.Common.{◌≡◌, ℕ, List, Ok, Err, refl, subst, inl, inr}
-use Rattle.bandwidth_front.specs.declared.front.Front.{Front}
+use Rattle.bandwidth_file.specs.declared.front.Front.{Front}
 use Rattle.daemon_words.specs.declared.command.Measures.TheVariants as measures
 use Rattle.frame_terms.specs.declared.fault.FrameFault.{FrameFault}
 use Rattle.daemon_words.specs.declared.stop.Stop.{Stop}
@@ -8,9 +8,9 @@ use Rattle.daemon_words.specs.declared.stop.Stop.TheVariants as stop
 use Rattle.station_input.specs.declared.facts.StationFacts.{StationFacts}
 use Rattle.station_laws.specs.Once.{RelaysAreNamedOnce}
 use Rattle.station_commands.specs.Voting.{GivesStation}
-use Rattle.bandwidth_commands.specs.Private.{GivesFile, GivesStationBehind}
-use Rattle.bandwidth_commands.specs.WithFile.{BeginsWithFile, IsFaultyBehind, RefusesFile}
-use Rattle.bandwidth_commands.specs.declared.refusal.BandwidthRefusal.{BandwidthRefusal}
+use Rattle.station_commands.specs.Private.{GivesFile, GivesStationBehind}
+use Rattle.station_commands.specs.WithFile.{BeginsWithFile, IsFaultyBehind, RefusesFile}
+use Rattle.station_commands.specs.declared.file_refusal.BandwidthRefusal.{BandwidthRefusal}
 use Rattle.serve_command.specs.Private.{IsReadIn, StopsFor}
 use Rattle.serve_command.specs.Starting.{IsFaultyIn}
 use Rattle.serve_command.specs.Told.{of_fault, of_file}

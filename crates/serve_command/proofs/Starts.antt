@@ -17,7 +17,7 @@ use Rattle.period_terms.specs.Schedules.{next_valid_after}
 use Rattle.period_terms.specs.declared.state.State.{State}
 use Rattle.period_core.specs.Starting.{Starts}
 use Rattle.period_terms.proofs.NextPeriods.{answers_one, next_is_next}
-use Rattle.board_terms.specs.Boards.{IsAt, IsNew, Locks, Parts}
+use Rattle.serve_board.specs.Boards.{IsAt, IsNew, Locks, Parts}
 use Rattle.vote_schedule.specs.Moments.{AnswersNext}
 use Rattle.station_commands.specs.Voting.{HasPool}
 use Rattle.serve_command.specs.Private.{CanBeginBy, IsOpened, IsReadIn, IsReady}

@@ -7,7 +7,7 @@ use Rattle.serve_command.specs.declared.refusal.ServeRefusal.TheVariants as refu
 use Rattle.station_input.specs.declared.facts.StationFacts.{StationFacts}
 use Rattle.vote_maker.specs.Made.{Basis}
 use Rattle.station_commands.specs.Voting.{IsBasisOf}
-use Rattle.station_command_laws.specs.Answerable.{HoldsAt, IsNotRefused}
+use Rattle.station_commands.specs.Answerable.{HoldsAt, IsNotRefused}
 use Rattle.serve_command.specs.Starting.{RefusesToServe, StandsIn}
 
 -- A station that is given this can start an authority at a moment, with the descriptors that stand in the input from

@@ -12,7 +12,7 @@ use Rattle.vote_pool.specs.Pools.{Pooled}
 use Rattle.vote_schedule.specs.Schedules.{IsSchedule, Schedule}
 use Rattle.vote_maker.specs.Made.{schedule_in}
 use Rattle.period_terms.specs.Histories.{IsStart}
-use Rattle.board_terms.specs.Boards.{IsAt, IsNew, Locks, Parts}
+use Rattle.serve_board.specs.Boards.{IsAt, IsNew, Locks, Parts}
 use Rattle.serve_command.specs.Serving.{IsBoardOf}
 use Rattle.serve_command.specs.Starting.{CanBegin, IsStartOf, StandsIn, Starting, StartsAs}
 

@@ -10,7 +10,7 @@ use Rattle.serve_command.specs.declared.refusal.ServeRefusal.{ServeRefusal}
 use Rattle.serve_command.specs.declared.refusal.ServeRefusal.TheVariants as refusal
 use Rattle.flag_rules.specs.Rules.{RuleAlike, list_allows}
 use Rattle.flag_rules.specs.declared.operator.OperatorRule.{OperatorRule}
-use Rattle.board_terms.specs.Boards.{IsNew, Locks, Parts}
+use Rattle.serve_board.specs.Boards.{IsNew, Locks, Parts}
 use Rattle.serve_work.specs.Serving.{Serves}
 use Rattle.serve_work.specs.Workers.{HasWorked}
 use Rattle.serve_work.specs.declared.outside.Outside.{Outside}

@@ -24,8 +24,8 @@ use Rattle.station_commands.specs.Order.{IsInOrder, IsOutOfOrder, roster_in}
 use Rattle.station_commands.specs.Voting.{HasPool, IsBasisOf}
 use Rattle.station_commands.specs.declared.refusal.OrderWord.{OrderWord}
 use Rattle.station_commands.specs.declared.refusal.PoolRefusal.{PoolRefusal}
-use Rattle.bandwidth_commands.specs.WithFile.{BeginsWithFile, IsFaultyBehind, RefusesFile, station_behind}
-use Rattle.bandwidth_commands.specs.declared.refusal.BandwidthRefusal.{BandwidthRefusal}
+use Rattle.station_commands.specs.WithFile.{BeginsWithFile, IsFaultyBehind, RefusesFile, station_behind}
+use Rattle.station_commands.specs.declared.file_refusal.BandwidthRefusal.{BandwidthRefusal}
 use Rattle.serve_command.specs.Told.{by_end, by_fault, by_file, by_order, by_pool, cert_refused}
 use Rattle.serve_command.specs.declared.refusal.ServeRefusal.{ServeRefusal}
 

@@ -12,7 +12,7 @@ use Rattle.station_commands.specs.declared.refusal.PoolRefusal.{PoolRefusal}
 use Rattle.station_commands.specs.declared.refusal.PoolRefusal.TheVariants as pool
 use Rattle.station_commands.specs.declared.refusal.StationRefusal.{StationRefusal}
 use Rattle.station_commands.specs.declared.refusal.StationRefusal.TheVariants as station
-use Rattle.bandwidth_commands.specs.declared.refusal.BandwidthRefusal.{BandwidthRefusal}
+use Rattle.station_commands.specs.declared.file_refusal.BandwidthRefusal.{BandwidthRefusal}
 use Rattle.serve_command.specs.declared.refusal.ServeRefusal.{ServeRefusal}
 use Rattle.serve_command.specs.declared.refusal.ServeRefusal.TheVariants as refusal
 

@@ -1,6 +1,5 @@
 // Why no authority serves.
-use bandwidth_commands::BandwidthRefusal;
-use station_commands::StationRefusal;
+use station_commands::{BandwidthRefusal, StationRefusal};
 
 /// Why `serve` starts no authority.
 #[derive(Clone, Copy, Debug, PartialEq, Eq)]

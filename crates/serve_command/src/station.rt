@@ -5,10 +5,9 @@ ghost use Rattle.serve_command.specs.Starting.{IsFaultyIn};
 
 use crate::refusal::ServeRefusal;
 use crate::told::{of_fault, of_file};
-use bandwidth_commands::{file_of, station_behind};
 use bytes::Bytes;
 use daemon_words::{Measures, Stop};
-use station_commands::station_of;
+use station_commands::{file_of, station_behind, station_of};
 use station_input::StationFacts;
 use station_laws::relays_are_named_once;
 use std::alloc::Global;

@@ -4,10 +4,9 @@ ghost use Rattle.serve_command.specs.Told as told;
 
 use crate::refusal::ServeRefusal;
 use authority_certs::CertAnswer;
-use bandwidth_commands::BandwidthRefusal;
 use daemon_words::Stop;
 use frame_terms::FrameFault;
-use station_commands::{OrderWord, PoolRefusal, StationRefusal, cert_word};
+use station_commands::{BandwidthRefusal, OrderWord, PoolRefusal, StationRefusal, cert_word};
 
 /// That the station can make no vote.
 pub(crate) fn station_stop(why: StationRefusal) -> Stop<ServeRefusal>

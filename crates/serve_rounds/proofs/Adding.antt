@@ -26,10 +26,10 @@ use Rattle.period_terms.specs.Advances.{MayGiveAt}
 use Rattle.period_terms.specs.Histories.{after, entry_if}
 use Rattle.period_terms.specs.Steps.{changes}
 use Rattle.period_laws.specs.Checked.{IsCheckedHistory}
-use Rattle.board_terms.specs.Boards.{Locks, Parts, Makes, Sees, Looks, Advances}
-use Rattle.board_terms.specs.Stocks.{stock_after}
-use Rattle.board_laws.specs.Going.{Goes}
-use Rattle.board_laws.proofs.Going.{goes_same, goes_on, goes_makes, goes_sees, goes_looks, prefix_same}
+use Rattle.serve_board.specs.Boards.{Locks, Parts, Makes, Sees, Looks, Advances}
+use Rattle.serve_board.specs.Stocks.{stock_after}
+use Rattle.serve_board.specs.Going.{Goes}
+use Rattle.serve_board.proofs.Going.{goes_same, goes_on, goes_makes, goes_sees, goes_looks, prefix_same}
 use Rattle.serve_rounds.specs.Duties.{AdvancesAll, IsAdvance}
 use Rattle.serve_rounds.specs.OwnVotes.{IsTextMade, IsTextOfBoard}
 use Rattle.serve_rounds.specs.Spans.{AddedKind, Adds, AddsNone, Since}

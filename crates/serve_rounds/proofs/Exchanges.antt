@@ -29,11 +29,11 @@ use Rattle.period_terms.specs.declared.name.Name.TheVariants.{Vote}
 use Rattle.period_terms.specs.declared.state.State.{State}
 use Rattle.period_terms.specs.Histories.{after}
 use Rattle.period_terms.specs.Readings.{document_of}
-use Rattle.signature_document.specs.Next.{next_signatures_of}
+use Rattle.checked_sigs.specs.Next.{next_signatures_of}
 use Rattle.dir_http.specs.Responses.{post_text}
-use Rattle.board_terms.specs.Boards.{Locks, Parts, Sees, Advances}
-use Rattle.board_laws.specs.Going.{Goes}
-use Rattle.board_laws.proofs.Going.{prefix_on, prefix_same}
+use Rattle.serve_board.specs.Boards.{Locks, Parts, Sees, Advances}
+use Rattle.serve_board.specs.Going.{Goes}
+use Rattle.serve_board.proofs.Going.{prefix_on, prefix_same}
 use Rattle.serve_rounds.specs.declared.round.Round.{Round}
 use Rattle.serve_rounds.specs.Exchanges.{AsksAs, AsksSome, BringsSignatures, DoesPhase}
 use Rattle.serve_rounds.specs.Exchanges.{HasSigned, IsDue, IsOwnText, LinkSteps}

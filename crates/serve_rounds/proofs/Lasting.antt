@@ -11,9 +11,9 @@ use Rattle.vote_terms.specs.Votes.{ReadVote}
 use Rattle.period_lock.specs.Turns.{entries}
 use Rattle.period_terms.specs.declared.entry.Entry.{Entry}
 use Rattle.period_laws.specs.Checked.{IsCheckedHistory}
-use Rattle.board_terms.specs.Boards.{Locks, Parts, Sees}
-use Rattle.board_laws.specs.Going.{Goes}
-use Rattle.board_laws.proofs.Going.{prefix_on, prefix_same}
+use Rattle.serve_board.specs.Boards.{Locks, Parts, Sees}
+use Rattle.serve_board.specs.Going.{Goes}
+use Rattle.serve_board.proofs.Going.{prefix_on, prefix_same}
 use Rattle.serve_rounds.specs.Duties.{IsAdvance, IsFetched, IsGathered, IsOwn, IsRound}
 use Rattle.serve_rounds.specs.OwnVotes.{IsOwnVote, IsPeriodOf, IsTextOfBoard}
 use Rattle.serve_rounds.specs.Spans.{AddedKind, Anywhere, Since, WasSeen}

@@ -10,7 +10,7 @@ use Rattle.station_input.specs.declared.facts.StationFacts.{StationFacts}
 use Rattle.lone_vote.specs.Alone.{IsVote}
 use Rattle.vote_terms.specs.Acceptable.{IsVerified}
 use Rattle.vote_terms.specs.Votes.{ReadVote}
-use Rattle.signature_terms.specs.declared.view.PeriodView.{PeriodView}
+use Rattle.period_terms.specs.declared.view.PeriodView.{PeriodView}
 use Rattle.checked_sigs.specs.Checks.{ChecksAll, Tally}
 use Rattle.period_terms.specs.declared.answer.Advance.{Advance}
 use Rattle.period_terms.specs.declared.answer.Advance.TheVariants as moments
@@ -23,7 +23,7 @@ use Rattle.period_terms.specs.Advances.{MayGiveAt}
 use Rattle.period_terms.specs.Histories.{after}
 use Rattle.period_laws.specs.Checked.{IsAcceptedAs, IsCheckedHistory}
 use Rattle.period_lock.specs.Turns.{entries}
-use Rattle.board_terms.specs.Boards.{Locks, Parts, Advances}
+use Rattle.serve_board.specs.Boards.{Locks, Parts, Advances}
 use Rattle.serve_rounds.specs.OwnVotes.{IsOwnVote, IsPeriodOf}
 use Rattle.serve_rounds.specs.Spans.{Adds}
 

@@ -17,9 +17,9 @@ use Rattle.period_terms.specs.Histories.{after}
 use Rattle.period_terms.specs.Readings.{document_of}
 use Rattle.period_laws.specs.Checked.{IsCheckedHistory}
 use Rattle.period_lock.specs.Turns.{entries}
-use Rattle.signature_document.specs.Next.{next_signatures_of}
+use Rattle.checked_sigs.specs.Next.{next_signatures_of}
 use Rattle.dir_http.specs.declared.link.LinkAnswer.{LinkAnswer}
-use Rattle.board_terms.specs.Boards.{Locks, Parts}
+use Rattle.serve_board.specs.Boards.{Locks, Parts}
 use Rattle.serve_rounds.specs.declared.round.Round.{Round}
 use Rattle.serve_rounds.specs.OwnVotes.{IsOwnVote, IsPeriodOf}
 use Rattle.serve_rounds.specs.Plans.{Asking, GetVote, PostVote, PostSignatures}

@@ -14,8 +14,8 @@ use Rattle.vote_terms.specs.Votes.{ReadVote}
 use Rattle.period_terms.specs.declared.entry.Entry.{Entry}
 use Rattle.period_terms.specs.Histories.{after}
 use Rattle.period_laws.specs.Checked.{IsCheckedHistory}
-use Rattle.board_terms.specs.Boards.{Locks, Parts}
-use Rattle.board_terms.specs.Stocks.{stock_after, AreKept}
+use Rattle.serve_board.specs.Boards.{Locks, Parts}
+use Rattle.serve_board.specs.Stocks.{stock_after, AreKept}
 use Rattle.period_lock.specs.Turns.{entries}
 use Rattle.serve_rounds.specs.Spans.{WasSeen}
 

@@ -2,8 +2,8 @@
 use Rattle.std.specs.Prelude.{◌≡◌, ◌++◌, ℕ, List, All, map}
 use mathlib.Core.List.{IsPrefix}
 use Rattle.period_terms.specs.declared.entry.Entry.{Entry}
-use Rattle.board_terms.specs.Boards.{Parts}
-use Rattle.board_laws.specs.Going.{Goes}
+use Rattle.serve_board.specs.Boards.{Parts}
+use Rattle.serve_board.specs.Going.{Goes}
 
 -- a kind of entries that a pass adds between what it had seen and what it then has
 abbrev pub AddedKind : Type 1

@@ -2,7 +2,7 @@
 ghost use Rattle.std.specs.Prelude.{◌≡◌, ◌≤◌, ◌⊎◌, Ok, true, IsTrue};
 ghost use Rattle.dir_bytes.specs.Causes.{Rose};
 ghost use Rattle.key_port.specs.Answers.{rules};
-ghost use Rattle.board_terms.specs.Boards.{IsAt, Advances, Parts};
+ghost use Rattle.serve_board.specs.Boards.{IsAt, Advances, Parts};
 ghost use Rattle.serve_rounds.specs.Duties.{AdvancesAll, IsAdvance, Settles};
 ghost use Rattle.serve_rounds.specs.Exchanges.{HasSigned};
 ghost use Rattle.serve_rounds.specs.Spans.{Adds};

@@ -3,7 +3,7 @@ ghost use Rattle.std.specs.Prelude.{◌≡◌, ◌≤◌, ◌++◌, ◌∷◌, [
 ghost use Rattle.key_port.specs.Answers.{rules};
 ghost use Rattle.dir_values.specs.Digests.{fingerprint_text};
 ghost use Rattle.vote_terms.specs.Acceptable.{IsVerified};
-ghost use Rattle.board_terms.specs.Boards.{IsAt, Parts};
+ghost use Rattle.serve_board.specs.Boards.{IsAt, Parts};
 ghost use Rattle.vote_schedule.specs.declared.phase.Phase.TheVariants as phases;
 ghost use Rattle.serve_rounds.specs.Duties.{IsFetched, StandsAlone};
 ghost use Rattle.serve_rounds.specs.Exchanges.{AsksSome, IsDue, MayAsk};

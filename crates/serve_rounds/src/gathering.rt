@@ -1,7 +1,7 @@
 // The signatures of other authorities, fetched from the peers.
 ghost use Rattle.std.specs.Prelude.{◌≡◌, ◌≤◌, None};
 ghost use Rattle.key_port.specs.Answers.{rules};
-ghost use Rattle.board_terms.specs.Boards.{IsAt, Parts};
+ghost use Rattle.serve_board.specs.Boards.{IsAt, Parts};
 ghost use Rattle.vote_schedule.specs.declared.phase.Phase.TheVariants as phases;
 ghost use Rattle.serve_rounds.specs.Duties.{IsGathered};
 ghost use Rattle.serve_rounds.specs.Exchanges.{AsksSome, MayAsk, Whatever};

@@ -1,7 +1,7 @@
 // The own vote's text, made in one reading of the pool.
 ghost use Rattle.std.specs.Prelude.{◌≡◌, ◌≤◌, IfSome, IsTrue};
 ghost use Rattle.key_port.specs.Answers.{rules};
-ghost use Rattle.board_terms.specs.Boards.{IsAt, Parts};
+ghost use Rattle.serve_board.specs.Boards.{IsAt, Parts};
 ghost use Rattle.serve_rounds.specs.OwnVotes.{IsTextMade, IsTextOfBoard};
 ghost use Rattle.serve_rounds.specs.Spans.{AddsNone};
 

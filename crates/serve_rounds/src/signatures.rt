@@ -1,7 +1,7 @@
 // Detached signatures: those that are held brought to the peers, and those that a peer gave checked and offered.
 ghost use Rattle.std.specs.Prelude.{◌≡◌, ◌≤◌, IfSome};
 ghost use Rattle.key_port.specs.Answers.{rules};
-ghost use Rattle.board_terms.specs.Boards.{IsAt, Parts};
+ghost use Rattle.serve_board.specs.Boards.{IsAt, Parts};
 ghost use Rattle.serve_rounds.specs.Duties.{IsGathered, TellsAccepted};
 ghost use Rattle.serve_rounds.specs.Exchanges.{BringsSignatures};
 ghost use Rattle.serve_rounds.specs.Spans.{Adds, AddsNone, Anywhere};
@@ -13,8 +13,8 @@ use checked_sigs::check_signatures;
 use dir_http::Link;
 use http_words::SIGNATURES_RESPONSE_LIMIT;
 use key_port::Verifier;
+use period_terms::{CheckedSig, PeriodView};
 use serve_board::{Board, Pass};
-use signature_terms::{CheckedSig, PeriodView};
 use station_input::StationFacts;
 use std::alloc::Global;
 use std::sync::Wait;

@@ -2,18 +2,18 @@
 ghost use Rattle.std.specs.Prelude.{◌≡◌, MatchResult, is_some};
 ghost use Rattle.period_terms.specs.Readings.{document_of};
 ghost use Rattle.period_terms.specs.declared.name.Name.TheVariants as names;
-ghost use Rattle.signature_document.specs.Next.{next_signatures_of};
+ghost use Rattle.checked_sigs.specs.Next.{next_signatures_of};
 ghost use Rattle.key_port.specs.Answers.{rules};
-ghost use Rattle.board_terms.specs.Boards.{IsAt, Parts, Sees};
+ghost use Rattle.serve_board.specs.Boards.{IsAt, Parts, Sees};
 ghost use Rattle.serve_rounds.specs.Spans.{AddsNone};
 
+use checked_sigs::next_signatures;
 use dir_bytes::{Memory, Text};
 use dir_values::Fingerprint;
 use key_port::Verifier;
 use period_core::Station;
 use period_terms::Name;
 use serve_board::{Board, Pass, Question};
-use signature_document::next_signatures;
 use std::alloc::Global;
 use std::sync::Wait;
 

@@ -1,8 +1,8 @@
 // The own vote: read, checked, offered, and brought to the peers.
 ghost use Rattle.std.specs.Prelude.{◌≡◌, ◌≤◌, IfSome};
 ghost use Rattle.key_port.specs.Answers.{rules};
-ghost use Rattle.board_terms.specs.Boards.{IsAt, Parts};
-ghost use Rattle.board_laws.specs.Going.{Goes};
+ghost use Rattle.serve_board.specs.Boards.{IsAt, Parts};
+ghost use Rattle.serve_board.specs.Going.{Goes};
 ghost use Rattle.serve_rounds.specs.Duties.{IsOwn};
 ghost use Rattle.vote_schedule.specs.declared.phase.Phase.TheVariants as phases;
 ghost use Rattle.serve_rounds.specs.Exchanges.{DoesPhase, IsOwnText};

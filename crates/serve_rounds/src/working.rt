@@ -2,8 +2,8 @@
 ghost use Rattle.std.specs.Prelude.{◌≡◌, ◌≤◌, Ok};
 ghost use Rattle.dir_bytes.specs.Causes.{Counts, Rose};
 ghost use Rattle.key_port.specs.Answers.{rules};
-ghost use Rattle.board_terms.specs.Boards.{IsAt, Parts};
-ghost use Rattle.board_laws.specs.Going.{Goes};
+ghost use Rattle.serve_board.specs.Boards.{IsAt, Parts};
+ghost use Rattle.serve_board.specs.Going.{Goes};
 ghost use Rattle.serve_rounds.specs.Duties.{Duties, IsRound};
 ghost use Rattle.serve_rounds.specs.Exchanges.{AsksAs, AsksPeers, DoesPhase};
 ghost use Rattle.serve_rounds.specs.OwnVotes.{IsPeriodOf};

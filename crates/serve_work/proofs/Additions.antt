@@ -22,10 +22,10 @@ use Rattle.period_terms.specs.Histories.{after, entry_if}
 use Rattle.period_terms.specs.Steps.{step, changes}
 use Rattle.period_laws.specs.Checked.{IsChecked, IsCheckedHistory, anything, events_of}
 use Rattle.period_laws.specs.Periods.{Along}
-use Rattle.board_terms.specs.Boards.{Locks, Parts, Makes, Stores}
-use Rattle.board_terms.specs.Stocks.{kept_if}
-use Rattle.board_laws.specs.Going.{Goes}
-use Rattle.board_laws.proofs.Going.{goes_same, goes_on, goes_makes, goes_stores}
+use Rattle.serve_board.specs.Boards.{Locks, Parts, Makes, Stores}
+use Rattle.serve_board.specs.Stocks.{kept_if}
+use Rattle.serve_board.specs.Going.{Goes}
+use Rattle.serve_board.proofs.Going.{goes_same, goes_on, goes_makes, goes_stores}
 use Rattle.serve_rounds.specs.Duties.{IsAdvance, IsGathered, IsRound}
 use Rattle.serve_rounds.specs.Spans.{AddedKind, Adds}
 use Rattle.serve_rounds.proofs.Adding.{all_one, entry_by-map, own_more}

@@ -30,20 +30,20 @@ use Rattle.period_terms.specs.declared.state.State.{State}
 use Rattle.period_terms.specs.Histories.{entry_if}
 use Rattle.period_terms.specs.declared.name.Name.TheVariants as names
 use Rattle.period_terms.specs.Readings.{document_of}
-use Rattle.board_terms.specs.Boards.{Locks, Parts, Looks, Sees}
-use Rattle.board_terms.specs.Stocks.{kept_if}
-use Rattle.board_laws.proofs.Going.{goes_looks, goes_sees}
+use Rattle.serve_board.specs.Boards.{Locks, Parts, Looks, Sees}
+use Rattle.serve_board.specs.Stocks.{kept_if}
+use Rattle.serve_board.proofs.Going.{goes_looks, goes_sees}
 use Rattle.serve_answers.specs.Answers.{TakesDescriptor, TakesRuled, TakesVote}
-use Rattle.http_answers.specs.Connections.{DoesFor, Handles}
+use Rattle.http_words.specs.Connections.{DoesFor, Handles}
 use Rattle.serve_answers.specs.Connections.{Serves}
 use Rattle.serve_answers.specs.Finding.{AddsNothing, Finds, FindsAsked, FindsMicros, FindsNothing, Reads, ReadsCurrent}
 use Rattle.serve_answers.specs.Finding.{flavour_of}
 use Rattle.serve_answers.specs.Handling as handling
 use Rattle.serve_answers.specs.Handling.{Counted, Does, SignsEach, TakesSignatures}
-use Rattle.http_answers.specs.declared.connection.ConnStatus.{ConnStatus}
-use Rattle.http_answers.specs.declared.connection.ConnStatus.TheVariants as status
-use Rattle.http_answers.specs.declared.outcome.Outcome.{Outcome}
-use Rattle.http_answers.specs.declared.outcome.Outcome.TheVariants.{Found, Replied}
+use Rattle.http_words.specs.declared.connection.ConnStatus.{ConnStatus}
+use Rattle.http_words.specs.declared.connection.ConnStatus.TheVariants as status
+use Rattle.http_words.specs.declared.outcome.Outcome.{Outcome}
+use Rattle.http_words.specs.declared.outcome.Outcome.TheVariants.{Found, Replied}
 use Rattle.serve_rounds.specs.Duties.{IsGathered}
 use Rattle.serve_rounds.proofs.Adding.{entry_kind}
 use Rattle.serve_work.specs.Workers.{HasWorked, IsTakenIn, IsWork}

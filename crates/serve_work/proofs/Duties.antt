@@ -7,7 +7,7 @@ use Rattle.flag_rules.specs.declared.relay.RelayFacts.{RelayFacts}
 use Rattle.flag_rules.specs.declared.ruling.Ruling.{Ruling}
 use Rattle.station_input.specs.declared.facts.StationFacts.{StationFacts}
 use Rattle.period_terms.specs.declared.answer.Advance.{Advance}
-use Rattle.board_terms.specs.Boards.{Locks, Parts}
+use Rattle.serve_board.specs.Boards.{Locks, Parts}
 use Rattle.serve_rounds.specs.Duties.{Duties, IsAdvance, IsRound}
 use Rattle.serve_rounds.proofs.Adding.{adds_advanced, adds_more, adds_wider}
 use Rattle.serve_work.specs.Workers.{HasWorked, IsTakenIn, IsWork}

@@ -10,7 +10,7 @@ use Rattle.gate_workers.specs.declared.running.Ran.{Ran}
 use Rattle.gate_workers.specs.declared.running.Ran.TheVariants as ran
 use Rattle.gate_workers.specs.declared.worker.Worker.{Worker}
 use Rattle.gate_workers.specs.Workers.{GateRose, RanTo}
-use Rattle.board_terms.specs.Boards.{Locks, Parts, IsAt, Leaves}
+use Rattle.serve_board.specs.Boards.{Locks, Parts, IsAt, Leaves}
 use Rattle.serve_work.specs.declared.serving.Served.{Served}
 use Rattle.serve_work.specs.declared.serving.Served.TheVariants as served
 use Rattle.serve_work.specs.Serving.{EachClosed, GatesRan, LeavesBoard, Reports, Serves, SomeRose}

@@ -1,3 +1,4 @@
+pub mod Lines
 pub mod Gates
 pub mod Hiring
 pub mod Places

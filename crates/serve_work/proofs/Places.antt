@@ -3,7 +3,7 @@ use Rattle.std.proofs.Common.{◌≡◌, ℕ, ◌<◌, ◌≤◌, List, [], ◌�
 use Rattle.std.specs.Prelude.{All, Bool, slice_index_or}
 use Rattle.std.proofs.lemmas.List.{get_or-map, length-map}
 use Rattle.std.proofs.lemmas.List.Elements.{All-map, All-same}
-use Rattle.board_terms.specs.Boards.{Locks, Parts, IsAt}
+use Rattle.serve_board.specs.Boards.{Locks, Parts, IsAt}
 use Rattle.flag_rules.specs.Rules.{KeepsTo}
 use Rattle.flag_rules.specs.declared.hook.Hook.{Hook}
 use Rattle.flag_rules.specs.declared.relay.RelayFacts.{RelayFacts}

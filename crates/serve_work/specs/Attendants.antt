@@ -4,7 +4,7 @@ use Rattle.flag_rules.specs.Rules.{KeepsTo}
 use Rattle.flag_rules.specs.declared.relay.RelayFacts.{RelayFacts}
 use Rattle.flag_rules.specs.declared.ruling.Ruling.{Ruling}
 use Rattle.station_input.specs.declared.facts.StationFacts.{StationFacts}
-use Rattle.board_terms.specs.Boards.{Locks, Parts, IsAt}
+use Rattle.serve_board.specs.Boards.{Locks, Parts, IsAt}
 
 -- A worker may work: its pass is of the board, and its hook keeps to its rules.
 pub record MayAttend {W F : Type 0} (allows : W → RelayFacts → Ruling → Bool) (pre : F → RelayFacts → Type 0)

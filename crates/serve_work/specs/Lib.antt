@@ -1,3 +1,4 @@
+pub mod Reports
 pub mod Attendants
 pub mod Serving
 pub mod Workers

@@ -14,8 +14,8 @@ use Rattle.vote_terms.specs.Votes.{ReadVote}
 use Rattle.period_terms.specs.declared.entry.Entry.{Entry}
 use Rattle.period_terms.specs.declared.event.Event.TheVariants.{Offered}
 use Rattle.period_terms.specs.declared.event.Via.TheVariants.{Upload}
-use Rattle.board_terms.specs.Boards.{Locks, Parts}
-use Rattle.board_laws.specs.Going.{Goes}
+use Rattle.serve_board.specs.Boards.{Locks, Parts}
+use Rattle.serve_board.specs.Going.{Goes}
 use Rattle.serve_rounds.specs.Duties.{IsAdvance, IsRound}
 use Rattle.serve_rounds.specs.Spans.{AddedKind}
 

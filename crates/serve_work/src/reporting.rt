@@ -2,10 +2,10 @@
 ghost use Rattle.serve_work.specs.Serving.{Reports};
 
 use crate::serving::Served;
+use crate::writing::write;
 use dir_bytes::{Sink, WriteAll, write_all};
 use key_port::Verifier;
 use period_core::Station;
-use period_report::write;
 use std::alloc::Global;
 
 /// Writes the report on a station.

@@ -2,7 +2,7 @@
 ghost use Rattle.std.specs.Prelude.{◌≡◌, ◌<◌, ◌≤◌, ℕ, All, length, slice_index_or};
 ghost use Rattle.key_port.specs.Answers.{rules};
 ghost use Rattle.flag_rules.specs.Rules.{KeepsTo};
-ghost use Rattle.board_terms.specs.Boards.{IsAt};
+ghost use Rattle.serve_board.specs.Boards.{IsAt};
 ghost use Rattle.serve_work.specs.Serving.{AreAsMany, HaveFailedOn, Serves};
 ghost use Rattle.serve_work.specs.Workers.{HasWorked};
 

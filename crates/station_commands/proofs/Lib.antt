@@ -1,6 +1,15 @@
+pub mod Telling
 pub mod Standing
 pub mod Stopping
 pub mod Reading
 pub mod Schedules
 pub mod Faults
 pub mod Voted
+pub mod Files
+pub mod StationBehind
+pub mod FileAnswers
+pub mod Answers
+pub mod Chains
+pub mod OneBasis
+pub mod NotRefused
+pub mod FilesNotRefused

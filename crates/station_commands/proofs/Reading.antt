@@ -12,7 +12,7 @@ use Rattle.descriptor_doc.specs.declared.checking.DescriptorRefusal.{DescriptorR
 use Rattle.descriptor_doc.specs.declared.checking.DescriptorRefusal.TheVariants as descriptor
 use Rattle.descriptor_doc.specs.declared.descriptor.Descriptor.{Descriptor}
 use Rattle.daemon_words.specs.declared.stop.Stop.TheVariants as stop
-use Rattle.station_faults.proofs.InputFaults.{descriptor_within}
+use Rattle.station_laws.proofs.InputFaults.{descriptor_within}
 use Rattle.station_commands.specs.declared.refusal.PoolRefusal.TheVariants as refusal
 use Rattle.blank_lines.specs.Behind.{FitsBehind, refusal_behind}
 use Rattle.station_commands.specs.Descriptors.{descriptor_from, found_from}

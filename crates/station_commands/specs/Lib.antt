@@ -1,5 +1,10 @@
+pub mod MeasuredTold
 pub mod Told
 pub mod Order
 pub mod Descriptors
 pub mod Reads
 pub mod Voting
+pub mod FileTold
+pub mod WithFile
+pub mod Private
+pub mod Answerable

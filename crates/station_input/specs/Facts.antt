@@ -3,7 +3,7 @@ use Rattle.std.specs.Prelude.{ℕ, List, map, option_map}
 use Rattle.frame_values.specs.Parts.{part}
 use Rattle.authority_certs.specs.Certs.{cert_in}
 pub use Rattle.authority_certs.specs.Certs.{whole_part}
-use Rattle.station_frame.specs.declared.said.MemberLine.{MemberLine}
+use Rattle.station_input.specs.declared.frame_said.MemberLine.{MemberLine}
 use Rattle.station_input.specs.declared.facts.Peer.{Peer}
 use Rattle.station_input.specs.declared.facts.StationFacts.{StationFacts}
 use Rattle.station_input.specs.declared.kept.Kept.{Kept}

@@ -5,7 +5,7 @@ use Rattle.frame_terms.specs.declared.keyword.Keyword.TheVariants.{Own, Contact,
 use Rattle.frame_values.specs.declared.values.Value.{Value}
 use Rattle.frame_values.specs.Values.{item_at, text_if}
 use Rattle.authority_certs.specs.Heads as cert
-use Rattle.station_frame.specs.declared.said.StationValue.{StationValue}
+use Rattle.station_input.specs.declared.frame_said.StationValue.{StationValue}
 use Rattle.station_input.specs.declared.head.Head.{Head}
 use Rattle.station_input.specs.Lists.{lists_in, no_lists}
 use Rattle.station_input.specs.Saying.{no_schedule, no_source, schedule_in, source_in}

@@ -1,3 +1,8 @@
+pub mod Fields
+pub mod Sources
+pub mod Lines
+pub mod Across
+pub mod Tables
 pub mod Saying
 pub mod Lists
 pub mod Heads

@@ -10,9 +10,9 @@ use Rattle.frame_values.specs.declared.found.Span.{Span}
 use Rattle.frame_values.specs.declared.values.Value.{Value}
 use Rattle.frame_values.specs.Parts.{part}
 use Rattle.frame_values.specs.Values.{item_at, text_if}
-use Rattle.list_lines.specs.Listed.{params_in, protocols_in, versions_in}
+use Rattle.value_groups.specs.Listed.{params_in, protocols_in, versions_in}
 use Rattle.list_values.specs.declared.named.Named.{Named}
-use Rattle.station_frame.specs.declared.said.StationValue.{StationValue}
+use Rattle.station_input.specs.declared.frame_said.StationValue.{StationValue}
 use Rattle.vote_terms.specs.declared.lists.VoteLists.{VoteLists}
 use Rattle.station_input.specs.declared.lists.ListSpans.{ListSpans}
 

@@ -4,7 +4,7 @@ use Rattle.item_terms.specs.Items.{items_of}
 use Rattle.frame_terms.specs.declared.fault.ReadRefusal.{ReadRefusal}
 use Rattle.frame_terms.specs.Documents.{document_of, finish}
 use Rattle.frame_terms.specs.Refusals.{Fails}
-use Rattle.station_frame.specs.Tables.{station_tables}
+use Rattle.station_input.specs.Tables.{station_tables}
 use Rattle.station_input.specs.declared.facts.StationFacts.{StationFacts}
 use Rattle.station_input.specs.declared.kept.Kept.{Kept}
 use Rattle.station_input.specs.Facts.{facts_of}

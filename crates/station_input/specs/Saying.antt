@@ -7,11 +7,11 @@ use Rattle.frame_values.specs.declared.found.DirSource.{DirSource}
 use Rattle.frame_values.specs.declared.values.Value.{Value}
 use Rattle.frame_values.specs.declared.values.Value.TheVariants as value
 use Rattle.frame_values.specs.Values.{own_in, nowhere, no_identity}
-use Rattle.station_frame.specs.declared.said.MeasuredRelay.{MeasuredRelay}
-use Rattle.station_frame.specs.declared.said.MemberLine.{MemberLine}
-use Rattle.station_frame.specs.declared.said.ScheduleLine.{ScheduleLine}
-use Rattle.station_frame.specs.declared.said.StationValue.{StationValue}
-use Rattle.station_frame.specs.declared.said.StationValue.TheVariants.{Source, Schedule, Member, Rule, Measured}
+use Rattle.station_input.specs.declared.frame_said.MeasuredRelay.{MeasuredRelay}
+use Rattle.station_input.specs.declared.frame_said.MemberLine.{MemberLine}
+use Rattle.station_input.specs.declared.frame_said.ScheduleLine.{ScheduleLine}
+use Rattle.station_input.specs.declared.frame_said.StationValue.{StationValue}
+use Rattle.station_input.specs.declared.frame_said.StationValue.TheVariants.{Source, Schedule, Member, Rule, Measured}
 
 -- an authority of which nothing is known
 abbrev pub no_source : DirSource

@@ -2,6 +2,7 @@
 ghost use Rattle.std.specs.Prelude.{◌≡◌, IfOk, map};
 ghost use Rattle.station_input.specs.Facts as facts;
 
+use crate::frame_said::{MeasuredRelay, MemberLine};
 use crate::kept::Kept;
 use crate::lists::vote_lists;
 use authority_certs::{Cert, CertHead, cert_at};
@@ -9,7 +10,6 @@ use dir_bytes::{Memory, Seq, Text};
 use dir_values::Fingerprint;
 use flag_rules::OperatorRule;
 use frame_values::{between, copy_part, copy_part_if};
-use station_frame::{MeasuredRelay, MemberLine};
 use std::alloc::Global;
 use vote_terms::VoteLists;
 

@@ -2,6 +2,8 @@
 ghost use Rattle.std.specs.Prelude.{◌≡◌};
 ghost use Rattle.station_input.specs.Kept.{kept_with, none_kept};
 
+use crate::frame::{StationFrame, StationSection};
+use crate::frame_said::{MeasuredRelay, MemberLine, StationValue};
 use crate::head::{Head, empty_head, with_certificate, with_station};
 use crate::said::{push_measured, push_members, push_rules};
 use dir_bytes::Seq;
@@ -9,7 +11,6 @@ use flag_rules::OperatorRule;
 use frame_reader::Facts;
 use frame_terms::Taken;
 use frame_values::Value;
-use station_frame::{MeasuredRelay, MemberLine, StationFrame, StationSection, StationValue};
 use std::alloc::{AllocError, Global};
 
 /// What is kept of a station input.

@@ -2,12 +2,12 @@
 ghost use Rattle.std.specs.Prelude.{◌≡◌, IfOk};
 ghost use Rattle.station_input.specs.Lists as terms;
 
+use crate::frame_said::StationValue;
 use dir_bytes::Memory;
 use frame_terms::{Keyword, Taken};
 use frame_values::{Span, Value, text_if};
-use list_lines::{params_if, protocols_if, versions_if};
-use station_frame::StationValue;
 use std::alloc::Global;
+use value_groups::{params_if, protocols_if, versions_if};
 use vote_terms::VoteLists;
 
 /// Where lists of values stand in the bytes of a station input, of those that it has.

@@ -3,11 +3,11 @@ ghost use Rattle.std.specs.Prelude.{◌<◌, ◌^◌, length};
 ghost use Rattle.station_input.specs.Reading.{ReadsStation};
 
 use crate::facts::{StationFacts, facts_of};
+use crate::frame::StationFrame;
 use crate::kept::nothing_kept;
 use dirdoc_grammar::Items;
 use frame_reader::read_document;
 use frame_terms::ReadRefusal;
-use station_frame::StationFrame;
 use std::alloc::Global;
 
 /// How many bytes a station input may have: as many as the input of a command.

@@ -3,12 +3,12 @@ ghost use Rattle.std.specs.Prelude.{◌≡◌, ◌++◌, OnOk};
 ghost use Rattle.frame_values.specs.Values.{item_at};
 ghost use Rattle.station_input.specs.Saying as saying;
 
+use crate::frame_said::{MeasuredRelay, MemberLine, ScheduleLine, StationValue};
 use dir_bytes::Seq;
 use dir_values::Fingerprint;
 use flag_rules::OperatorRule;
 use frame_terms::{Keyword, Taken};
 use frame_values::{DirSource, Value, nowhere, own_at};
-use station_frame::{MeasuredRelay, MemberLine, ScheduleLine, StationValue};
 use std::alloc::AllocError;
 
 /// An authority of which nothing is known.

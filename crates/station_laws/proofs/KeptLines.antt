@@ -17,15 +17,15 @@ use Rattle.frame_terms.specs.declared.keyword.Keyword.{Keyword}
 use Rattle.frame_terms.specs.declared.keyword.Keyword.TheVariants as the
 use Rattle.frame_values.specs.declared.values.Value.{Value}
 use Rattle.item_terms.specs.Items.{items_of}
-use Rattle.table_laws.specs.Order.{AreInOrder, sections_of}
+use Rattle.document_laws.specs.Order.{AreInOrder, sections_of}
 use Rattle.document_laws.specs.Documents.{AreParts}
 use Rattle.document_laws.specs.Parts.{AreOthers, IsPart}
-use Rattle.station_frame.specs.Tables.{station_tables}
-use Rattle.station_frame.specs.declared.across.Across.{Across}
-use Rattle.station_frame.specs.declared.frame.StationSection.{StationSection}
-use Rattle.station_frame.specs.declared.frame.StationSection.TheVariants as its
-use Rattle.station_frame.specs.declared.said.MeasuredRelay.{MeasuredRelay}
-use Rattle.station_frame.specs.declared.said.StationValue.{StationValue}
+use Rattle.station_input.specs.Tables.{station_tables}
+use Rattle.station_input.specs.declared.across.Across.{Across}
+use Rattle.station_input.specs.declared.frame.StationSection.{StationSection}
+use Rattle.station_input.specs.declared.frame.StationSection.TheVariants as its
+use Rattle.station_input.specs.declared.frame_said.MeasuredRelay.{MeasuredRelay}
+use Rattle.station_input.specs.declared.frame_said.StationValue.{StationValue}
 use Rattle.station_input.specs.Facts.{facts_of}
 use Rattle.station_input.specs.Kept.{kept_with, none_kept}
 use Rattle.station_input.specs.Reading.{max_station, with_facts}

@@ -1,3 +1,5 @@
+pub mod FaultsStationPlaces
+pub mod InputFaults
 pub mod StationTables
 pub mod NewLines
 pub mod StationNotes

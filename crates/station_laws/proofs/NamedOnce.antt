@@ -13,13 +13,13 @@ use Rattle.frame_terms.specs.declared.document.Group.{Group}
 use Rattle.frame_terms.specs.declared.document.Taken.{Taken}
 use Rattle.frame_terms.specs.declared.keyword.Keyword.{Keyword}
 use Rattle.frame_values.specs.declared.values.Value.{Value}
-use Rattle.table_laws.specs.Order.{Part}
+use Rattle.document_laws.specs.Order.{Part}
 use Rattle.document_laws.specs.Parts.{AreBetween, AreOthers, HasLast, HaveInside, IsInside, IsPart, Stands}
-use Rattle.station_frame.specs.Fields.{Identities}
-use Rattle.station_frame.specs.Tables.{station_tables}
-use Rattle.station_frame.specs.declared.across.Across.{Across}
-use Rattle.station_frame.specs.declared.frame.StationSection.{StationSection}
-use Rattle.station_frame.specs.declared.said.StationValue.{StationValue}
+use Rattle.station_input.specs.Fields.{Identities}
+use Rattle.station_input.specs.Tables.{station_tables}
+use Rattle.station_input.specs.declared.across.Across.{Across}
+use Rattle.station_input.specs.declared.frame.StationSection.{StationSection}
+use Rattle.station_input.specs.declared.frame_said.StationValue.{StationValue}
 use Rattle.station_input.specs.Saying.{onto_if}
 use Rattle.station_laws.proofs.StationNotes.{IsKnown, Naming}
 

@@ -16,21 +16,21 @@ use Rattle.frame_values.specs.Faults.{at_place, unless_fault}
 use Rattle.frame_values.specs.Lines.{argument_of, fingerprint_of, literal, rest_of, time_of}
 use Rattle.frame_values.specs.Signatures.{has_words, object_of}
 use Rattle.frame_values.specs.declared.found.Span.{Span}
-use Rattle.list_lines.specs.Lines.{params_of, protocols_of, versions_of}
+use Rattle.value_groups.specs.ListLines.{params_of, protocols_of, versions_of}
 use Rattle.frame_values.specs.declared.values.Value.{Value}
 use Rattle.frame_values.specs.declared.values.Value.TheVariants as value
 use Rattle.authority_certs.specs.Tables.{cert_value}
 use Rattle.authority_certs.specs.declared.frame.CertKind.{CertKind}
 use Rattle.authority_certs.specs.declared.frame.CertKind.TheVariants as cert
-use Rattle.station_frame.specs.Fields.{Identities, bandwidth, long_number, new_identity, ruling, unless_there}
-use Rattle.station_frame.specs.Lines.{measured_of, member_of, own_of, rule_of, schedule_of}
-use Rattle.station_frame.specs.Tables.{over_limit, station_tables, value_at}
-use Rattle.station_frame.specs.declared.across.Across.{Across}
-use Rattle.station_frame.specs.declared.frame.StationKind.{StationKind}
-use Rattle.station_frame.specs.declared.frame.StationKind.TheVariants as kind
-use Rattle.station_frame.specs.declared.said.MeasuredRelay.{MeasuredRelay}
-use Rattle.station_frame.specs.declared.said.StationValue.{StationValue}
-use Rattle.station_frame.specs.declared.said.StationValue.TheVariants as own
+use Rattle.station_input.specs.Fields.{Identities, bandwidth, long_number, new_identity, ruling, unless_there}
+use Rattle.station_input.specs.Lines.{measured_of, member_of, own_of, rule_of, schedule_of}
+use Rattle.station_input.specs.Tables.{over_limit, station_tables, value_at}
+use Rattle.station_input.specs.declared.across.Across.{Across}
+use Rattle.station_input.specs.declared.frame.StationKind.{StationKind}
+use Rattle.station_input.specs.declared.frame.StationKind.TheVariants as kind
+use Rattle.station_input.specs.declared.frame_said.MeasuredRelay.{MeasuredRelay}
+use Rattle.station_input.specs.declared.frame_said.StationValue.{StationValue}
+use Rattle.station_input.specs.declared.frame_said.StationValue.TheVariants as own
 use Rattle.station_input.specs.Saying.{measured_if, rule_if}
 
 -- ---- steps of reading

@@ -15,14 +15,14 @@ use Rattle.frame_terms.specs.declared.fault.FrameFault.{FrameFault}
 use Rattle.flag_rules.specs.declared.operator.OperatorRule.{OperatorRule}
 use Rattle.frame_values.specs.declared.values.Value.{Value}
 use Rattle.frame_values.specs.declared.values.Value.TheVariants as value
-use Rattle.station_frame.specs.Across.{note_value}
-use Rattle.station_frame.specs.Fields.{Identities}
-use Rattle.station_frame.specs.Tables.{station_tables}
-use Rattle.station_frame.specs.declared.across.Across.{Across}
-use Rattle.station_frame.specs.declared.frame.StationKind.{StationKind}
-use Rattle.station_frame.specs.declared.said.MeasuredRelay.{MeasuredRelay}
-use Rattle.station_frame.specs.declared.said.StationValue.{StationValue}
-use Rattle.station_frame.specs.declared.said.StationValue.TheVariants as own
+use Rattle.station_input.specs.Across.{note_value}
+use Rattle.station_input.specs.Fields.{Identities}
+use Rattle.station_input.specs.Tables.{station_tables}
+use Rattle.station_input.specs.declared.across.Across.{Across}
+use Rattle.station_input.specs.declared.frame.StationKind.{StationKind}
+use Rattle.station_input.specs.declared.frame_said.MeasuredRelay.{MeasuredRelay}
+use Rattle.station_input.specs.declared.frame_said.StationValue.{StationValue}
+use Rattle.station_input.specs.declared.frame_said.StationValue.TheVariants as own
 use Rattle.station_input.specs.Saying.{measured_if, rule_if}
 use Rattle.station_laws.proofs.NewLines.{IsNew, says_new}
 

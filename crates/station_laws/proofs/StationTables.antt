@@ -12,12 +12,12 @@ use Rattle.frame_terms.specs.Order.{following, opener}
 use Rattle.frame_terms.specs.Rows.{row}
 use Rattle.frame_terms.specs.Sections.{row_of}
 use Rattle.authority_certs.specs.declared.frame.CertKind.TheVariants as cert
-use Rattle.station_frame.specs.declared.frame.StationKind.{StationKind}
-use Rattle.station_frame.specs.declared.frame.StationKind.TheVariants as item
-use Rattle.station_frame.specs.declared.frame.StationSection.{StationSection}
-use Rattle.station_frame.specs.declared.frame.StationSection.TheVariants as its
-use Rattle.station_frame.specs.Tables.{station_tables}
-use Rattle.table_laws.specs.Sound.{AreSound, IsInner, StandsOnce, ends_document}
+use Rattle.station_input.specs.declared.frame.StationKind.{StationKind}
+use Rattle.station_input.specs.declared.frame.StationKind.TheVariants as item
+use Rattle.station_input.specs.declared.frame.StationSection.{StationSection}
+use Rattle.station_input.specs.declared.frame.StationSection.TheVariants as its
+use Rattle.station_input.specs.Tables.{station_tables}
+use Rattle.document_laws.specs.Sound.{AreSound, IsInner, StandsOnce, ends_document}
 use Rattle.document_laws.specs.Clear.{AreClear, IsEnd, IsEntrance}
 use Rattle.document_laws.proofs.Exact.{are_exact}
 use Rattle.station_laws.specs.Stations.{StationsAreExact}

@@ -1,2 +1,3 @@
+pub mod Within
 pub mod Stations
 pub mod Once

@@ -2,7 +2,7 @@
 use Rattle.std.specs.Prelude.{◌≡◌, ℕ, false, List, AllPairs, Ok}
 use Rattle.dir_values.specs.Digests.{same_identity}
 use Rattle.flag_rules.specs.Rules.{AreApart}
-use Rattle.station_frame.specs.declared.said.MeasuredRelay.{MeasuredRelay}
+use Rattle.station_input.specs.declared.frame_said.MeasuredRelay.{MeasuredRelay}
 use Rattle.station_input.specs.declared.facts.StationFacts.{StationFacts}
 use Rattle.station_input.specs.Reading.{station_of}
 

@@ -9,7 +9,7 @@ use Rattle.frame_values.specs.declared.found.Span.{Span}
 use Rattle.frame_values.specs.declared.values.Value.{Value}
 use Rattle.frame_values.specs.Parts.{part}
 use Rattle.frame_values.specs.Values.{item_at, text_if}
-use Rattle.list_lines.specs.Listed.{params_in, protocols_in, versions_in}
+use Rattle.value_groups.specs.Listed.{params_in, protocols_in, versions_in}
 use Rattle.list_values.specs.declared.named.Named.{Named}
 use Rattle.vote_frame.specs.declared.frame.VoteValue.{VoteValue}
 use Rattle.vote_terms.specs.declared.lists.VoteLists.{VoteLists}

@@ -6,7 +6,7 @@ use Rattle.frame_values.specs.Values.{own_in, nowhere, no_digest}
 use Rattle.frame_values.specs.declared.found.DirSource.{DirSource}
 use Rattle.frame_values.specs.declared.found.VoteSignature.{VoteSignature}
 use Rattle.vote_frame.specs.declared.frame.VoteValue.{VoteValue}
-use Rattle.random_lines.specs.declared.value.SharedRandom.{SharedRandom}
+use Rattle.value_groups.specs.declared.value.SharedRandom.{SharedRandom}
 use Rattle.vote_frame.specs.declared.frame.VoteValue.TheVariants.{Delays, Source, Random, Signature}
 
 -- the two numbers of seconds that a value is, and 0 of another kind

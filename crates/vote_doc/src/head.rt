@@ -11,7 +11,7 @@ use frame_values::{
     DirSource, Span, Value, VoteSignature, after_at, item_at, nowhere, number_at, place_at,
     text_at, text_if,
 };
-use random_lines::SharedRandom;
+use value_groups::SharedRandom;
 use vote_frame::{VoteSection, VoteValue};
 
 /// What a vote's items say, and where its texts stand in its bytes. Moments are seconds since 1970-01-01 00:00:00 UTC.

@@ -5,8 +5,8 @@ ghost use Rattle.vote_doc.specs.Lists as terms;
 use dir_bytes::Memory;
 use frame_terms::{Keyword, Taken};
 use frame_values::{Span, Value, text_if};
-use list_lines::{params_if, protocols_if, versions_if};
 use std::alloc::Global;
+use value_groups::{params_if, protocols_if, versions_if};
 use vote_frame::VoteValue;
 use vote_terms::VoteLists;
 

@@ -6,7 +6,7 @@ ghost use Rattle.vote_doc.specs.Saying as saying;
 use dir_values::{Digest1, Fingerprint};
 use frame_terms::{Keyword, Taken};
 use frame_values::{DirSource, Value, VoteSignature, nowhere, own_at};
-use random_lines::SharedRandom;
+use value_groups::SharedRandom;
 use vote_frame::VoteValue;
 
 /// The seconds for exchanging votes and signatures.

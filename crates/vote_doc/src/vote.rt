@@ -12,10 +12,10 @@ use authority_certs::Cert;
 use bytes::Bytes;
 use dir_values::{Digest1, Digest2, Fingerprint, FlagSet};
 use frame_values::{between, moment, part, part_if};
-use random_lines::SharedRandom;
 use sha1::Sha1;
 use sha2::{Digest, Sha256};
 use std::marker::Model;
+use value_groups::SharedRandom;
 use vote_entries::Entry;
 use vote_terms::{Rank, SignatureFacts, VoteLists};
 

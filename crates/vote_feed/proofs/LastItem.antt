@@ -19,13 +19,13 @@ use Rattle.frame_terms.specs.Documents.{Document, after_made, after_noted, docum
 use Rattle.frame_terms.specs.Documents.{read_items}
 use Rattle.frame_terms.specs.Refusals.{of_doc}
 use Rattle.frame_terms.specs.Tables.{Tables}
-use Rattle.part_laws.specs.Moved.{sizes}
-use Rattle.part_laws.specs.Parts.{EndWithObjects}
-use Rattle.part_laws.proofs.Endings.{HasObject, IsRight, made_right}
-use Rattle.part_laws.proofs.LastLines.{cut_lines}
-use Rattle.part_laws.proofs.LinesTogether.{AllEnded, both_read, lines_both}
-use Rattle.part_laws.proofs.OwnLines.{lines_cut}
-use Rattle.part_laws.proofs.SoundLines.{ends_all}
+use Rattle.grammar_laws.specs.Moved.{sizes}
+use Rattle.grammar_laws.specs.Parts.{EndWithObjects}
+use Rattle.grammar_laws.proofs.Endings.{HasObject, IsRight, made_right}
+use Rattle.grammar_laws.proofs.LastLines.{cut_lines}
+use Rattle.grammar_laws.proofs.LinesTogether.{AllEnded, both_read, lines_both}
+use Rattle.grammar_laws.proofs.OwnLines.{lines_cut}
+use Rattle.grammar_laws.proofs.SoundLines.{ends_all}
 use Rattle.vote_feed.specs.SoFar.{used_of}
 
 abbrev place_or : Result ℕ ReadRefusal → ℕ

@@ -4,3 +4,9 @@ pub mod Opening
 pub mod Votes
 pub mod Feeding
 pub mod BlankLines
+pub mod FedVotes
+pub mod WholeVotes
+pub mod Lasts
+pub mod LastPart
+pub mod EndedVotes
+pub mod BlankVotes

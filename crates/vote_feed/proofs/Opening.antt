@@ -15,8 +15,8 @@ use Rattle.frame_terms.specs.declared.fault.ReadRefusal.{ReadRefusal}
 use Rattle.frame_terms.specs.Documents.{Document, document_of, finish, read_items}
 use Rattle.frame_terms.specs.Tables.{Tables}
 use Rattle.frame_reader.specs.Arriving.{whole_of}
-use Rattle.feed_laws.specs.Known.{HasNoDoc}
-use Rattle.feed_laws.proofs.Opening.{all_is_open}
+use Rattle.document_laws.specs.Known.{HasNoDoc}
+use Rattle.document_laws.proofs.Opening.{all_is_open}
 use Rattle.vote_feed.specs.SoFar.{Waits, used_of}
 use Rattle.vote_feed.proofs.Going.{made_on}
 

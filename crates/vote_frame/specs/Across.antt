@@ -5,9 +5,9 @@ use Rattle.frame_terms.specs.declared.fault.FrameFault.{FrameFault}
 use Rattle.frame_terms.specs.declared.fault.FrameReason.TheVariants as reason
 use Rattle.frame_terms.specs.declared.keyword.Keyword.{Keyword}
 use Rattle.frame_terms.specs.declared.keyword.Keyword.TheVariants as the
-use Rattle.random_lines.specs.declared.line.RandomLine.{RandomLine}
-use Rattle.random_lines.specs.declared.line.RandomLine.TheVariants.{Previous, Current}
-use Rattle.random_lines.specs.declared.value.SharedRandom.{SharedRandom}
+use Rattle.value_groups.specs.declared.line.RandomLine.{RandomLine}
+use Rattle.value_groups.specs.declared.line.RandomLine.TheVariants.{Previous, Current}
+use Rattle.value_groups.specs.declared.value.SharedRandom.{SharedRandom}
 use Rattle.relay_entries.specs.declared.listed.Listed.{Listed}
 use Rattle.relay_entries.specs.Listing.{fault_at, none_listed}
 use Rattle.vote_frame.specs.declared.across.Across.{Across}

@@ -17,14 +17,14 @@ use Rattle.frame_values.specs.Faults.{at_place, too_many, unless_fault}
 use Rattle.frame_values.specs.Arguments.{next}
 use Rattle.frame_values.specs.Lines.{literal, numbers_of, time_of, delays_of, flags_of, rest_of, source_of}
 use Rattle.frame_values.specs.Signatures.{signature_of}
-use Rattle.list_lines.specs.Lines.{params_of, protocols_of, versions_of}
+use Rattle.value_groups.specs.ListLines.{params_of, protocols_of, versions_of}
 use Rattle.authority_certs.specs.Tables.{cert_rows, cert_shape, cert_value}
 use Rattle.relay_entries.specs.declared.listed.Listed.{Listed}
 use Rattle.relay_entries.specs.Lines.{entry_value, is_ignored, lifted}
 use Rattle.relay_entries.specs.Listing.{too_many_entries, note_entry}
 use Rattle.relay_entries.specs.Tables.{entry_rows, entry_shape}
-use Rattle.random_lines.specs.Lines.{random_of}
-use Rattle.random_lines.specs.declared.line.RandomLine.TheVariants as line
+use Rattle.value_groups.specs.Lines.{random_of}
+use Rattle.value_groups.specs.declared.line.RandomLine.TheVariants as line
 use Rattle.vote_frame.specs.Across.{nothing_across, note_random, with_listed}
 use Rattle.vote_frame.specs.declared.across.Across.{Across}
 use Rattle.vote_frame.specs.declared.frame.VoteKind.{VoteKind}

@@ -4,9 +4,9 @@ ghost use Rattle.frame_terms.specs.Refusals.{Becomes};
 ghost use Rattle.vote_frame.specs.Across as memory;
 
 use frame_terms::{FrameFault, FrameReason, Keyword, ReadRefusal};
-use random_lines::{RandomLine, SharedRandom};
 use relay_entries::{Listed, none_listed};
 use std::alloc::Global;
+use value_groups::{RandomLine, SharedRandom};
 
 /// What is remembered across the sections of a vote.
 #[derive(Debug, Drop)]

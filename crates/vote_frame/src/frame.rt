@@ -9,9 +9,9 @@ use dirdoc_grammar::Item;
 use frame_reader::{Frame, given};
 use frame_terms::{Again, Count, Keyword, ReadRefusal, Row, Shape, Taken};
 use frame_values::{DirSource, Value, VoteSignature};
-use random_lines::{RandomLine, SharedRandom};
 use relay_entries::{EntryKind, EntryValue, entry_rows, entry_shape, is_ignored};
 use std::alloc::Global;
+use value_groups::{RandomLine, SharedRandom};
 
 /// A vote, as a kind of document.
 #[derive(Clone, Copy, Debug)]

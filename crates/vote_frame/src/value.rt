@@ -18,11 +18,10 @@ use frame_values::{
     Value, at_place, delays_of, literal, numbers_of, rest_of, signature_of, source_of, time_of,
     too_many,
 };
-use list_lines::{params_of, protocols_of, versions_of};
-use random_lines::random_of;
 use relay_entries::{
     EntryKind, EntryValue, Listed, entry_value, flags_of, note_entry, too_many_entries,
 };
+use value_groups::{params_of, protocols_of, random_of, versions_of};
 
 /// What an item of an entry says, as a vote does.
 fn lifted(said: Value<EntryValue>) -> Value<VoteValue>

@@ -9,7 +9,7 @@ use Rattle.relay_entries.specs.declared.said.EdOpinion.TheVariants as opinion
 use Rattle.relay_entries.specs.declared.said.EntryValue.{EntryValue}
 use Rattle.relay_entries.specs.declared.said.EntryValue.TheVariants as said
 use Rattle.relay_entries.specs.Listing.{is_next, note_entry}
-use Rattle.feed_laws.specs.Known.{IsNoDoc}
+use Rattle.document_laws.specs.Known.{IsNoDoc}
 
 -- a fault at a place is a value's, and no line's or object's
 pub placed : {V : Type 0} (read : Result V ℕ) → IsNoDoc (at_place read)

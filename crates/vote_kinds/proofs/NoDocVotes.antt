@@ -10,8 +10,8 @@ use Rattle.frame_values.specs.Arguments.{arguments_of}
 use Rattle.frame_values.specs.declared.values.Value.{Value}
 use Rattle.frame_values.specs.declared.values.Value.TheVariants as value
 use Rattle.frame_values.specs.Faults.{at_place, too_many, unless_fault}
-use Rattle.random_lines.specs.declared.line.RandomLine.{RandomLine}
-use Rattle.random_lines.specs.declared.value.SharedRandom.{SharedRandom}
+use Rattle.value_groups.specs.declared.line.RandomLine.{RandomLine}
+use Rattle.value_groups.specs.declared.value.SharedRandom.{SharedRandom}
 use Rattle.relay_entries.specs.declared.listed.Listed.{Listed}
 use Rattle.relay_entries.specs.declared.said.EntryKind.{EntryKind}
 use Rattle.relay_entries.specs.declared.said.EntryKind.TheVariants as kind
@@ -24,7 +24,7 @@ use Rattle.vote_frame.specs.declared.frame.VoteKind.TheVariants as item
 use Rattle.vote_frame.specs.declared.frame.VoteValue.{VoteValue}
 use Rattle.vote_frame.specs.declared.frame.VoteValue.TheVariants as own
 use Rattle.vote_frame.specs.Tables as vote
-use Rattle.feed_laws.specs.Known.{IsNoDoc}
+use Rattle.document_laws.specs.Known.{IsNoDoc}
 use Rattle.vote_kinds.specs.VoteKinds.{VoteKindsHaveNoDoc}
 use Rattle.vote_kinds.proofs.NoDocItems.{either_ok, entry, placed}
 

@@ -12,7 +12,7 @@ pub fn vote_kinds_are_exact()
 {}
 
 /// A law: the tables of both refuse no item as a line or an object is refused that has a fault. So of a vote that is
-/// read while its bytes arrive nothing is held back (`feed_laws`).
+/// read while its bytes arrive nothing is held back (`document_laws`).
 pub fn vote_kinds_have_no_doc()
     ensures { VoteKindsHaveNoDoc }
 {}

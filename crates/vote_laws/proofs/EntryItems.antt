@@ -30,14 +30,14 @@ use Rattle.relay_entries.specs.declared.said.EntryValue.{EntryValue}
 use Rattle.relay_entries.specs.declared.said.EntryValue.TheVariants as said
 use Rattle.relay_entries.specs.declared.said.MicroLine.{MicroLine}
 use Rattle.relay_entries.specs.declared.said.RelayLine.{RelayLine}
-use Rattle.entry_laws.specs.Again.{micro_at, relay_at}
-use Rattle.entry_laws.specs.Ranges.{AreBandwidthsInRange, IsAddressInRange, IsOpinionInRange}
-use Rattle.entry_laws.proofs.WrittenAddresses.{address_again}
-use Rattle.entry_laws.proofs.WrittenBandwidths.{bandwidth_again}
-use Rattle.entry_laws.proofs.WrittenKeys.{key_again}
-use Rattle.entry_laws.proofs.WrittenMicros.{micro_again}
-use Rattle.entry_laws.proofs.WrittenRelays.{relay_again}
-use Rattle.line_laws.proofs.WrittenDelays.{flags-written}
+use Rattle.group_laws.specs.EntryAgain.{micro_at, relay_at}
+use Rattle.group_laws.specs.Ranges.{AreBandwidthsInRange, IsAddressInRange, IsOpinionInRange}
+use Rattle.group_laws.proofs.WrittenAddresses.{address_again}
+use Rattle.group_laws.proofs.WrittenBandwidths.{bandwidth_again}
+use Rattle.group_laws.proofs.WrittenKeys.{key_again}
+use Rattle.group_laws.proofs.WrittenMicros.{micro_again}
+use Rattle.group_laws.proofs.WrittenRelays.{relay_again}
+use Rattle.group_laws.proofs.WrittenDelays.{flags-written}
 use Rattle.vote_terms.specs.declared.entry.EntryFacts.{EntryFacts}
 use Rattle.vote_terms.specs.declared.entry.MicroFacts.{MicroFacts}
 use Rattle.vote_text.specs.Entries.{line_of, micro_line}

@@ -32,9 +32,9 @@ use Rattle.relay_entries.specs.declared.said.EdOpinion.{EdOpinion}
 use Rattle.relay_entries.specs.declared.said.EdOpinion.TheVariants as opinion
 use Rattle.relay_entries.specs.declared.said.EntryKind.TheVariants as entry
 use Rattle.relay_entries.specs.declared.said.EntryValue.TheVariants as said
-use Rattle.entry_laws.proofs.WrittenMethods.{methods_in-text}
-use Rattle.entry_laws.proofs.WrittenRelays.{relay_shape}
-use Rattle.line_laws.proofs.WrittenDelays.{as_set-text}
+use Rattle.group_laws.proofs.WrittenMethods.{methods_in-text}
+use Rattle.group_laws.proofs.WrittenRelays.{relay_shape}
+use Rattle.group_laws.proofs.WrittenDelays.{as_set-text}
 use Rattle.vote_terms.specs.declared.entry.EntryFacts.{EntryFacts}
 use Rattle.vote_terms.specs.declared.entry.MicroFacts.{MicroFacts}
 use Rattle.vote_text.specs.Entries.{line_of, micro_line}

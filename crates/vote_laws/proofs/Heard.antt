@@ -11,7 +11,7 @@ use Rattle.frame_values.specs.Signatures.{has_words, object_of, signature_of}
 use Rattle.frame_values.specs.declared.values.Value.{Value}
 use Rattle.frame_values.specs.declared.values.Value.TheVariants as value
 use Rattle.frame_laws.proofs.Passing.{IsForgotten, KindsPass}
-use Rattle.list_lines.specs.Lines.{params_of, protocols_of, versions_of}
+use Rattle.value_groups.specs.ListLines.{params_of, protocols_of, versions_of}
 use Rattle.authority_certs.specs.Tables.{cert_value}
 use Rattle.authority_certs.specs.declared.frame.CertKind.{CertKind}
 use Rattle.authority_certs.specs.declared.frame.CertKind.TheVariants as cert

@@ -1,3 +1,16 @@
+pub mod Lines
+pub mod Slices
+pub mod Pairs
+pub mod KeywordTexts
+pub mod Covered
+pub mod Certificates
+pub mod Pushes
+pub mod VoteParts
+pub mod VoteSections
+pub mod VoteSteps
+pub mod VoteWalk
+pub mod Votes
+pub mod SignedVotes
 pub mod Values
 pub mod WrittenSources
 pub mod WrittenValues
@@ -19,3 +32,8 @@ pub mod VoteRead
 pub mod VoteSays
 pub mod VoteSigned
 pub mod VoteAgain
+pub mod MadeTexts
+pub mod MadeKept
+pub mod MadeRead
+pub mod MadeSays
+pub mod MadeAgain

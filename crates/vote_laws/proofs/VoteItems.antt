@@ -24,7 +24,7 @@ use Rattle.frame_laws.proofs.RowValues.{own_entry, row_if, text_entry, silent_en
 use Rattle.frame_laws.proofs.SaidRows.{IsSaid, RowSays}
 use Rattle.frame_laws.proofs.Sections.{Section}
 use Rattle.frame_laws.proofs.WrittenItems.{literal-written, rest_at, start_of}
-use Rattle.line_laws.proofs.WrittenDelays.{flags-written, length-flags}
+use Rattle.group_laws.proofs.WrittenDelays.{flags-written, length-flags}
 use Rattle.group_laws.proofs.ListRows.{HasLists, ListKinds}
 use Rattle.group_laws.proofs.Readings.{Reads, few, suits_reading, text_at}
 use Rattle.group_laws.proofs.SourceRows.{HasRests, HasSources}

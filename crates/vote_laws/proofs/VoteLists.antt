@@ -13,8 +13,8 @@ use Rattle.frame_laws.proofs.SaidRows.{AreSaid}
 use Rattle.group_laws.proofs.ListRows.{AreParamsWithin}
 use Rattle.group_laws.proofs.ListRows as group
 use Rattle.list_values.specs.declared.named.Named.{Named}
-use Rattle.list_lines.specs.Listed.{params_in}
-use Rattle.list_laws.specs.Ranges.{AreParamsInRange}
+use Rattle.value_groups.specs.Listed.{params_in}
+use Rattle.value_laws.specs.Ranges.{AreParamsInRange}
 use Rattle.vote_terms.specs.declared.lists.VoteLists.{VoteLists}
 use Rattle.vote_frame.specs.Tables.{vote_tables}
 use Rattle.vote_frame.specs.declared.frame.VoteValue.{VoteValue}

@@ -19,13 +19,13 @@ use Rattle.frame_laws.proofs.RowCounts.{said_none, said_once}
 use Rattle.frame_laws.proofs.RowValues.{own_entry}
 use Rattle.frame_laws.proofs.SaidRows.{IsSaid}
 use Rattle.frame_laws.proofs.Words.{two_words, word_of_number}
-use Rattle.line_laws.specs.Again.{IsRandomInRange}
-use Rattle.line_laws.proofs.WrittenRandoms.{random_again, word_of_value}
-use Rattle.list_laws.proofs.LineWords.{rest_of_words}
-use Rattle.random_lines.specs.Values.{padded_text, random_text}
-use Rattle.random_lines.specs.declared.line.RandomLine.{RandomLine}
-use Rattle.random_lines.specs.declared.line.RandomLine.TheVariants as line
-use Rattle.random_lines.specs.declared.value.SharedRandom.{SharedRandom}
+use Rattle.group_laws.specs.LineAgain.{IsRandomInRange}
+use Rattle.group_laws.proofs.WrittenRandoms.{random_again, word_of_value}
+use Rattle.value_laws.proofs.LineWords.{rest_of_words}
+use Rattle.value_groups.specs.Values.{padded_text, random_text}
+use Rattle.value_groups.specs.declared.line.RandomLine.{RandomLine}
+use Rattle.value_groups.specs.declared.line.RandomLine.TheVariants as line
+use Rattle.value_groups.specs.declared.value.SharedRandom.{SharedRandom}
 use Rattle.vote_doc.specs.Saying.{random_in}
 use Rattle.relay_entries.specs.Listing.{none_listed}
 use Rattle.vote_frame.specs.Across.{keyword_of, nothing_across}

@@ -6,7 +6,7 @@ use Rattle.std.proofs.Math.Seq.{drop-append_seam, take-append_seam}
 use Rattle.item_terms.specs.Items.{Contents, Item, contents, nothing}
 use Rattle.item_terms.specs.Words.{begins_dash}
 use Rattle.item_terms.specs.declared.fault.DocFault.{DocFault}
-use Rattle.dirdoc_laws.proofs.ItemsAgain.{items_again}
+use Rattle.grammar_laws.proofs.ItemsAgain.{items_again}
 use Rattle.dirdoc_grammar.specs.Writing.{NewItem, all_written, in_front, is_open, items_text, lacks_object, written}
 use Rattle.frame_terms.specs.Decisions.{made_by}
 use Rattle.frame_terms.specs.Documents.{document_of, finish, group, onto, read_items, start}
@@ -33,7 +33,7 @@ use Rattle.frame_laws.proofs.WrittenRows.{ends_with_text, is_closed}
 use Rattle.certificate_laws.proofs.CertRows.{certificate, certificate_ended, certificate_version, certification}
 use Rattle.certificate_laws.proofs.CertRows.{last_row}
 use Rattle.certificate_laws.proofs.CertSays.{cert_ends}
-use Rattle.random_lines.specs.declared.line.RandomLine.TheVariants as line
+use Rattle.value_groups.specs.declared.line.RandomLine.TheVariants as line
 use Rattle.vote_terms.specs.Votes.{ReadVote}
 use Rattle.vote_terms.specs.declared.facts.SignatureFacts.{SignatureFacts}
 use Rattle.vote_terms.specs.declared.facts.VoteFacts.{VoteFacts}

@@ -23,7 +23,7 @@ use Rattle.vote_terms.specs.declared.facts.SignatureFacts.{SignatureFacts}
 use Rattle.vote_terms.specs.declared.facts.VoteFacts.{VoteFacts}
 use Rattle.vote_terms.specs.declared.lists.VoteLists.{VoteLists}
 use Rattle.dir_values.specs.Numbers.{numbers_text}
-use Rattle.random_lines.specs.declared.line.RandomLine.TheVariants as line
+use Rattle.value_groups.specs.declared.line.RandomLine.TheVariants as line
 use Rattle.vote_frame.specs.Tables.{vote_tables}
 use Rattle.vote_frame.specs.declared.frame.VoteKind.{VoteKind}
 use Rattle.vote_frame.specs.declared.frame.VoteKind.TheVariants as kind

@@ -15,7 +15,7 @@ use Rattle.frame_laws.proofs.RowValues.{text_entry, text_if_said, text_said}
 use Rattle.frame_laws.proofs.SaidRows.{row_once}
 use Rattle.frame_laws.proofs.StandingParts.{rest_part, spelled}
 use Rattle.dir_values.specs.Numbers.{numbers_in, numbers_text}
-use Rattle.line_laws.proofs.WrittenDelays.{as_set-text}
+use Rattle.group_laws.proofs.WrittenDelays.{as_set-text}
 use Rattle.group_laws.proofs.TimeRows.{delays_row}
 use Rattle.vote_terms.specs.declared.facts.SignatureFacts.{SignatureFacts}
 use Rattle.vote_terms.specs.declared.facts.VoteFacts.{VoteFacts}

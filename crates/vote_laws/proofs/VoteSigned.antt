@@ -14,7 +14,7 @@ use Rattle.frame_laws.proofs.LastRows.{last_item}
 use Rattle.frame_laws.proofs.Places.{after_all-append}
 use Rattle.frame_laws.proofs.Sections.{end_of, entries_in}
 use Rattle.frame_laws.proofs.WrittenRows.{ends_with_text, from_place}
-use Rattle.line_laws.proofs.WrittenSignatures.{signed_end_first, signer_some}
+use Rattle.group_laws.proofs.WrittenSignatures.{signed_end_first, signer_some}
 use Rattle.vote_terms.specs.declared.facts.SignatureFacts.{SignatureFacts}
 use Rattle.vote_terms.specs.declared.facts.VoteFacts.{VoteFacts}
 use Rattle.vote_text.specs.Texts.{algorithm_text, signer_text, vote_items, vote_text}

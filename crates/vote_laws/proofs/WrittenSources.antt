@@ -10,9 +10,9 @@ use Rattle.frame_values.specs.Lines.{source_of}
 use Rattle.frame_values.specs.Parts.{part}
 use Rattle.frame_values.specs.declared.found.DirSource.{DirSource}
 use Rattle.frame_laws.proofs.WrittenItems.{start_of}
-use Rattle.line_laws.specs.Again as line
-use Rattle.line_laws.specs.Again.{IsSourceInRange}
-use Rattle.line_laws.proofs.WrittenSources as sources
+use Rattle.group_laws.specs.LineAgain as line
+use Rattle.group_laws.specs.LineAgain.{IsSourceInRange}
+use Rattle.group_laws.proofs.WrittenSources as sources
 use Rattle.group_laws.proofs.SourceRows.{SourceIs, source_back}
 use Rattle.vote_terms.specs.declared.facts.VoteFacts.{VoteFacts}
 use Rattle.vote_text.specs.Texts.{source_text}

@@ -12,10 +12,10 @@ use Rattle.frame_values.specs.Ranges.{AreTwenty}
 use Rattle.certificate_laws.specs.Again.{SaysInRange, as_written}
 use Rattle.authority_certs.specs.Texts.{cert_items, cert_text}
 use Rattle.authority_certs.specs.declared.cert.Cert.{Cert}
-use Rattle.entry_laws.specs.Ranges.{AreBandwidthsInRange, AreMethodsInRange, AreThirtyTwo, IsAddressInRange}
-use Rattle.entry_laws.specs.Ranges.{IsOpinionInRange, IsRelayInRange}
-use Rattle.line_laws.specs.Again.{IsRandomInRange}
-use Rattle.list_laws.specs.Ranges.{AreParamsInRange, AreProtocolsInRange, AreVersionsInRange}
+use Rattle.group_laws.specs.Ranges.{AreBandwidthsInRange, AreMethodsInRange, AreThirtyTwo, IsAddressInRange}
+use Rattle.group_laws.specs.Ranges.{IsOpinionInRange, IsRelayInRange}
+use Rattle.group_laws.specs.LineAgain.{IsRandomInRange}
+use Rattle.value_laws.specs.Ranges.{AreParamsInRange, AreProtocolsInRange, AreVersionsInRange}
 use Rattle.list_values.specs.declared.named.Named.{Named}
 use Rattle.relay_entries.specs.declared.said.EdOpinion.TheVariants as opinion
 use Rattle.vote_terms.specs.Entries.{Ascending}

@@ -14,7 +14,7 @@ use Rattle.std.proofs.lemmas.List.Elements.{All-head, All-tail, All-cons, All-ap
 use Rattle.std.proofs.lemmas.List.Folds.{list_any-append, list_any_none}
 use Rattle.dir_values.proofs.Orders.{below-trans, apart, AllPairs-head, AllPairs-tail}
 use Rattle.dir_values.specs.Digests.{bytes_below, identity_below}
-use Rattle.ed_certs.specs.declared.certificate.EdCert.{EdCert}
+use Rattle.descriptor_frame.specs.declared.certificate.EdCert.{EdCert}
 use Rattle.flag_rules.specs.Rulings.{is_reject}
 use Rattle.vote_terms.specs.declared.entry.EntryFacts.{EntryFacts}
 use Rattle.vote_pool.specs.Kept.{signer_of}

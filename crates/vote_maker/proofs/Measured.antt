@@ -15,7 +15,7 @@ use Rattle.std.proofs.lemmas.List.Sorted.{ranks_by, sorted_far}
 use Rattle.dir_values.proofs.Orders.{below-trans, below_or_same, same_text, apart, apart_back}
 use Rattle.dir_values.specs.Digests.{is_less, bytes_below, identity_below, same_identity}
 use Rattle.dir_values.specs.declared.digest.Fingerprint.{Fingerprint}
-use Rattle.station_frame.specs.declared.said.MeasuredRelay.{MeasuredRelay}
+use Rattle.station_input.specs.declared.frame_said.MeasuredRelay.{MeasuredRelay}
 use Rattle.vote_maker.specs.Private.{MeasureAlike, MeasuresAscend, is_measure_before}
 use Rattle.vote_maker.specs.Relays.{is_of, measured_for, unmeasured}
 

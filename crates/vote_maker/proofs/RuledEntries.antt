@@ -9,7 +9,7 @@ use Rattle.flag_rules.specs.declared.relay.Measured.{Measured}
 use Rattle.flag_rules.specs.declared.relay.RelayFacts.{RelayFacts}
 use Rattle.flag_rules.specs.declared.relay.RuledRelay.{RuledRelay}
 use Rattle.flag_rules.specs.declared.ruling.Ruling.{Ruling}
-use Rattle.station_frame.specs.declared.said.MeasuredRelay.{MeasuredRelay}
+use Rattle.station_input.specs.declared.frame_said.MeasuredRelay.{MeasuredRelay}
 use Rattle.vote_maker.specs.Listings.{judged_relays, made_entries}
 use Rattle.vote_maker.specs.Made.{entries_under}
 use Rattle.vote_maker.specs.Private.{AreAsMany, MeasureAlike}

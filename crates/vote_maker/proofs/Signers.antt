@@ -1,6 +1,6 @@
 -- The Ed25519 identity of a relay, by the key that is kept of its certificate.
 use Rattle.std.proofs.Common.{◌≡◌, Option, Some, None, refl}
-use Rattle.ed_certs.specs.declared.certificate.EdCert.{EdCert}
+use Rattle.descriptor_frame.specs.declared.certificate.EdCert.{EdCert}
 use Rattle.vote_pool.specs.Kept.{signer_of}
 use Rattle.vote_maker.specs.Entries.{opinion_of}
 use Rattle.vote_maker.specs.Private.{opinion_of_key}

@@ -7,7 +7,7 @@ use Rattle.item_terms.specs.Words.{words_of}
 use Rattle.dir_values.specs.Ports.{summary_text}
 use Rattle.exit_summary.specs.Summaries.{summary_of}
 use Rattle.dir_values.specs.declared.digest.Digest2.{Digest2}
-use Rattle.ed_certs.specs.declared.certificate.EdCert.{EdCert}
+use Rattle.descriptor_frame.specs.declared.certificate.EdCert.{EdCert}
 use Rattle.descriptor_doc.specs.declared.descriptor.Descriptor.{Descriptor}
 use Rattle.relay_entries.specs.declared.said.Bandwidths.{Bandwidths}
 use Rattle.relay_entries.specs.declared.said.EdOpinion.{EdOpinion}

@@ -3,7 +3,7 @@ use Rattle.std.specs.Prelude.{Bool, false, not, ◌&&◌, List, [], ◌∷◌, m
 use Rattle.std.specs.List.{list_any}
 use Rattle.std.specs.Str.{bytes_eq}
 use Rattle.dir_values.specs.Digests.{identity_below}
-use Rattle.ed_certs.specs.declared.certificate.EdCert.{EdCert}
+use Rattle.descriptor_frame.specs.declared.certificate.EdCert.{EdCert}
 use Rattle.descriptor_doc.specs.declared.descriptor.Descriptor.{Descriptor}
 use Rattle.flag_rules.specs.Rulings.{is_reject}
 use Rattle.flag_rules.specs.declared.flags.Flags.{Flags}

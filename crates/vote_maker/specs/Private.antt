@@ -27,7 +27,7 @@ use Rattle.key_port.specs.declared.signer.SignAnswer.TheVariants as sign
 use Rattle.key_port.specs.declared.verifier.KeyKind.TheVariants as kind
 use Rattle.relay_entries.specs.declared.said.EdOpinion.{EdOpinion}
 use Rattle.relay_entries.specs.declared.said.EdOpinion.TheVariants as opinion
-use Rattle.station_frame.specs.declared.said.MeasuredRelay.{MeasuredRelay}
+use Rattle.station_input.specs.declared.frame_said.MeasuredRelay.{MeasuredRelay}
 use Rattle.station_input.specs.declared.facts.StationFacts.{StationFacts}
 use Rattle.vote_terms.specs.declared.entry.EntryFacts.{EntryFacts}
 use Rattle.vote_terms.specs.declared.facts.VoteFacts.{VoteFacts}

@@ -11,7 +11,7 @@ use Rattle.descriptor_frame.specs.declared.said.BandwidthLine.{BandwidthLine}
 use Rattle.descriptor_doc.specs.declared.descriptor.Descriptor.{Descriptor}
 use Rattle.flag_rules.specs.declared.relay.Measured.{Measured}
 use Rattle.flag_rules.specs.declared.relay.RelayFacts.{RelayFacts}
-use Rattle.station_frame.specs.declared.said.MeasuredRelay.{MeasuredRelay}
+use Rattle.station_input.specs.declared.frame_said.MeasuredRelay.{MeasuredRelay}
 
 -- ---- what was measured
 

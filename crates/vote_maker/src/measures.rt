@@ -19,7 +19,7 @@ pub(crate) struct Measures {
 
 impl Model for Measures {
     ghost use Rattle.std.specs.Prelude.{List};
-    ghost use Rattle.station_frame.specs.declared.said.MeasuredRelay.{MeasuredRelay};
+    ghost use Rattle.station_input.specs.declared.frame_said.MeasuredRelay.{MeasuredRelay};
     ghost use Rattle.vote_maker.specs.Private.{MeasuresAscend};
 
     ghost Value = { List MeasuredRelay };

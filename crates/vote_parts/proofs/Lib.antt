@@ -1,2 +1,5 @@
+pub mod EntryPlaces
+pub mod VotePlaces
+pub mod VoteFaults
 pub mod VoteEnds
 pub mod OwnVotes

@@ -5,7 +5,7 @@ use Rattle.std.proofs.lemmas.List.{take_all}
 use Rattle.item_terms.specs.Items.{items_of}
 use Rattle.frame_terms.specs.Documents.{document_of, finish}
 use Rattle.frame_terms.specs.declared.fault.ReadRefusal.{ReadRefusal}
-use Rattle.part_laws.proofs.OwnPart.{own_part_same, within_text}
+use Rattle.grammar_laws.proofs.OwnPart.{own_part_same, within_text}
 use Rattle.vote_frame.specs.Tables.{vote_tables}
 use Rattle.vote_terms.specs.Votes.{ReadVote}
 use Rattle.blank_lines.specs.Behind.{behind}

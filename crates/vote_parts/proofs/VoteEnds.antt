@@ -26,7 +26,7 @@ use Rattle.dir_values.specs.declared.digest.Digest1.{Digest1}
 use Rattle.dir_values.specs.declared.digest.Fingerprint.{Fingerprint}
 use Rattle.dir_values.specs.Digests.{fingerprint, key_digest}
 use Rattle.authority_certs.specs.declared.frame.CertKind.TheVariants.{Certification}
-use Rattle.part_laws.specs.Parts.{EndWithObjects}
+use Rattle.grammar_laws.specs.Parts.{EndWithObjects}
 use Rattle.vote_frame.specs.declared.frame.VoteKind.{VoteKind}
 use Rattle.vote_frame.specs.declared.frame.VoteKind.TheVariants.{Certificate, Signature}
 use Rattle.vote_frame.specs.declared.frame.VoteSection.{VoteSection}

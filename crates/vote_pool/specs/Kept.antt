@@ -2,7 +2,7 @@
 use Rattle.std.specs.Prelude.{◌≡◌, ℕ, List, Option, Some, None}
 use Rattle.dir_values.specs.Ports.{Ports}
 use Rattle.dir_values.specs.declared.digest.Digest2.{Digest2}
-use Rattle.ed_certs.specs.declared.certificate.EdCert.{EdCert}
+use Rattle.descriptor_frame.specs.declared.certificate.EdCert.{EdCert}
 use Rattle.key_port.specs.Answers.{Rules}
 use Rattle.descriptor_doc.specs.Checks.{IsChecked}
 use Rattle.descriptor_doc.specs.declared.descriptor.Descriptor.{Descriptor}

@@ -4,7 +4,7 @@ use crate::lists::VoteLists;
 use authority_certs::Cert;
 use dir_bytes::{Seq, Text};
 use dir_values::{Algorithm, Digest1, Fingerprint, FlagSet};
-use random_lines::SharedRandom;
+use value_groups::SharedRandom;
 
 /// What a `directory-signature` says.
 #[derive(Debug, Drop)]

@@ -10,7 +10,7 @@ use Rattle.dir_values.specs.Numbers.{numbers_text}
 use Rattle.dirdoc_grammar.specs.Writing.{NewItem, items_text}
 use Rattle.frame_terms.specs.declared.keyword.Keyword.TheVariants as the
 use Rattle.authority_certs.specs.Texts.{cert_items}
-use Rattle.random_lines.specs.Values.{random_text}
+use Rattle.value_groups.specs.Values.{random_text}
 use Rattle.vote_terms.specs.declared.facts.SignatureFacts.{SignatureFacts}
 use Rattle.vote_terms.specs.declared.facts.VoteFacts.{VoteFacts}
 use Rattle.frame_values.specs.Items.{bare, with_object, item_if, timed}

@@ -4,7 +4,7 @@ ghost use Rattle.dirdoc_grammar.specs.Writing.{item_text, items_text};
 ghost use Rattle.dir_values.specs.Numbers.{numbers_text};
 ghost use Rattle.frame_values.specs.Items as items;
 ghost use Rattle.authority_certs.specs.Texts.{cert_text};
-ghost use Rattle.random_lines.specs.Values.{random_text};
+ghost use Rattle.value_groups.specs.Values.{random_text};
 ghost use Rattle.vote_text.specs.Texts as texts;
 
 use crate::entry::push_entries;
@@ -14,8 +14,8 @@ use dir_bytes::{Memory, push_address, push_decimal, push_hex_upper};
 use dir_values::{Algorithm, push_numbers};
 use frame_terms::Keyword;
 use frame_values::{push_bare, push_if, push_timed, push_with_object};
-use random_lines::SharedRandom;
 use std::alloc::Global;
+use value_groups::SharedRandom;
 use vote_terms::{SignatureFacts, VoteFacts};
 
 /// The item of a vote's methods, where it names them.

@@ -1,4 +1,4 @@
-use Rattle.whole_votes.proofs.FedVotes.{never_refused, whole_read}
+use Rattle.vote_feed.proofs.FedVotes.{never_refused, whole_read}
 use Rattle.compute_command.proofs.rest.whole_vote.Goals as goal
 
 pub unreachable-requires : goal.unreachable-requires

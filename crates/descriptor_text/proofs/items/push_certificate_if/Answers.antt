@@ -1,7 +1,7 @@
 use Rattle.std.proofs.Common.{◌∙◌, ◌++◌, [], List, ℕ, ap, sym}
 use Rattle.std.specs.Prelude.{Option, codes, option_map}
 use Rattle.dirdoc_grammar.specs.Writing.{item_text, items_text}
-use Rattle.ed_certs.specs.declared.certificate.EdCert.{EdCert}
+use Rattle.descriptor_frame.specs.declared.certificate.EdCert.{EdCert}
 use Rattle.frame_terms.specs.declared.keyword.Keyword.TheVariants as the
 use Rattle.frame_values.specs.Items.{with_object}
 use Rattle.frame_values.proofs.ItemsTexts.{last}

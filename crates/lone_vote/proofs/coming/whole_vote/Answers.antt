@@ -1,4 +1,4 @@
-use Rattle.whole_votes.proofs.FedVotes.{never_refused}
+use Rattle.vote_feed.proofs.FedVotes.{never_refused}
 use Rattle.lone_vote.proofs.KnownVotes.{vote_of_whole}
 use Rattle.lone_vote.proofs.coming.whole_vote.Goals as goal
 

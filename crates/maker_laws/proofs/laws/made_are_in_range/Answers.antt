@@ -1,4 +1,4 @@
-use Rattle.descriptor_ranges.proofs.DescriptorRead.{descriptors_in_range}
+use Rattle.descriptor_laws.proofs.DescriptorInRange.{descriptors_in_range}
 use Rattle.maker_laws.proofs.MadeRead.{are_in_range}
 use Rattle.maker_laws.proofs.laws.made_are_in_range.Goals as goal
 

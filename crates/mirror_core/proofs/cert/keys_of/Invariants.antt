@@ -1,5 +1,5 @@
 use Rattle.std.proofs.Common.{◌≡◌, ◌++◌, drop}
-use Rattle.mirror_terms.specs.Signers.{keys_of}
+use Rattle.mirror_core.specs.Signers.{keys_of}
 use Rattle.mirror_core.proofs.cert.keys_of.Given as goal
 
 abbrev pub invariant-certs : goal.invariant-certs

@@ -1,5 +1,5 @@
 use Rattle.std.proofs.Common.{◌≡◌, drop}
-use Rattle.mirror_terms.specs.Answers.{cert_for}
+use Rattle.mirror_core.specs.Answers.{cert_for}
 use Rattle.mirror_core.proofs.certs.held_for.Given as goal
 
 abbrev pub invariant-certs : goal.invariant-certs

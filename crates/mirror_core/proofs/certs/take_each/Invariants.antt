@@ -1,6 +1,6 @@
 use Rattle.std.proofs.Common.{◌≡◌, ◌+◌, ◌<◌, ◌-◌, ◌^◌, length}
 use Rattle.key_port.specs.Answers.{rules}
-use Rattle.mirror_terms.specs.Answers.{CertTally, TakesEach, no_certs_yet}
+use Rattle.mirror_core.specs.Answers.{CertTally, TakesEach, no_certs_yet}
 use Rattle.mirror_core.specs.Tallies.{cert_total}
 use Rattle.mirror_core.proofs.certs.take_each.Given as goal
 

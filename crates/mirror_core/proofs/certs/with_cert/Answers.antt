@@ -1,5 +1,5 @@
 use Rattle.std.proofs.Common.{ap}
-use Rattle.mirror_terms.specs.States.{KeptCert}
+use Rattle.mirror_core.specs.States.{KeptCert}
 use Rattle.mirror_core.proofs.WithCert.{joined}
 use Rattle.mirror_core.proofs.certs.with_cert.Goals as goal
 

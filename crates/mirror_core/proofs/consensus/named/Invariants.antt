@@ -1,6 +1,6 @@
 use Rattle.std.proofs.Common.{◌≡◌, ◌++◌, drop}
 use Rattle.std.specs.List.{filter_map}
-use Rattle.mirror_terms.specs.States.{micro_named, named}
+use Rattle.mirror_core.specs.States.{micro_named, named}
 use Rattle.mirror_core.proofs.consensus.named.Given as goal
 
 abbrev pub invariant-routers : goal.invariant-routers

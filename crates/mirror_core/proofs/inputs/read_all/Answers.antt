@@ -1,5 +1,5 @@
 use Rattle.std.proofs.Common.{sym, subst, ◌∙◌}
-use Rattle.mirror_terms.specs.Inputs.{Stand}
+use Rattle.mirror_core.specs.Inputs.{Stand}
 use Rattle.mirror_core.proofs.Standing.{one_more, one_there, some_left, stands_more}
 use Rattle.mirror_core.proofs.inputs.read_all.Goals as goal
 

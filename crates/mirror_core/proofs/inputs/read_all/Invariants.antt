@@ -1,5 +1,5 @@
 use Rattle.std.proofs.Common.{◌≤◌, ◌-◌, length}
-use Rattle.mirror_terms.specs.Inputs.{Stand}
+use Rattle.mirror_core.specs.Inputs.{Stand}
 use Rattle.mirror_core.proofs.inputs.read_all.Given as goal
 
 -- those so far stand one behind the other

@@ -1,5 +1,5 @@
 use Rattle.std.proofs.Common.{◌≡◌, ◌+◌, ◌<◌, ◌-◌, ◌^◌, length}
-use Rattle.mirror_terms.specs.Answers.{no_micros_yet, with_micros}
+use Rattle.mirror_core.specs.Answers.{no_micros_yet, with_micros}
 use Rattle.mirror_core.specs.Tallies.{total}
 use Rattle.mirror_core.proofs.micros.take_each.Given as goal
 

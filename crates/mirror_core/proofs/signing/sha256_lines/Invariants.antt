@@ -1,5 +1,5 @@
 use Rattle.std.proofs.Common.{◌≡◌, ◌++◌, drop}
-use Rattle.mirror_terms.specs.Signers.{sha256_lines}
+use Rattle.mirror_core.specs.Signers.{sha256_lines}
 use Rattle.mirror_core.proofs.signing.sha256_lines.Given as goal
 
 abbrev pub invariant-lines : goal.invariant-lines

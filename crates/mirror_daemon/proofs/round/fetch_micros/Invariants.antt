@@ -1,6 +1,6 @@
 use Rattle.std.proofs.Common.{◌≤◌}
 use Rattle.key_port.specs.Answers.{rules}
-use Rattle.mirror_terms.specs.States.{Mirrored}
+use Rattle.mirror_core.specs.States.{Mirrored}
 use Rattle.mirror_daemon.specs.Keeping.{ComesOf}
 use Rattle.mirror_daemon.specs.Lacking.{lacking}
 use Rattle.mirror_daemon.proofs.round.fetch_micros.Given as goal

@@ -1,6 +1,6 @@
 use Rattle.std.proofs.Common.{Err, refl, sym, ◌∙◌}
 use Rattle.key_port.specs.Answers.{Rules, rules}
-use Rattle.http_answers.specs.declared.outcome.Outcome.TheVariants.{Replied}
+use Rattle.http_words.specs.declared.outcome.Outcome.TheVariants.{Replied}
 use Rattle.serve_answers.specs.Handling.{Counted, Does}
 use Rattle.serve_answers.proofs.Telling.{served}
 use Rattle.serve_answers.proofs.connection.serve_connection.Goals as goal

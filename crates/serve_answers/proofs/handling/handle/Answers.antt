@@ -2,7 +2,7 @@ use Rattle.std.proofs.Common.{ℕ, List, subst, sym}
 use Rattle.key_port.specs.Answers.{Rules, rules}
 use Rattle.http_words.specs.declared.asked.Asked.{Asked}
 use Rattle.lone_vote.specs.Alone.{IsFound, IsVote}
-use Rattle.http_answers.specs.declared.outcome.Outcome.TheVariants.{Replied}
+use Rattle.http_words.specs.declared.outcome.Outcome.TheVariants.{Replied}
 use Rattle.serve_answers.specs.Handling.{Counted, Does}
 use Rattle.serve_answers.proofs.Caused.{vote_caused}
 use Rattle.serve_answers.proofs.GoneOn.{descriptor_goes, vote_goes}

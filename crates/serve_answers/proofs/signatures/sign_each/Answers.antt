@@ -3,7 +3,7 @@ use Rattle.std.specs.Int.{from_bool}
 use Rattle.key_port.specs.Answers.{Rules, rules}
 use Rattle.period_terms.specs.declared.answer.Answer.TheVariants.{Signature}
 use Rattle.period_terms.specs.declared.event.Event.TheVariants.{SignedIn}
-use Rattle.board_laws.proofs.Going.{goes_makes, goes_on}
+use Rattle.serve_board.proofs.Going.{goes_makes, goes_on}
 use Rattle.serve_answers.specs.Handling.{is_held}
 use Rattle.serve_answers.proofs.HeldSigns.{few_more, signs_more}
 use Rattle.serve_answers.proofs.signatures.sign_each.Goals as goal

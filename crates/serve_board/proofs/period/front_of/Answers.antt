@@ -1,6 +1,6 @@
 use Rattle.std.proofs.Common.{◌≡◌, ◌∙◌}
 use Rattle.key_port.specs.Answers.{rules}
-use Rattle.board_terms.proofs.Stations.{front_there}
+use Rattle.serve_board.proofs.Stations.{front_there}
 use Rattle.serve_board.proofs.period.front_of.Goals as goal
 
 pub returns : goal.returns

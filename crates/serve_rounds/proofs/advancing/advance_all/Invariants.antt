@@ -1,6 +1,6 @@
 use Rattle.std.proofs.Common.{◌≡◌, ◌≤◌, true}
 use Rattle.key_port.specs.Answers.{rules}
-use Rattle.board_terms.specs.Boards.{IsAt}
+use Rattle.serve_board.specs.Boards.{IsAt}
 use Rattle.serve_rounds.specs.Duties.{IsAdvance}
 use Rattle.serve_rounds.specs.Exchanges.{HasSigned}
 use Rattle.serve_rounds.specs.Spans.{Adds}

@@ -1,8 +1,8 @@
 use Rattle.std.proofs.Common.{arith, ap, sym, subst, take}
 use Rattle.std.specs.Prelude.{flat_map}
 use Rattle.key_port.specs.Answers as keys
-use Rattle.board_terms.specs.Boards.{IsAt}
-use Rattle.board_laws.specs.Going.{Goes}
+use Rattle.serve_board.specs.Boards.{IsAt}
+use Rattle.serve_board.specs.Going.{Goes}
 use Rattle.serve_rounds.specs.Duties.{IsFetched}
 use Rattle.serve_rounds.specs.Exchanges.{IsDue}
 use Rattle.serve_rounds.specs.Plans.{peers_among, votes_at}

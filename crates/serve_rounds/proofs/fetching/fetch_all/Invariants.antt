@@ -1,7 +1,7 @@
 use Rattle.std.proofs.Common.{◌≤◌, take}
 use Rattle.std.specs.Prelude.{flat_map}
 use Rattle.key_port.specs.Answers.{rules}
-use Rattle.board_terms.specs.Boards.{IsAt, Parts}
+use Rattle.serve_board.specs.Boards.{IsAt, Parts}
 use Rattle.serve_rounds.specs.Duties.{IsFetched}
 use Rattle.serve_rounds.specs.Exchanges.{AsksSome, IsDue}
 use Rattle.serve_rounds.specs.Plans.{peers_among, votes_at}

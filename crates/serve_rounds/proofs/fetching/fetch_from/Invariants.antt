@@ -1,6 +1,6 @@
 use Rattle.std.proofs.Common.{◌≤◌, take}
 use Rattle.key_port.specs.Answers.{rules}
-use Rattle.board_terms.specs.Boards.{IsAt, Parts}
+use Rattle.serve_board.specs.Boards.{IsAt, Parts}
 use Rattle.serve_rounds.specs.Duties.{IsFetched}
 use Rattle.serve_rounds.specs.Exchanges.{AsksSome, IsDue}
 use Rattle.serve_rounds.specs.Plans.{votes_at}

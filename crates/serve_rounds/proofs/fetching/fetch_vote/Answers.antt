@@ -7,7 +7,7 @@ use Rattle.serve_rounds.specs.Duties.{IsFetched}
 use Rattle.serve_rounds.specs.Spans.{Anywhere}
 use Rattle.serve_rounds.proofs.Adding.{adds_makes, adds_still, entry_kind}
 use Rattle.serve_rounds.proofs.Lasting.{anywhere_lasts}
-use Rattle.board_laws.proofs.Going.{goes_makes}
+use Rattle.serve_board.proofs.Going.{goes_makes}
 use Rattle.serve_rounds.specs.Exchanges.{IsDue}
 use Rattle.serve_rounds.specs.Plans.{GetVote}
 use Rattle.serve_rounds.proofs.Exchanges.{asks_none, asks_one, lacks, stood_later}

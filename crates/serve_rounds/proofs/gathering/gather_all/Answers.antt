@@ -1,6 +1,6 @@
 use Rattle.std.proofs.Common.{arith, ap, sym, subst}
 use Rattle.key_port.specs.Answers as keys
-use Rattle.board_terms.specs.Boards.{IsAt}
+use Rattle.serve_board.specs.Boards.{IsAt}
 use Rattle.serve_rounds.specs.Duties.{IsGathered}
 use Rattle.serve_rounds.specs.Exchanges.{Whatever}
 use Rattle.serve_rounds.specs.Plans.{GetSignatures}

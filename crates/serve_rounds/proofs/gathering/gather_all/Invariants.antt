@@ -1,6 +1,6 @@
 use Rattle.std.proofs.Common.{◌≤◌, take}
 use Rattle.key_port.specs.Answers.{rules}
-use Rattle.board_terms.specs.Boards.{IsAt, Parts}
+use Rattle.serve_board.specs.Boards.{IsAt, Parts}
 use Rattle.serve_rounds.specs.Duties.{IsGathered}
 use Rattle.serve_rounds.specs.Exchanges.{AsksSome, Whatever}
 use Rattle.serve_rounds.specs.Plans.{GetSignatures, peers_among, to_each}

@@ -1,5 +1,5 @@
 use Rattle.key_port.specs.Answers.{rules}
-use Rattle.board_terms.specs.Boards.{IsAt, Parts}
+use Rattle.serve_board.specs.Boards.{IsAt, Parts}
 use Rattle.serve_rounds.specs.Duties.{IsGathered}
 use Rattle.serve_rounds.specs.Spans.{Adds, Anywhere}
 use Rattle.serve_rounds.proofs.signatures.sign_in_all.Given as goal

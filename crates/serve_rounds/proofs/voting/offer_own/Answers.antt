@@ -3,7 +3,7 @@ use Rattle.key_port.specs.Answers as keys
 use Rattle.period_terms.specs.declared.answer.Answer.TheVariants.{Vote}
 use Rattle.period_terms.specs.declared.event.Event.TheVariants.{Offered}
 use Rattle.period_terms.specs.declared.event.Via.TheVariants.{Own}
-use Rattle.board_laws.proofs.Going.{goes_makes, goes_on}
+use Rattle.serve_board.proofs.Going.{goes_makes, goes_on}
 use Rattle.serve_rounds.specs.Duties.{IsOwn}
 use Rattle.serve_rounds.specs.Spans.{Since}
 use Rattle.serve_rounds.proofs.Adding.{adds_makes, adds_still, entry_kind, none_same}

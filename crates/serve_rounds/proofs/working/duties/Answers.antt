@@ -1,6 +1,6 @@
 use Rattle.std.proofs.Common.{ℕ, subst, sym}
 use Rattle.key_port.specs.Answers as keys
-use Rattle.board_laws.proofs.Going.{goes_on}
+use Rattle.serve_board.proofs.Going.{goes_on}
 use Rattle.serve_rounds.specs.Duties.{IsRound, Duties}
 use Rattle.serve_rounds.specs.Exchanges.{AsksPeers}
 use Rattle.serve_rounds.proofs.Exchanges.{asks_earlier, signed_later}

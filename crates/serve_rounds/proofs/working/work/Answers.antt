@@ -1,6 +1,6 @@
 use Rattle.std.proofs.Common.{◌∙◌, ℕ, sym, subst}
 use Rattle.key_port.specs.Answers as keys
-use Rattle.board_laws.proofs.Going.{goes_on, goes_sees}
+use Rattle.serve_board.proofs.Going.{goes_on, goes_sees}
 use Rattle.serve_rounds.specs.Duties.{IsRound}
 use Rattle.serve_rounds.specs.declared.round.Round.{Round}
 use Rattle.serve_rounds.specs.Exchanges.{BringsSignatures, DoesPhase}

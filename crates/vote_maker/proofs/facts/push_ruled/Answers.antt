@@ -4,7 +4,7 @@ use Rattle.flag_rules.specs.Relays.{ruled_relays}
 use Rattle.flag_rules.specs.Rules.{AreAllowed}
 use Rattle.flag_rules.specs.declared.relay.RelayFacts.{RelayFacts}
 use Rattle.flag_rules.specs.declared.ruling.Ruling.{Ruling}
-use Rattle.station_frame.specs.declared.said.MeasuredRelay.{MeasuredRelay}
+use Rattle.station_input.specs.declared.frame_said.MeasuredRelay.{MeasuredRelay}
 use Rattle.vote_terms.specs.declared.entry.EntryFacts.{EntryFacts}
 use Rattle.vote_maker.specs.Private.{MeasureAlike, entries_text}
 use Rattle.vote_maker.specs.Relays.{known_relays}

@@ -1,7 +1,7 @@
 use Rattle.std.proofs.Common.{rules, ◌≡◌, true, false, ◌<◌, ◌≤◌, ◌∙◌, sym, ap, length, get_or}
 use Rattle.std.proofs.lemmas.List.Sorted.{IsPartitionPoint-from_clause}
 use Rattle.dir_values.specs.Digests.{identity_below, same_identity}
-use Rattle.station_frame.specs.declared.said.MeasuredRelay.{MeasuredRelay}
+use Rattle.station_input.specs.declared.frame_said.MeasuredRelay.{MeasuredRelay}
 use Rattle.vote_maker.proofs.Measured.{parted, found_for, not_found, none_behind}
 use Rattle.vote_maker.proofs.measures.measured_for.Goals as goal
 

@@ -1,5 +1,5 @@
 use Rattle.std.proofs.Common.{◌≤◌, length, sym, subst, arith}
-use Rattle.mirror_terms.specs.States.{Mirrored}
+use Rattle.mirror_core.specs.States.{Mirrored}
 use Rattle.mirror_core.proofs.mirror.Mirror.majority.Goals as goal
 
 pub overflow_cast-counted : goal.overflow_cast-counted

@@ -1,11 +1,11 @@
 use Rattle.std.proofs.Common.{ℕ, ◌≤◌, List, length, Some, refl, sym, subst}
 use Rattle.key_port.specs.Answers.{rules as verifier_rules}
 use Rattle.detached_sigs.specs.declared.key.SignerKey.{SignerKey}
-use Rattle.mirror_terms.specs.Answers.{IsSignedBy}
+use Rattle.mirror_core.specs.Answers.{IsSignedBy}
 use Rattle.mirror_core.specs.Lending.{IsMajority, IsUnsigned}
-use Rattle.mirror_terms.specs.Sound.{IsSound}
-use Rattle.mirror_terms.specs.States.{Mirrored}
-use Rattle.mirror_laws.proofs.SignerLaws.{few_signers}
+use Rattle.mirror_core.specs.Sound.{IsSound}
+use Rattle.mirror_core.specs.States.{Mirrored}
+use Rattle.mirror_core.proofs.SignerLaws.{few_signers}
 use Rattle.mirror_core.proofs.Sounds.{consensus_sound}
 use Rattle.mirror_core.proofs.TakenConsensus.{unsigned}
 use Rattle.mirror_core.proofs.mirror.Mirror.take_consensus.Goals as goal

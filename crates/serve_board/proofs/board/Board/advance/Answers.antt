@@ -1,6 +1,6 @@
 use Rattle.std.proofs.Common.{◌≡◌, refl}
 use Rattle.key_port.specs.Answers.{Rules, rules}
-use Rattle.board_terms.specs.Boards.{Locks, Parts, Advances}
+use Rattle.serve_board.specs.Boards.{Locks, Parts, Advances}
 use Rattle.serve_board.proofs.Moving.{advance_told}
 use Rattle.serve_board.proofs.Views.{seen_as, station_of, at_station}
 use Rattle.serve_board.proofs.board.Board.advance.Goals as goal

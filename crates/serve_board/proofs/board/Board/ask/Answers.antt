@@ -2,7 +2,7 @@ use Rattle.std.proofs.Common.{◌≡◌, refl}
 use Rattle.key_port.specs.Answers.{Rules, rules}
 use Rattle.period_terms.specs.Histories.{after}
 use Rattle.period_laws.specs.Checked.{IsCheckedHistory}
-use Rattle.board_terms.proofs.Standing.{reading_told}
+use Rattle.serve_board.proofs.Standing.{reading_told}
 use Rattle.serve_board.proofs.Views.{station_of, at_station, sees}
 use Rattle.serve_board.proofs.board.Board.ask.Goals as goal
 

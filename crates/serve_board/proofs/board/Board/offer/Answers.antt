@@ -6,10 +6,10 @@ use Rattle.period_terms.specs.declared.answer.Answer.TheVariants.{Vote}
 use Rattle.period_terms.specs.declared.event.Event.TheVariants.{Offered}
 use Rattle.period_terms.specs.Histories.{after, entry_if}
 use Rattle.period_laws.specs.Checked.{IsCheckedHistory}
-use Rattle.board_terms.specs.Boards.{Makes, answer_at}
+use Rattle.serve_board.specs.Boards.{Makes, answer_at}
 use Rattle.serve_board.specs.Events.{OffersThere, offered_entry}
-use Rattle.board_terms.proofs.Places.{offer_number}
-use Rattle.board_terms.proofs.Standing.{event_told}
+use Rattle.serve_board.proofs.Places.{offer_number}
+use Rattle.serve_board.proofs.Standing.{event_told}
 use Rattle.serve_board.proofs.Views.{station_of, at_station, makes}
 use Rattle.serve_board.proofs.board.Board.offer.Goals as goal
 

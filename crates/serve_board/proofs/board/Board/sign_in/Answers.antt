@@ -5,10 +5,10 @@ use Rattle.period_terms.specs.declared.answer.Answer.TheVariants.{Signature}
 use Rattle.period_terms.specs.declared.event.Event.TheVariants.{SignedIn}
 use Rattle.period_terms.specs.Histories.{after, entry_if}
 use Rattle.period_laws.specs.Checked.{IsCheckedHistory}
-use Rattle.board_terms.specs.Boards.{answer_at}
+use Rattle.serve_board.specs.Boards.{answer_at}
 use Rattle.serve_board.specs.Events.{SignsThere, signed_entry}
-use Rattle.board_terms.proofs.Places.{sign_in_number}
-use Rattle.board_terms.proofs.Standing.{event_told}
+use Rattle.serve_board.proofs.Places.{sign_in_number}
+use Rattle.serve_board.proofs.Standing.{event_told}
 use Rattle.serve_board.proofs.Views.{station_of, at_station, makes}
 use Rattle.serve_board.proofs.board.Board.sign_in.Goals as goal
 

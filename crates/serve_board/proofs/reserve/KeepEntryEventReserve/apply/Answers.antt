@@ -1,6 +1,6 @@
 use Rattle.std.proofs.Common.{◌≡◌, Some, sym, ◌∙◌}
 use Rattle.key_port.specs.Answers.{Rules, rules}
-use Rattle.board_terms.proofs.Stocks.{keeps_there, stands_more}
+use Rattle.serve_board.proofs.Stocks.{keeps_there, stands_more}
 use Rattle.serve_board.proofs.reserve.KeepEntryEventReserve.apply.Goals as goal
 
 pub returns-in-Some-clause-answer : goal.returns-in-Some-clause-answer

@@ -1,7 +1,7 @@
 use Rattle.std.proofs.Common.{rules, ◌≡◌, List, subst}
 use Rattle.std.specs.List.Sorted.{IsSortedBy, IsStableBy}
 use Rattle.std.proofs.lemmas.List.Sorted.{answers_always}
-use Rattle.station_frame.specs.declared.said.MeasuredRelay.{MeasuredRelay}
+use Rattle.station_input.specs.declared.frame_said.MeasuredRelay.{MeasuredRelay}
 use Rattle.vote_maker.specs.Private.{is_measure_before}
 use Rattle.vote_maker.proofs.Measured.{alike, ascend, weak_order}
 use Rattle.vote_maker.proofs.measures.Measures.new.Goals as goal

@@ -1,0 +1,5 @@
+use Rattle.answer_laws.proofs.HeldNewest.{pools_ascend}
+use Rattle.answer_laws.proofs.pool_laws.pools_ascend.Goals as goal
+
+pub returns : goal.returns
+returns c = pools_ascend

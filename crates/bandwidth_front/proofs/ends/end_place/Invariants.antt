@@ -1,9 +1,0 @@
-use Rattle.std.proofs.Common.{◌-◌, length}
-use Rattle.bandwidth_front.proofs.Passing.{IsPassed}
-use Rattle.bandwidth_front.proofs.ends.end_place.Given as goal
-
-abbrev pub invariant-lines : goal.invariant-lines
-invariant-lines l = IsPassed l.bytes l.place
-
-abbrev pub decreases-lines : goal.decreases-lines
-decreases-lines l = length l.bytes - l.place

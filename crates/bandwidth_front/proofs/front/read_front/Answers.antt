@@ -1,6 +1,0 @@
-use Rattle.bandwidth_front.proofs.OpenInputs.{fault_open}
-use Rattle.bandwidth_front.proofs.front.read_front.Goals as goal
-
-pub returns-in-None-clause-fault : goal.returns-in-None-clause-fault
-returns-in-None-clause-fault c =
-    fault_open c.args.bytes.now c.not_ended.result c.in-None.ensures.place c.not_ended.ensures

@@ -1,5 +1,0 @@
-pub mod ListedLaw
-pub mod EmptyFlags
-mod Order
-mod Alike
-mod Joined

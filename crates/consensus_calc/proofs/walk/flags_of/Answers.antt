@@ -1,0 +1,12 @@
+use Rattle.std.proofs.Common.{◌≡◌, ◌∙◌, ap, ℕ, List}
+use Rattle.compute_terms.specs.Listings.{listings_at}
+use Rattle.compute_terms.specs.RelayFlags.{adjusted_flags}
+use Rattle.consensus_calc.proofs.Lines.{set_is}
+use Rattle.consensus_calc.proofs.walk.flags_of.Goals as goal
+
+pub returns : goal.returns
+returns c =
+    let votes = c.args.votes.now.votes in
+    c.in_ok-after.ensures
+    ∙ ap (λ (s : List (List ℕ)). adjusted_flags s) (c.in_ok-set.ensures
+    ∙ set_is votes c.args.part.now (listings_at votes c.args.members.now) c.args.known.now c.deref.result.now c.args.needed.now c.requires.known (c.deref.ensures.value ∙ c.in_ok-count_setting.ensures) c.requires.needed)

@@ -1,3 +1,0 @@
-pub mod Signers
-pub mod DescriptorReads
-pub mod DescriptorRead

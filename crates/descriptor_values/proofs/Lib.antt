@@ -1,5 +1,0 @@
-pub mod PoliciesRead
-pub mod PortsRead
-pub mod KeysRead
-pub mod ItemsSay
-pub mod DescriptorValues

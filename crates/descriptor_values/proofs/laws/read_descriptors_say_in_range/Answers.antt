@@ -1,5 +1,0 @@
-use Rattle.descriptor_values.proofs.DescriptorValues.{say_in_range}
-use Rattle.descriptor_values.proofs.laws.read_descriptors_say_in_range.Goals as goal
-
-pub returns : goal.returns
-returns c = say_in_range

@@ -1,6 +1,0 @@
-use Rattle.dirdoc_laws.proofs.BlockFronts.{fault_is_there}
-use Rattle.dirdoc_laws.proofs.BlockReading.{fault_is_found}
-use Rattle.dirdoc_laws.proofs.blocks.faults_are_there.Goals as goal
-
-pub returns : goal.returns
-returns c = λ start limit bytes items fault. (fault_is_there start limit bytes items fault, fault_is_found start limit bytes items fault)

@@ -1,5 +1,0 @@
-use Rattle.dirdoc_laws.proofs.ItemsAgain.{items_again}
-use Rattle.dirdoc_laws.proofs.laws.reads_again.Goals as goal
-
-pub returns : goal.returns
-returns c = items_again

@@ -1,5 +1,0 @@
-use Rattle.dirdoc_laws.proofs.ReadAgain.{read_again}
-use Rattle.dirdoc_laws.proofs.laws.written_items_are_read.Goals as goal
-
-pub returns : goal.returns
-returns c = read_again

@@ -1,6 +1,0 @@
-use Rattle.std.proofs.Common.{◌∙◌, ap, drop}
-use Rattle.std.proofs.lemmas.List.{take_rest}
-use Rattle.ed_certs.proofs.certificate.extensions_of.Goals as goal
-
-pub returns : goal.returns
-returns c = take_rest c.covered_part-covered.result.now 40 ∙ ap (drop 40) c.covered_part-covered.ensures

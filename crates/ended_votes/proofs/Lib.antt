@@ -1,4 +1,0 @@
-pub mod Lasts
-pub mod LastPart
-pub mod EndedVotes
-pub mod BlankVotes

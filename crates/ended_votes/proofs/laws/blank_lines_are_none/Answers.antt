@@ -1,5 +1,0 @@
-use Rattle.ended_votes.proofs.BlankVotes.{blank_are_none}
-use Rattle.ended_votes.proofs.laws.blank_lines_are_none.Goals as goal
-
-pub returns : goal.returns
-returns c = blank_are_none

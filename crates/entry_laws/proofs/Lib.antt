@@ -1,6 +1,0 @@
-pub mod WrittenMethods
-pub mod WrittenRelays
-pub mod WrittenBandwidths
-pub mod WrittenMicros
-pub mod WrittenKeys
-pub mod WrittenAddresses

@@ -1,5 +1,0 @@
-use Rattle.entry_laws.proofs.WrittenAddresses.{address_again}
-use Rattle.entry_laws.proofs.laws.address_lines_are_read_again.Goals as goal
-
-pub returns : goal.returns
-returns c = address_again

@@ -1,5 +1,0 @@
-use Rattle.entry_laws.proofs.WrittenMicros.{micro_again}
-use Rattle.entry_laws.proofs.laws.micro_lines_are_read_again.Goals as goal
-
-pub returns : goal.returns
-returns c = micro_again

@@ -1,5 +1,0 @@
-use Rattle.entry_laws.proofs.WrittenRelays.{relay_again}
-use Rattle.entry_laws.proofs.laws.relay_lines_are_read_again.Goals as goal
-
-pub returns : goal.returns
-returns c = relay_again

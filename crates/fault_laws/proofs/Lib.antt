@@ -1,3 +1,0 @@
-pub mod EntryPlaces
-pub mod VotePlaces
-pub mod VoteFaults

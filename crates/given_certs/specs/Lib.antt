@@ -1,4 +1,0 @@
-pub mod Lifted
-pub mod Given
-pub mod Inside
-pub mod Within

@@ -1,2 +1,0 @@
-pub mod ClearKinds
-pub mod NoDocKinds

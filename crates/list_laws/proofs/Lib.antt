@@ -1,9 +1,0 @@
-pub mod Marks
-pub mod NamedLists
-pub mod LineWords
-pub mod ParamsAgain
-pub mod VersionBytes
-pub mod VersionsAgain
-pub mod NumbersAlone
-pub mod RangesAgain
-pub mod ProtocolsAgain

@@ -1,9 +1,0 @@
-//! Lines that are lists of values, as documents have them: params, versions of Tor, versions of protocols (dir-spec, "Vote and
-//! consensus status document formats"); and what their texts list.
-#![tactic(auto)]
-
-mod lines;
-mod listed;
-
-pub use lines::{params_of, protocols_of, versions_of};
-pub use listed::{params_if, params_in, protocols_if, protocols_in, versions_if, versions_in};

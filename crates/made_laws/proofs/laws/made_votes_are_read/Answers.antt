@@ -1,5 +1,0 @@
-use Rattle.made_laws.proofs.MadeAgain.{made_again}
-use Rattle.made_laws.proofs.laws.made_votes_are_read.Goals as goal
-
-pub returns : goal.returns
-returns c = made_again

@@ -1,0 +1,184 @@
+-- The `dir-source` line of a vote, of an authority that a station input names, is no longer than a line may be.
+use Rattle.std.proofs.Common.{◌≡◌, ℕ, ◌+◌, ◌≤◌, Bool, true, false, List, [], ◌∷◌, ◌++◌, length}
+use Rattle.std.proofs.Common.{Result, Ok, Err, refl, ap, ◌∙◌, arith, length-append}
+use Rattle.std.specs.Prelude.{codes, decimal, if◌then◌else◌}
+use Rattle.std.proofs.lemmas.Bool.{false≢true, leb-true}
+use Rattle.item_terms.specs.Bytes.{line_feed, space}
+use Rattle.item_terms.specs.Faults.{max_line}
+use Rattle.item_terms.specs.Items.{Item}
+use Rattle.dir_bytes.specs.Fields.{address}
+use Rattle.dir_bytes.specs.FieldTexts.{address_text, hex_text}
+use Rattle.dir_values.specs.Digests.{fingerprint}
+use Rattle.dir_values.specs.Names.{is_nickname}
+use Rattle.dir_values.specs.Numbers.{port_of}
+use Rattle.dir_values.specs.declared.digest.Fingerprint.{Fingerprint}
+use Rattle.dirdoc_grammar.specs.Writing.{tail}
+use Rattle.frame_values.specs.Arguments.{arguments_of, field, front, next, others}
+use Rattle.frame_values.specs.Fields.{is_there, span_if}
+use Rattle.frame_values.specs.Lines.{source_of}
+use Rattle.frame_values.specs.Parts.{part}
+use Rattle.frame_values.specs.declared.found.DirSource.{DirSource}
+use Rattle.frame_values.specs.declared.found.Span.{Span}
+use Rattle.frame_values.specs.declared.values.Value.{Value}
+use Rattle.frame_values.specs.declared.values.Value.TheVariants as value
+use Rattle.row_laws.proofs.ItemArguments.{IsSound, are_found, front_found, others_found}
+use Rattle.row_laws.proofs.ReadSteps.{ReadAs, any_reads, next_reads, no_fault, span_reads, was_read}
+use Rattle.station_input.specs.Lines.{own_of}
+use Rattle.station_input.specs.Sources.{fits_line, names_part, ports_part, source_line}
+use Rattle.station_input.specs.Tables.{over_limit, value_at}
+use Rattle.station_input.specs.declared.frame.StationKind.TheVariants as kind
+use Rattle.station_input.specs.declared.frame_said.StationValue.{StationValue}
+use Rattle.station_input.specs.declared.frame_said.StationValue.TheVariants as own
+use Rattle.frame_terms.specs.declared.keyword.Keyword.{Keyword}
+use Rattle.maker_laws.proofs.ItemLines.{FitsLine}
+use Rattle.maker_laws.proofs.StandingLines.{SaysShort}
+
+-- ---- the line by its parts
+
+-- who an authority is that stands in these bytes, as a vote says it
+abbrev pub rest_of_source : List ℕ → DirSource → List ℕ
+rest_of_source bytes source =
+    part bytes source.nickname ++ space ∷ hex_text source.identity.0 ++ space ∷ part bytes source.address
+    ++ space ∷ (address_text source.ip ++ space ∷ decimal source.dir_port ++ space ∷ decimal source.or_port)
+
+tail_size : (rest : List ℕ) → length (tail rest) ≤ length rest + 1
+tail_size [] = omega arith
+tail_size (b ∷ rest) = omega arith
+
+-- the sizes of six texts with a space before each, and of the same one behind the other
+same_size : (word a b c d e f : List ℕ)
+    → length (word ++ tail (a ++ space ∷ b ++ space ∷ c ++ space ∷ (d ++ space ∷ e ++ space ∷ f))) + 1
+    ≤ length ((word ++ space ∷ a ++ space ∷ b ++ space ∷ c) ++ (space ∷ d ++ space ∷ e ++ space ∷ f ++ line_feed ∷ []))
+same_size word a b c d e f =
+    let names = a ++ space ∷ b ++ space ∷ c in
+    let ports = d ++ space ∷ e ++ space ∷ f in
+    omega (
+      arith,
+      length-append word (tail (names ++ space ∷ ports)),
+      tail_size (names ++ space ∷ ports),
+      length-append names (space ∷ ports),
+      length-append (a ++ space ∷ b) (space ∷ c),
+      length-append a (space ∷ b),
+      length-append (d ++ space ∷ e) (space ∷ f),
+      length-append d (space ∷ e),
+      length-append (word ++ space ∷ a ++ space ∷ b ++ space ∷ c)
+          (space ∷ d ++ space ∷ e ++ space ∷ f ++ line_feed ∷ []),
+      length-append (word ++ space ∷ a ++ space ∷ b) (space ∷ c),
+      length-append (word ++ space ∷ a) (space ∷ b),
+      length-append word (space ∷ a),
+      length-append (space ∷ d ++ space ∷ e ++ space ∷ f) (line_feed ∷ []),
+      length-append (space ∷ d ++ space ∷ e) (space ∷ f),
+      length-append (space ∷ d) (space ∷ e),
+    )
+
+line_fits : (nickname host : List ℕ) (source : DirSource) → fits_line nickname host source ≡ true
+    → length (names_part nickname host source.identity ++ ports_part source) ≤ max_line
+line_fits nickname host source fits = leb-true (length (source_line nickname host source)) max_line fits
+
+-- ---- what is read
+
+-- the nickname and the host name stand in the input as the arguments say
+abbrev IsNamed : List ℕ → List ℕ → List ℕ → DirSource → Type 0
+IsNamed bytes name host source = (part bytes source.nickname ≡ name) × (part bytes source.address ≡ host)
+
+there : (text : List ℕ) → is_nickname text ≡ true → is_there text ≡ true
+there [] is = absurd (false≢true is)
+there (b ∷ text) is = refl
+
+abbrev source_made : Span → Fingerprint → Span → ℕ → ℕ → ℕ → Result DirSource ℕ
+source_made nickname digest host ip dir_port or_port = Ok (record {
+  nickname = nickname;
+  identity = digest;
+  address = host;
+  ip = ip;
+  dir_port = dir_port;
+  or_port = or_port;
+})
+
+named_reads : (bytes : List ℕ) (item : Item) → IsSound bytes item
+    → ReadAs (IsNamed bytes (front item.place (arguments_of item)).text
+    (front item.place (others (others (arguments_of item)))).text) (source_of item)
+named_reads bytes item sound =
+    let a0 = arguments_of item in
+    let a1 = others a0 in
+    let a2 = others a1 in
+    let a3 = others a2 in
+    let a4 = others a3 in
+    let a5 = others a4 in
+    let found0 = are_found sound in
+    let found2 = others_found bytes a1 (others_found bytes a0 found0) in
+    let t0 = front item.place a0 in
+    let t1 = front item.place a1 in
+    let t2 = front item.place a2 in
+    let t3 = front item.place a3 in
+    let t4 = front item.place a4 in
+    let t5 = front item.place a5 in
+    let f0 = field t0 (span_if (is_nickname t0.text) t0) in
+    let f1 = field t1 (fingerprint t1.text) in
+    let f2 = field t2 (span_if (is_there t2.text) t2) in
+    let f3 = field t3 (address t3.text) in
+    let f4 = field t4 (port_of t4.text) in
+    let f5 = field t5 (port_of t5.text) in
+    let m5 = λ (n : Span) (k : Fingerprint) (h : Span) (i d o : ℕ). source_made n k h i d o in
+    let m4 = λ (n : Span) (k : Fingerprint) (h : Span) (i d : ℕ). next f5 (m5 n k h i d) in
+    let m3 = λ (n : Span) (k : Fingerprint) (h : Span) (i : ℕ). next f4 (m4 n k h i) in
+    let m2 = λ (n : Span) (k : Fingerprint) (h : Span). next f3 (m3 n k h) in
+    let m1 = λ (n : Span) (k : Fingerprint). next f2 (m2 n k) in
+    let m0 = λ (n : Span). next f1 (m1 n) in
+    let Named : DirSource → Type 0 = IsNamed bytes t0.text t2.text in
+    let Any : ℕ → Type 0 = λ n. Unit {0} in
+    next_reads (λ (n : Span). part bytes n ≡ t0.text) Named f0 m0
+    (span_reads (λ (n : Span). part bytes n ≡ t0.text) t0 (is_nickname t0.text)
+    (λ is. (front_found bytes item.place a0 found0 (there t0.text is)).part)) (λ n is_n.
+    next_reads (λ (k : Fingerprint). Unit {0}) Named f1 (m1 n) (any_reads f1) (λ k is_k.
+    next_reads (λ (h : Span). part bytes h ≡ t2.text) Named f2 (m2 n k)
+    (span_reads (λ (h : Span). part bytes h ≡ t2.text) t2 (is_there t2.text)
+    (λ some. (front_found bytes item.place a2 found2 some).part)) (λ h is_h.
+    next_reads Any Named f3 (m3 n k h) (any_reads f3) (λ i is_i.
+    next_reads Any Named f4 (m4 n k h i) (any_reads f4) (λ d is_d.
+    next_reads Any Named f5 (m5 n k h i d) (any_reads f5) (λ o is_o. (is_n, is_h)))))))
+
+-- an authority whose line is short
+abbrev pub IsShortSource : List ℕ → DirSource → Type 0
+IsShortSource bytes source = FitsLine (codes "dir-source") (rest_of_source bytes source)
+
+abbrev own_if : Bool → ℕ → DirSource → Result DirSource ℕ
+own_if fits place source = if fits then Ok source else Err place
+
+own_reads : (bytes : List ℕ) (item : Item) → IsSound bytes item → ReadAs (IsShortSource bytes) (own_of item)
+own_reads bytes item sound =
+    let name = (front item.place (arguments_of item)).text in
+    let host = (front item.place (others (others (arguments_of item)))).text in
+    next_reads (IsNamed bytes name host) (IsShortSource bytes) (source_of item)
+    (λ source. own_if (fits_line name host source) item.place source) (named_reads bytes item sound)
+    (λ source is. by name host source is (fits_line name host source) refl)
+  where
+    fits_so : (source : DirSource)
+        → fits_line (part bytes source.nickname) (part bytes source.address) source ≡ true → IsShortSource bytes source
+    fits_so source fits =
+        let short = line_fits (part bytes source.nickname) (part bytes source.address) source fits in
+        let size =
+        same_size (codes "dir-source") (part bytes source.nickname) (hex_text source.identity.0)
+        (part bytes source.address) (address_text source.ip) (decimal source.dir_port) (decimal source.or_port) in
+        omega (arith, short, size)
+
+    by : (name host : List ℕ) (source : DirSource) → IsNamed bytes name host source → (t : Bool)
+        → fits_line name host source ≡ t → ReadAs (IsShortSource bytes) (own_if t item.place source)
+    by name host source is false test = tt
+    by name host source is true test =
+        fits_so source
+        (ap (λ (n : List ℕ). fits_line n (part bytes source.address) source) is.0
+        ∙ ap (λ (h : List ℕ). fits_line name h source) is.1 ∙ test)
+
+-- what an item says of it
+abbrev pub SourceFits : List ℕ → Value StationValue → Type 0
+SourceFits bytes (value.Own (own.Source source)) = IsShortSource bytes source
+SourceFits bytes _ = ⊥
+
+pub source_fits : {bytes : List ℕ} {keyword : Keyword} {v : Value StationValue}
+    → SaysShort bytes keyword kind.Source v → SourceFits bytes v
+source_fits {bytes} {keyword} {v} s =
+    was_read (SourceFits bytes) (value_at s.remembered kind.Source s.item) v
+    (next_reads (IsShortSource bytes) (SourceFits bytes) (own_of s.item)
+    (λ source. Ok (value.Own (own.Source source))) (own_reads bytes s.item s.sound) (λ source is. is))
+    (no_fault (over_limit kind.Source s.item) (value_at s.remembered kind.Source s.item) v s.says).1

@@ -1,5 +1,0 @@
-use Rattle.measured_laws.proofs.FileTelling.{file_entries_told}
-use Rattle.measured_laws.proofs.laws.told_entries_are_told.Goals as goal
-
-pub returns : goal.returns
-returns c = file_entries_told

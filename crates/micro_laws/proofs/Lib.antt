@@ -1,4 +1,0 @@
-pub mod MicroKinds
-pub mod MicroFields
-pub mod MicroAgain
-pub mod MicroRange

@@ -1,5 +1,0 @@
-use Rattle.micro_laws.proofs.MicroAgain.{micros_again}
-use Rattle.micro_laws.proofs.laws.micros_are_read_again.Goals as goal
-
-pub returns : goal.returns
-returns c = micros_again

@@ -1,0 +1,38 @@
+// Laws of a mirror.
+ghost use Rattle.std.specs.Prelude.{◌≡◌, ℕ, List, All, Some, Err};
+ghost use Rattle.dir_values.specs.declared.digest.Fingerprint.{Fingerprint};
+ghost use Rattle.key_port.specs.Answers.{Rules};
+ghost use Rattle.mirror_core.specs.declared.terms_refusal.MirrorRefusal.{MirrorRefusal};
+ghost use Rattle.mirror_core.specs.Answers.{AnswersCerts, AnswersConsensus, AnswersMicros, micro_with};
+ghost use Rattle.mirror_core.specs.Lists.{CallsLeave};
+ghost use Rattle.mirror_core.specs.Sound.{IsSound};
+ghost use Rattle.mirror_core.specs.States.{Mirrored, no_mirror};
+ghost use Rattle.authority_certs.specs.Reading.{cert_of};
+ghost use Rattle.micro_desc.specs.Reading.{micro_of};
+ghost use Rattle.mirror_core.specs.Bytes.{HaveBytes};
+ghost use Rattle.mirror_core.specs.Served.{IsNamedText};
+
+/// After every list of calls: the certificates that are kept were checked, one of each member at most; the consensus that is held
+/// is of the microdesc flavour, and more than half of the roster signed it, each counted once; and each microdescriptor that is
+/// held has a SHA-256 that this consensus names.
+pub fn what_is_held()
+    ensures { (rules : Rules) (roster : List Fingerprint) (mirrors : List Mirrored) → CallsLeave rules (no_mirror roster) mirrors → All (IsSound rules) mirrors }
+{}
+
+/// A call that is refused changes nothing.
+pub fn a_refusal_changes_nothing()
+    ensures certs { (rules : Rules) (now : ℕ) (before after : Mirrored) (bytes : List ℕ) (why : MirrorRefusal) → AnswersCerts rules now before bytes (Err why) after → after ≡ before }
+    ensures consensus { (rules : Rules) (before after : Mirrored) (bytes : List ℕ) (why : MirrorRefusal) → AnswersConsensus rules before bytes (Err why) after → after ≡ before }
+    ensures micros { (before after : Mirrored) (bytes : List ℕ) (why : MirrorRefusal) → AnswersMicros before bytes (Err why) after → after ≡ before }
+{}
+
+/// A microdescriptor that is given for a digest has this digest, and the held consensus names it.
+pub fn what_is_served()
+    ensures { (rules : Rules) (mirror : Mirrored) (digest text : List ℕ) → IsSound rules mirror → micro_with mirror digest ≡ Some text → IsNamedText mirror digest text }
+{}
+
+/// A certificate that is read of some bytes has a byte, and so has a microdescriptor (dir-spec, "Document meta-format").
+pub fn what_is_read_has_bytes()
+    ensures certs { HaveBytes cert_of }
+    ensures micros { HaveBytes micro_of }
+{}

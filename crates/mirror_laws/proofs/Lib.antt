@@ -1,5 +1,0 @@
-pub mod Members
-pub mod CertLaws
-pub mod SignerLaws
-pub mod MirrorLaws
-pub mod SomeBytes

@@ -1,3 +1,0 @@
-pub mod Apps
-pub mod Options
-pub mod PeerLists

@@ -1,4 +1,0 @@
-pub mod RankOrder
-pub mod Answers
-pub mod HeldNewest
-pub mod Members

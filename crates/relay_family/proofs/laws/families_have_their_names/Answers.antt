@@ -1,9 +1,0 @@
-use Rattle.std.proofs.Common.{◌∙◌}
-use Rattle.std.specs.Prelude.{filter_map}
-use Rattle.dir_values.proofs.Flags.{has_flag-as_set}
-use Rattle.relay_family.specs.Families.{member_of}
-use Rattle.relay_family.proofs.Forms.{forms_of_names}
-use Rattle.relay_family.proofs.laws.families_have_their_names.Goals as goal
-
-pub returns : goal.returns
-returns c = λ names text. has_flag-as_set (filter_map member_of names) text ∙ forms_of_names names text

@@ -1,8 +1,0 @@
-use Rattle.std.proofs.Common.{arith}
-use Rattle.vote_terms.specs.Entries.{bandwidth_of}
-use Rattle.relay_select.proofs.Filters.{found_more}
-use Rattle.router_calc.proofs.bandwidth.bandwidths.Goals as goal
-
-pub entries-preserved : goal.entries-preserved
-entries-preserved c =
-    found_more bandwidth_of c.args.entries.now c.entries.entry-index c.entry-item.result c.entries.values.items c.push_if.new.values.items _ (omega arith) c.entry-item.is c.entries.invariant c.bandwidth.ensures c.in_ok-push_if.ensures.ok

@@ -1,5 +1,0 @@
-use Rattle.std.proofs.Common.{◌≡◌, replicate}
-use Rattle.router_calc.proofs.counting.zeros.Given as goal
-
-abbrev pub invariant-counts : goal.invariant-counts
-invariant-counts l = l.counts.items ≡ replicate l._i 0

@@ -1,5 +1,0 @@
-pub mod Marks
-pub mod Counting
-pub mod Picking
-pub mod Places
-pub mod Routerlines

@@ -1,7 +1,0 @@
-use Rattle.signature_document.proofs.Written.{written}
-use Rattle.signature_document.proofs.next.next_signatures.Goals as goal
-
-pub returns-in_ok-write-in-Some : goal.returns-in_ok-write-in-Some
-returns-in_ok-write-in-Some g c = written c.args.station.now c.in-Some.made.now c.in_ok-detached-in-Some.detached
-    c.in_ok-write-in-Some.field-0.items c.new.result c.in-Some.ensures c.in_ok-detached-in-Some.ensures
-    c.in_ok-write-in-Some.ensures c.new.ensures

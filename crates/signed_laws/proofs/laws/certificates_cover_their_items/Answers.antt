@@ -1,5 +1,0 @@
-use Rattle.signed_laws.proofs.Certificates.{certificates_cover_their_items}
-use Rattle.signed_laws.proofs.laws.certificates_cover_their_items.Goals as goal
-
-pub returns : goal.returns
-returns c = certificates_cover_their_items

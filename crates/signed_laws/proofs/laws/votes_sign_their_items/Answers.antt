@@ -1,5 +1,0 @@
-use Rattle.signed_laws.proofs.SignedVotes.{votes_sign_their_items}
-use Rattle.signed_laws.proofs.laws.votes_sign_their_items.Goals as goal
-
-pub returns : goal.returns
-returns c = votes_sign_their_items

@@ -1,9 +1,0 @@
-pub mod Backwards
-pub mod FrontCut
-pub mod SaidBack
-pub mod CertItems
-pub mod CertInside
-pub mod CutText
-pub mod AloneCert
-pub mod CertPlace
-pub mod GivenCert

@@ -1,5 +1,0 @@
-pub mod Answers
-pub mod Chains
-pub mod OneBasis
-pub mod NotRefused
-pub mod FilesNotRefused

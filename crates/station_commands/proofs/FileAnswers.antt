@@ -1,0 +1,81 @@
+-- What the command answers, call by call.
+use Rattle.std.proofs.Common.{◌≡◌, ℕ, List, Result, Ok, Err, inl, inr, refl, sym, subst}
+use Rattle.std.specs.Global.{Vec}
+use Rattle.key_port.specs.Answers.{Relation, Rules}
+use Rattle.key_port.specs.Signing.{SignerSteps}
+use Rattle.bandwidth_file.specs.declared.file.BandFile.{BandFile}
+use Rattle.bandwidth_file.specs.declared.front.Front.{Front}
+use Rattle.frame_terms.specs.declared.fault.FrameFault.{FrameFault}
+use Rattle.daemon_words.specs.Stops.{Answered}
+use Rattle.daemon_words.specs.declared.stop.Stop.{Stop}
+use Rattle.daemon_words.specs.declared.stop.Stop.TheVariants as stop
+use Rattle.station_input.specs.declared.facts.StationFacts.{StationFacts}
+use Rattle.station_commands.specs.Voting as station
+use Rattle.station_commands.specs.Voting.{VoteAnswers}
+use Rattle.station_commands.specs.declared.refusal.MakeVoteRefusal.{MakeVoteRefusal}
+use Rattle.station_commands.specs.Private.{GivesFile, GivesStationBehind}
+use Rattle.station_commands.specs.FileTold.{by_vote, of_fault, of_file, of_vote}
+use Rattle.station_commands.specs.WithFile.{BeginsWithFile, FileVoteAnswers, IsBeforeSigner, IsOfStation, station_behind}
+use Rattle.station_commands.specs.declared.file_refusal.BandwidthRefusal.{BandwidthRefusal}
+use Rattle.station_commands.specs.declared.file_refusal.FileVoteRefusal.{FileVoteRefusal}
+
+module _ {N : Type 0} (rules : Rules) (gives : Relation) (steps : SignerSteps N) (now : ℕ) (bytes : List ℕ) (old new : N) where
+  -- what the command answers
+  abbrev pub Answers : Result (List ℕ) FileVoteRefusal → Type 0
+  Answers answer = FileVoteAnswers rules gives steps now bytes answer old new
+
+  pub no_file : (why : Stop BandwidthRefusal) → GivesFile bytes now (Err why) → Answered Answers (Err (of_file why))
+  no_file stop.Memory is = tt
+  no_file (stop.Refused why) is = inl (why, refl, is)
+
+  pub no_station : (file : BandFile) (start : ℕ) (why : Stop FrameFault) → BeginsWithFile bytes now file start
+      → GivesStationBehind file start bytes (Err why) → Answered Answers (Err (of_fault why))
+  no_station file start stop.Memory begins is = tt
+  no_station file start (stop.Refused fault) begins is = inr (file, start, begins, inl (fault, refl, is))
+
+  module _ (file : BandFile) (start : ℕ) (given : StationFacts) (used : ℕ) (begins : BeginsWithFile bytes now file start)
+      (is : station_behind file start bytes ≡ Ok (given, used)) where
+    pub voted : (text : Vec ℕ)
+        → Answered (λ answer. VoteAnswers rules gives steps now given used bytes answer old new) (Ok text)
+        → Answered Answers (Ok text)
+    voted text told = inr (file, start, begins, inr (given, used, is, told))
+
+    pub no_vote : (why : Stop MakeVoteRefusal)
+        → Answered (λ answer. VoteAnswers rules gives steps now given used bytes answer old new) (Err why)
+        → Answered Answers (Err (of_vote why))
+    no_vote stop.Memory told = tt
+    no_vote (stop.Refused why) told = inr (file, start, begins, inr (given, used, is, (why, refl, told)))
+
+-- what is asked before
+
+pub before_vote : (why : Stop MakeVoteRefusal) → IsOfStation (of_vote why) → station.IsOfStation why
+before_vote stop.Memory of = of
+before_vote (stop.Refused why) of = of
+
+pub unsigned_vote : (why : Stop MakeVoteRefusal) → IsBeforeSigner (of_vote why) → station.IsBeforeSigner why
+unsigned_vote stop.Memory before = before
+unsigned_vote (stop.Refused why) before = before
+
+-- a vote's refusal is told as it is
+pub told_alike : (why : Stop MakeVoteRefusal) (own : MakeVoteRefusal) → of_vote why ≡ stop.Refused (by_vote own)
+    → why ≡ stop.Refused own
+told_alike stop.Memory own is = absurd (cc is)
+told_alike (stop.Refused why) own is = cc is
+
+-- the moment is the one that the clock gave, and the bytes are those of the input
+pub no_file_at : (bytes slice : List ℕ) (now moment : ℕ) (why : Stop BandwidthRefusal) → slice ≡ bytes → now ≡ moment
+    → GivesFile slice moment (Err why) → GivesFile bytes now (Err why)
+no_file_at bytes slice now moment why same last is =
+    subst (λ (b : List ℕ). GivesFile b now (Err why)) same
+    (subst (λ (m : ℕ). GivesFile slice m (Err why)) (sym last) is)
+
+pub file_at : (bytes slice : List ℕ) (now moment : ℕ) (front : Front) → slice ≡ bytes → now ≡ moment
+    → GivesFile slice moment (Ok front) → BeginsWithFile bytes now front.file front.used
+file_at bytes slice now moment front same last is =
+    subst (λ (b : List ℕ). BeginsWithFile b now front.file front.used) same
+    (subst (λ (m : ℕ). BeginsWithFile slice m front.file front.used) (sym last) is.0)
+
+pub station_at : (file : BandFile) (start : ℕ) (bytes slice : List ℕ) (result : Result (StationFacts × ℕ) (Stop FrameFault))
+    → slice ≡ bytes → GivesStationBehind file start slice result → GivesStationBehind file start bytes result
+station_at file start bytes slice result same is =
+    subst (λ (b : List ℕ). GivesStationBehind file start b result) same is

@@ -1,0 +1,18 @@
+use Rattle.station_commands.proofs.Reading.{rest_is}
+use Rattle.station_commands.proofs.StationBehind.{fits_behind, stands_behind}
+use Rattle.station_commands.proofs.behind.station_behind.Goals as goal
+
+pub returns-in_ok-told-in-Ok : goal.returns-in_ok-told-in-Ok
+returns-in_ok-told-in-Ok c =
+    let bytes = c.args.bytes.now in
+    let front = c.args.front.now in
+    stands_behind front.file front.used bytes _ c.in-Ok.station c.in_ok-told-in-Ok.field-0 c.in-Ok.used
+    (rest_is front.used bytes) c.requires.within c.relays_are_named_once.ensures c.in-Ok.ensures
+    c.in_ok-told-in-Ok.ensures
+
+pub fault_behind-requires : goal.fault_behind-requires
+fault_behind-requires c =
+    let bytes = c.args.bytes.now in
+    let front = c.args.front.now in
+    fits_behind front.used bytes _ c.in-Err.refusal (rest_is front.used bytes) c.requires.within c.requires.short
+    c.in-Err.ensures

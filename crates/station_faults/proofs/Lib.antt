@@ -1,2 +1,0 @@
-pub mod StationPlaces
-pub mod InputFaults

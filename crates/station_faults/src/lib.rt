@@ -1,8 +1,0 @@
-//! The first fault of a server descriptor, and of what a station is given, stands within its bytes (dir-spec, "Server
-//! descriptor format").
-//! No functions; a crate of its own, so that a law more proves nothing else again.
-#![tactic(auto)]
-
-mod laws;
-
-pub use laws::{descriptor_faults_stand_within, station_faults_stand_within};

@@ -1,4 +1,0 @@
-pub mod ItemLines
-pub mod StandingLines
-pub mod OwnLine
-pub mod GivenLines

@@ -1,3 +1,0 @@
-pub mod StationReads
-pub mod StationStands
-pub mod StationKept

@@ -1,5 +1,0 @@
-use Rattle.table_laws.proofs.Taking.{are_said}
-use Rattle.table_laws.proofs.laws.items_are_said.Goals as goal
-
-pub returns : goal.returns
-returns g c tables = are_said tables

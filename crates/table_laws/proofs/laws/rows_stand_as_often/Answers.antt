@@ -1,5 +1,0 @@
-use Rattle.table_laws.proofs.Counting.{stand_as_often}
-use Rattle.table_laws.proofs.laws.rows_stand_as_often.Goals as goal
-
-pub returns : goal.returns
-returns g c tables = stand_as_often tables

@@ -1,5 +1,0 @@
-use Rattle.table_laws.proofs.Ordering.{stand_in_order}
-use Rattle.table_laws.proofs.laws.sections_stand_in_order.Goals as goal
-
-pub returns : goal.returns
-returns g c tables = stand_in_order tables

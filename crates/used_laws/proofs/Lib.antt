@@ -1,2 +1,0 @@
-pub mod LaterItems
-pub mod UsedBytes

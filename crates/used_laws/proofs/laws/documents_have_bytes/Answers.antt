@@ -1,5 +1,0 @@
-use Rattle.used_laws.proofs.UsedBytes.{have_bytes}
-use Rattle.used_laws.proofs.laws.documents_have_bytes.Goals as goal
-
-pub returns : goal.returns
-returns g c with_ tables = have_bytes with_ tables

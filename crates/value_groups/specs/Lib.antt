@@ -1,0 +1,4 @@
+pub mod ListLines
+pub mod Listed
+pub mod Lines
+pub mod Values

@@ -1,0 +1,17 @@
+pub mod Rooms
+pub mod Spelled
+pub mod Edges
+pub mod EdgeTexts
+pub mod SpelledRanges
+pub mod ParamLengths
+pub mod ProtocolLengths
+pub mod VersionLengths
+pub mod Marks
+pub mod NamedLists
+pub mod LineWords
+pub mod ParamsAgain
+pub mod VersionBytes
+pub mod VersionsAgain
+pub mod NumbersAlone
+pub mod RangesAgain
+pub mod ProtocolsAgain

@@ -1,2 +1,0 @@
-pub mod FedVotes
-pub mod WholeVotes
