@@ -55,7 +55,8 @@ for name in "$@"; do
 done
 edits=$(ls "$room"/crates/*/must-fail/*.edit | wc -l)
 
-# In a group of its own, so that it ends whole where this is ended.
+# In a group of its own, so that it ends whole where this is ended. What it says is there before it is followed.
+: > "$room/said"
 set -m
 (cd "$room" && exec rt must-fail "$@") > "$room/said" 2>&1 &
 tries=$!
