@@ -1,6 +1,7 @@
 -- The consensus of held votes (dir-spec, "Computing a consensus from a set of votes").
 use Rattle.std.specs.Prelude.{ℕ, List, map}
 use Rattle.vote_terms.specs.Votes.{ReadVote, vote_digest}
+use Rattle.count_terms.specs.declared.newest.Newest.{Newest}
 use Rattle.compute_terms.specs.Times.{median_of}
 use Rattle.compute_terms.specs.Flags.{known_flags}
 use Rattle.compute_terms.specs.Lists.{listed_params, lists_of}
@@ -27,10 +28,11 @@ source_of vote = record {
   vote_digest = vote_digest vote;
 }
 
--- what the consensus of votes says but for its weights, where the roster has so many authorities
-abbrev pub facts_of : ℕ → List ReadVote → ConsensusFacts
-facts_of roster votes = record {
-  method = chosen_method votes;
+-- what the consensus of votes says but for its weights, where this is the newest method that is known, and the roster
+-- has so many authorities
+abbrev pub facts_of : Newest → ℕ → List ReadVote → ConsensusFacts
+facts_of newest roster votes = record {
+  method = chosen_method newest votes;
   valid_after = median_of (λ vote. vote.says.valid_after) votes;
   fresh_until = median_of (λ vote. vote.says.fresh_until) votes;
   valid_until = median_of (λ vote. vote.says.valid_until) votes;
@@ -41,7 +43,7 @@ facts_of roster votes = record {
   random_previous = agreed_random Previous roster votes;
   random_current = agreed_random Current roster votes;
   sources = map source_of votes;
-  routers = routers roster (chosen_method votes) (unmeasured_limit (listed_params roster votes)) votes;
+  routers = routers roster (chosen_method newest votes) (unmeasured_limit (listed_params roster votes)) votes;
 }
 
 -- the consensus that says this, with the weights that follow from its relays and its params
@@ -51,6 +53,7 @@ weighted_consensus facts = record {
   weights = relay_weights facts.routers facts.lists.params;
 }
 
--- the consensus of the held votes, where the roster has so many authorities
-abbrev pub consensus : ℕ → List ReadVote → Consensus
-consensus roster votes = weighted_consensus (facts_of roster votes)
+-- the consensus of the held votes, where this is the newest method that is known, and the roster has so many
+-- authorities
+abbrev pub consensus : Newest → ℕ → List ReadVote → Consensus
+consensus newest roster votes = weighted_consensus (facts_of newest roster votes)

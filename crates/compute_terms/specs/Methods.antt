@@ -1,5 +1,6 @@
 -- The method of a consensus (dir-spec, "Computing a consensus from a set of votes").
 use Rattle.std.specs.Prelude.{ℕ, List, [], map, unwrap_or}
+use Rattle.count_terms.specs.declared.newest.Newest.{Newest}
 use Rattle.field_votes.specs.Methods.{method_of}
 use Rattle.vote_terms.specs.Votes.{ReadVote}
 
@@ -7,6 +8,6 @@ use Rattle.vote_terms.specs.Votes.{ReadVote}
 abbrev pub listed_methods : List ReadVote → List (List ℕ)
 listed_methods votes = map (λ (vote : ReadVote). unwrap_or vote.says.methods []) votes
 
--- the method that the votes choose
-abbrev pub chosen_method : List ReadVote → ℕ
-chosen_method votes = method_of (listed_methods votes)
+-- the method that the votes choose, where this is the newest that is known
+abbrev pub chosen_method : Newest → List ReadVote → ℕ
+chosen_method newest votes = method_of newest (listed_methods votes)

@@ -2,17 +2,18 @@
 ghost use Rattle.std.specs.Prelude.{◌≡◌, [], IfOk, map, unwrap_or};
 ghost use Rattle.compute_terms.specs.Methods as terms;
 
+use count_terms::Newest;
 use dir_bytes::Memory;
 use dir_values::numbers_in;
 use std::alloc::Global;
 use vote_doc::{Accepted, Vote};
 
-/// The method that the votes choose.
-pub fn chosen_method(alloc: Global, votes: &Accepted) -> Result<u32, Memory>
-    ensures { IfOk result (λ method. method ≡ terms.chosen_method votes.now.votes) }
+/// The method that the votes choose, where this is the newest that is known.
+pub fn chosen_method(alloc: Global, newest: Newest, votes: &Accepted) -> Result<u32, Memory>
+    ensures { IfOk result (λ method. method ≡ terms.chosen_method newest votes.now.votes) }
 {
     let lists = listed_methods(alloc, votes)?;
-    Ok(field_votes::method(&lists))
+    Ok(field_votes::method(newest, &lists))
 }
 
 /// The methods that each vote lists, none where it has no such line.

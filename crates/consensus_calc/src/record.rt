@@ -12,6 +12,7 @@ use crate::walk::routers;
 use crate::weights::weighted_consensus;
 use bandwidth_rules::unmeasured_limit;
 use consensus_terms::{Consensus, ConsensusFacts, SourceLine};
+use count_terms::Newest;
 use dir_bytes::{Memory, Seq, Text};
 use relay_select::over;
 use std::alloc::Global;
@@ -37,33 +38,43 @@ impl From<Memory> for CalcFault {
     }
 }
 
-/// The consensus of the held votes (dir-spec, "Computing a consensus from a set of votes"), where the roster has so many
-/// authorities.
+/// The consensus of the held votes (dir-spec, "Computing a consensus from a set of votes"), where this is the newest method that
+/// is known, and the roster has so many authorities.
 ///
 /// # Errors
 /// `TooFew` where the votes are not of more than half of the roster. `Memory` is want of memory; it comes too where 2^22 relays
 /// or more would be listed, whose entries no machine has the memory for.
-pub fn compute(alloc: Global, roster: u32, votes: &Accepted) -> Result<Consensus, CalcFault>
-    ensures calculates { Calculates roster votes.now.votes result }
+pub fn compute(
+    alloc: Global,
+    newest: Newest,
+    roster: u32,
+    votes: &Accepted,
+) -> Result<Consensus, CalcFault>
+    ensures calculates { Calculates newest roster votes.now.votes result }
     ensures moments { IfOk result (λ c. HasMoments c.facts) }
 {
     let held = votes.len() as u64;
     if !over(held, roster) {
         return Err(CalcFault::TooFew { held, roster });
     }
-    let facts = facts_of(alloc, roster, votes)?;
+    let facts = facts_of(alloc, newest, roster, votes)?;
     Ok(weighted_consensus(facts)?)
 }
 
 /// What the consensus of votes says but for its weights, whether or not they are of more than half of the roster.
-fn facts_of(alloc: Global, roster: u32, votes: &Accepted) -> Result<ConsensusFacts, Memory>
-    ensures value { IfOk result (λ facts. facts ≡ terms.facts_of roster votes.now.votes) }
+fn facts_of(
+    alloc: Global,
+    newest: Newest,
+    roster: u32,
+    votes: &Accepted,
+) -> Result<ConsensusFacts, Memory>
+    ensures value { IfOk result (λ facts. facts ≡ terms.facts_of newest roster votes.now.votes) }
     ensures moments { IfOk result (λ facts. HasMoments facts) }
 {
     let lists = lists_of(alloc, roster, votes)?;
     let limit = unmeasured_limit(&lists.params);
     let known_flags = known_flags(alloc, votes)?;
-    let method = chosen_method(alloc, votes)?;
+    let method = chosen_method(alloc, newest, votes)?;
     let routers = routers(alloc, roster, method, limit, &known_flags, votes)?;
     Ok(ConsensusFacts {
         method,

@@ -1,7 +1,9 @@
 -- The consensus method that lists of methods choose (dir-spec, "Computing a consensus from a set of votes").
-use Rattle.std.specs.Prelude.{ℕ, nat_eq, Bool, List, [], ◌∷◌, count_by, length, unwrap_or}
+use Rattle.std.specs.Prelude.{ℕ, nat_eq, Bool, List, count_by, length, unwrap_or}
 use Rattle.std.specs.List.{find, list_any}
 use Rattle.count_terms.specs.Counts.{two_thirds}
+use Rattle.count_terms.specs.Methods.{known_methods}
+use Rattle.count_terms.specs.declared.newest.Newest.{Newest}
 
 -- how many lists have a method, each counted once however often it repeats it
 abbrev pub supporting_count : List (List ℕ) → ℕ → ℕ
@@ -11,10 +13,6 @@ supporting_count lists method = count_by (λ list. list_any (nat_eq method) list
 abbrev pub is_supported : List (List ℕ) → ℕ → Bool
 is_supported lists method = two_thirds (supporting_count lists method) (length lists)
 
--- the methods that are known here, the greatest first
-abbrev pub known_methods : List ℕ
-known_methods = 33 ∷ 32 ∷ []
-
--- the greatest of these that more than two thirds of the lists have, and 32 where there is none
-abbrev pub method_of : List (List ℕ) → ℕ
-method_of lists = unwrap_or (find (is_supported lists) known_methods) 32
+-- the greatest of the known methods that more than two thirds of the lists have, and 32 where there is none
+abbrev pub method_of : Newest → List (List ℕ) → ℕ
+method_of newest lists = unwrap_or (find (is_supported lists) (known_methods newest)) 32

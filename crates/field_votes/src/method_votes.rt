@@ -3,10 +3,40 @@ ghost use Rattle.std.specs.Prelude.{◌≡◌, ℕ, List, count_by, map, nat_eq,
 ghost use Rattle.std.specs.List.{list_any};
 ghost use Rattle.field_votes.specs.Methods as votes;
 
-/// The greatest of the methods 32 and 33 that more than two thirds of the lists have, and 32 where there is none. A list that
-/// repeats a method counts once for it. It takes no memory.
-pub fn method(lists: &[Vec<u32>]) -> u32
-    ensures { result ≡ votes.method_of (map (λ list. list.items) lists.now) }
+use count_terms::Newest;
+
+/// The greatest of the methods 32 up to the newest that more than two thirds of the lists have, and 32 where there is none. A list
+/// that repeats a method counts once for it. It takes no memory.
+pub fn method(newest: Newest, lists: &[Vec<u32>]) -> u32
+    ensures { result ≡ votes.method_of newest (map (λ list. list.items) lists.now) }
+{
+    match newest {
+        Newest::Method33 => up_to_33(lists),
+        Newest::Method34 => up_to_34(lists),
+        Newest::Method35 => {
+            if is_supported(lists, 35) {
+                35
+            } else {
+                up_to_34(lists)
+            }
+        }
+    }
+}
+
+/// The same where 34 is the newest.
+fn up_to_34(lists: &[Vec<u32>]) -> u32
+    ensures { result ≡ votes.method_of Newest.Method34 (map (λ list. list.items) lists.now) }
+{
+    if is_supported(lists, 34) {
+        34
+    } else {
+        up_to_33(lists)
+    }
+}
+
+/// The same where 33 is the newest.
+fn up_to_33(lists: &[Vec<u32>]) -> u32
+    ensures { result ≡ votes.method_of Newest.Method33 (map (λ list. list.items) lists.now) }
 {
     if is_supported(lists, 33) { 33 } else { 32 }
 }
