@@ -1,5 +1,5 @@
 -- What a flavour says of a consensus that is computed (dir-spec, "Vote and consensus status document formats").
-use Rattle.std.specs.Prelude.{ℕ, nat_eq, Option, Some, None, map, unwrap_or, if◌then◌else◌}
+use Rattle.std.specs.Prelude.{ℕ, nat_le, Option, Some, None, map, unwrap_or, if◌then◌else◌}
 use Rattle.consensus_terms.specs.declared.consensus.ConsensusFacts.{ConsensusFacts}
 use Rattle.consensus_terms.specs.declared.flavour.Flavour.{Flavour}
 use Rattle.consensus_terms.specs.declared.flavour.Flavour.TheVariants.{Ns, Microdesc}
@@ -9,10 +9,10 @@ use Rattle.consensus_terms.specs.declared.router.Routerline.{Routerline}
 abbrev pub common_moment : ℕ
 common_moment = 2145916800
 
--- the moment at which every descriptor is said to have been published: the microdesc flavour says so by method 33
+-- the moment at which every descriptor is said to have been published: the microdesc flavour says so from method 33 on
 abbrev pub moment_of_all : Flavour → ℕ → Option ℕ
 moment_of_all Ns method = None
-moment_of_all Microdesc method = if nat_eq method 33 then Some common_moment else None
+moment_of_all Microdesc method = if nat_le 33 method then Some common_moment else None
 
 -- a relay whose descriptor is said to have been published at this moment, where one is given
 abbrev pub router_at : Option ℕ → Routerline → Routerline

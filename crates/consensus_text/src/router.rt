@@ -42,13 +42,13 @@ fn put_digest(page: &mut Page, flavour: Flavour, router: &Routerline)
 }
 
 /// The moment at which every descriptor is said to have been published, in seconds since 1970-01-01 00:00:00 UTC, if a flavour
-/// says so by a method.
+/// says so by a method: the microdesc flavour from method 33 on.
 pub fn moment_of_all(flavour: Flavour, method: u32) -> Option<u64>
     ensures value { result ≡ moment_of_all flavour method }
     ensures within { IfSome result (λ moment. moment ≤ last_moment) }
 {
     match flavour {
-        Flavour::Microdesc if method == 33 => Some(COMMON_MOMENT),
+        Flavour::Microdesc if 33 <= method => Some(COMMON_MOMENT),
         _ => None,
     }
 }
