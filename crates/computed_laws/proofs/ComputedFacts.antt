@@ -92,12 +92,12 @@ module _ (votes : List ReadVote) (all : AreVotesInRange votes) where
   }
 
 pub facts_in_range : ComputedFactsAreInRange
-facts_in_range flavour roster votes all =
+facts_in_range flavour newest roster votes all =
     let limit = unmeasured_limit (listed_params roster votes) in
-    let method = chosen_method votes in
+    let method = chosen_method newest votes in
     let relays = routers roster method limit votes in
     record {
-      method = method_within (listed_methods votes);
+      method = method_within newest (listed_methods votes);
       valid_after = time_within last_moment (λ vote. vote.says.valid_after) votes
           (each votes all _ (λ vote is. is.valid_after));
       fresh_until = time_within last_moment (λ vote. vote.says.fresh_until) votes
@@ -119,10 +119,10 @@ facts_in_range flavour roster votes all =
     }
 
 pub texts_again : ComputedTextsAreReadAgain
-texts_again flavour roster votes lines all signatures items =
-    computed_again flavour (consensus roster votes) lines
+texts_again flavour newest roster votes lines all signatures items =
+    computed_again flavour (consensus newest roster votes) lines
     (record {
-      facts = facts_said flavour (consensus roster votes).facts (facts_in_range flavour roster votes all);
+      facts = facts_said flavour (consensus newest roster votes).facts (facts_in_range flavour newest roster votes all);
       signatures = signatures;
       items = items;
     })

@@ -56,13 +56,13 @@ signatures_are lines signed_ = record {
 }
 
 pub computed_items : ComputedItemsAreItems
-computed_items flavour roster votes lines in_range fills signed_ =
-    let c = consensus roster votes in
+computed_items flavour newest roster votes lines in_range fills signed_ =
+    let c = consensus newest roster votes in
     let said = facts_in flavour c.facts in
-    let are = facts_said flavour c.facts (facts_in_range flavour roster votes in_range) in
+    let are = facts_said flavour c.facts (facts_in_range flavour newest roster votes in_range) in
     let at : Routerline → Routerline = router_at (moment_of_all flavour c.facts.method) in
     let limit = unmeasured_limit (listed_params roster votes) in
-    let method = chosen_method votes in
+    let method = chosen_method newest votes in
     let relays : List Routerline = map at (routers roster method limit votes) in
     let sources : All (λ (s : SourceLine). AreItems (source_items s)) (map source_of votes) =
     both IsAuthorityInRange (λ (s : SourceLine). IfSome s.contact IsLineRest)
@@ -109,18 +109,18 @@ may_be_written limit place (item ∷ items) each within =
     )
 
 pub again_within : ConsensusesWithinLimitsAreReadAgain
-again_within flavour roster votes lines are fills signed_ within =
-    texts_again flavour roster votes lines are
+again_within flavour newest roster votes lines are fills signed_ within =
+    texts_again flavour newest roster votes lines are
     (All-weaker IsSignature IsSignatureInRange (λ s is. is.says) lines signed_)
-    (may_be_written max_consensus 0 (consensus_items (signed_consensus flavour roster votes lines))
-    (computed_items flavour roster votes lines are fills signed_) within)
+    (may_be_written max_consensus 0 (consensus_items (signed_consensus flavour newest roster votes lines))
+    (computed_items flavour newest roster votes lines are fills signed_) within)
 
 pub readable_again : ConsensusesOfReadableVotesAreReadAgain
-readable_again flavour roster votes lines readable signed_ within =
+readable_again flavour newest roster votes lines readable signed_ within =
     let are : AreVotesInRange votes =
     All-weaker (λ (vote : ReadVote). vote_laws.IsInRange vote.says) (λ (vote : ReadVote). IsVoteInRange vote.says)
     (λ vote is. readable_in_range vote.says is) votes readable in
     let fills : AllFillLines votes =
     All-weaker (λ (vote : ReadVote). vote_laws.IsInRange vote.says) (λ (vote : ReadVote). FillsLines vote.says)
     (λ vote is. readable_fill vote.says is) votes readable in
-    again_within flavour roster votes lines are fills signed_ within
+    again_within flavour newest roster votes lines are fills signed_ within

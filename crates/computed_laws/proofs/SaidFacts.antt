@@ -1,9 +1,12 @@
 -- What the text of a flavour says is in range where the facts are.
 use Rattle.std.proofs.Common.{◌≡◌, ℕ, ◌≤◌, Bool, true, false, List, [], ◌∷◌, Option, Some, None, refl, sym, ap}
 use Rattle.std.proofs.Common.{arith, subst}
-use Rattle.std.specs.Prelude.{All, IfSome, is_some, map, nat_eq, unwrap_or, if◌then◌else◌}
+use Rattle.std.specs.Prelude.{All, IfSome, is_some, map, nat_le, unwrap_or, if◌then◌else◌}
+use Rattle.std.specs.List.{find}
 use Rattle.std.proofs.lemmas.List.Elements.{All-map, All-weaker}
 use Rattle.dir_bytes.specs.Causes.{last_moment}
+use Rattle.count_terms.specs.declared.newest.Newest.{Newest}
+use Rattle.count_terms.specs.declared.newest.Newest.TheVariants.{Method33, Method34, Method35}
 use Rattle.field_votes.specs.Methods.{is_supported, method_of}
 use Rattle.consensus_terms.specs.Flavours.{common_moment, facts_in, moment_of_all, router_at}
 use Rattle.consensus_terms.specs.declared.consensus.ConsensusFacts.{ConsensusFacts}
@@ -17,27 +20,38 @@ use Rattle.computed_laws.proofs.RelayOrder.{Before}
 
 -- ---- the method
 
+-- such a number, or else what is found behind it
+either_within : (method : ℕ) (b : Bool) (behind : Option ℕ) → method ≤ 4294967295 → unwrap_or behind 32 ≤ 4294967295
+    → unwrap_or (if b then Some method else behind) 32 ≤ 4294967295
+either_within method true behind small is = small
+either_within method false behind small is = is
+
+least_within : 32 ≤ 4294967295
+least_within = omega arith
+
+up_to_33 : (lists : List (List ℕ)) → method_of Method33 lists ≤ 4294967295
+up_to_33 lists =
+    either_within 33 (is_supported lists 33) (find (is_supported lists) (32 ∷ [])) (omega arith)
+    (either_within 32 (is_supported lists 32) None least_within least_within)
+
+up_to_34 : (lists : List (List ℕ)) → method_of Method34 lists ≤ 4294967295
+up_to_34 lists =
+    either_within 34 (is_supported lists 34) (find (is_supported lists) (33 ∷ 32 ∷ [])) (omega arith) (up_to_33 lists)
+
 -- the method that lists choose is a number that an item may have
-pub method_within : (lists : List (List ℕ)) → method_of lists ≤ 4294967295
-method_within lists = by (is_supported lists 33) (is_supported lists 32)
-  where
-    greater : 33 ≤ 4294967295
-    greater = omega arith
-
-    lesser : 32 ≤ 4294967295
-    lesser = omega arith
-
-    by : (a b : Bool) → unwrap_or (if a then Some 33 else (if b then Some 32 else None)) 32 ≤ 4294967295
-    by true b = greater
-    by false true = lesser
-    by false false = lesser
+pub method_within : (newest : Newest) (lists : List (List ℕ)) → method_of newest lists ≤ 4294967295
+method_within Method33 lists = up_to_33 lists
+method_within Method34 lists = up_to_34 lists
+method_within Method35 lists =
+    either_within 35 (is_supported lists 35) (find (is_supported lists) (34 ∷ 33 ∷ 32 ∷ [])) (omega arith)
+    (up_to_34 lists)
 
 -- ---- the moments
 
 -- the moment that is said of all is one of the calendar
 all_within : (flavour : Flavour) (method : ℕ) → IfSome (moment_of_all flavour method) (λ m. m ≤ last_moment)
 all_within Ns method = tt
-all_within Microdesc method = by (nat_eq method 33)
+all_within Microdesc method = by (nat_le 33 method)
   where
     within : 2145916800 ≤ 253402300799
     within = omega arith

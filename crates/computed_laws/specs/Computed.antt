@@ -16,6 +16,7 @@ use Rattle.consensus_doc.specs.Reading.{consensus_of, max_consensus}
 use Rattle.consensus_laws.specs.Again.{AreFactsInRange, IsSignatureInRange, as_read, with_signatures}
 use Rattle.consensus_laws.specs.Items.{consensus_items}
 use Rattle.compute_terms.specs.Consensuses.{consensus}
+use Rattle.count_terms.specs.declared.newest.Newest.{Newest}
 
 -- ---- votes
 
@@ -45,23 +46,27 @@ ReadableVotesAreInRange = (facts : VoteFacts) → vote_laws.IsInRange facts → 
 
 -- ---- the consensus
 
--- What is computed of such votes, in whatever order and for a roster of any size, says what can be read in either flavour.
+-- What is computed of such votes, in whatever order, for a roster of any size and whichever the newest method that is
+-- known, says what can be read in either flavour.
 abbrev pub ComputedFactsAreInRange : Type 0
-ComputedFactsAreInRange = (flavour : Flavour) (roster : ℕ) (votes : List ReadVote) → AreVotesInRange votes
-    → AreFactsInRange flavour (consensus roster votes).facts
+ComputedFactsAreInRange =
+    (flavour : Flavour) (newest : Newest) (roster : ℕ) (votes : List ReadVote) → AreVotesInRange votes
+    → AreFactsInRange flavour (consensus newest roster votes).facts
 
 -- the consensus that is computed of votes, in a flavour, with signatures
-abbrev pub signed_consensus : Flavour → ℕ → List ReadVote → List SignatureLine → SignedConsensus
-signed_consensus flavour roster votes lines = with_signatures flavour (consensus roster votes) lines
+abbrev pub signed_consensus : Flavour → Newest → ℕ → List ReadVote → List SignatureLine → SignedConsensus
+signed_consensus flavour newest roster votes lines = with_signatures flavour (consensus newest roster votes) lines
 
 -- its text
-abbrev pub computed_text : Flavour → ℕ → List ReadVote → List SignatureLine → List ℕ
-computed_text flavour roster votes lines = signed (unsigned flavour (consensus roster votes)) lines
+abbrev pub computed_text : Flavour → Newest → ℕ → List ReadVote → List SignatureLine → List ℕ
+computed_text flavour newest roster votes lines = signed (unsigned flavour (consensus newest roster votes)) lines
 
 -- Where its items may be written, it is read again as that consensus, as the flavour has it, and ends with the input.
 abbrev pub ComputedTextsAreReadAgain : Type 0
-ComputedTextsAreReadAgain = (flavour : Flavour) (roster : ℕ) (votes : List ReadVote) (lines : List SignatureLine)
+ComputedTextsAreReadAgain =
+    (flavour : Flavour) (newest : Newest) (roster : ℕ) (votes : List ReadVote) (lines : List SignatureLine)
     → AreVotesInRange votes → All IsSignatureInRange lines
-    → AreWritable max_consensus 0 (consensus_items (signed_consensus flavour roster votes lines))
-    → consensus_of (computed_text flavour roster votes lines)
-    ≡ Ok (as_read (signed_consensus flavour roster votes lines), length (computed_text flavour roster votes lines))
+    → AreWritable max_consensus 0 (consensus_items (signed_consensus flavour newest roster votes lines))
+    → consensus_of (computed_text flavour newest roster votes lines)
+    ≡ Ok (as_read (signed_consensus flavour newest roster votes lines),
+    length (computed_text flavour newest roster votes lines))

@@ -13,6 +13,7 @@ use Rattle.consensus_terms.specs.declared.signature.SignatureLine.{SignatureLine
 use Rattle.consensus_doc.specs.Reading.{consensus_of, max_consensus}
 use Rattle.consensus_laws.specs.Again.{IsSignatureInRange, as_read}
 use Rattle.consensus_laws.specs.Items.{consensus_items}
+use Rattle.count_terms.specs.declared.newest.Newest.{Newest}
 use Rattle.computed_laws.specs.Computed.{AreVotesInRange, computed_text, signed_consensus}
 
 -- the texts of an entry that a consensus takes as they stand may be the rests of lines
@@ -42,23 +43,28 @@ ReadableVotesFillLines = (facts : VoteFacts) → vote_laws.IsInRange facts → F
 -- Each item of what is computed, with signatures, has the form of an item: a keyword, what may be the rest of a line, and
 -- where it has an object, that of words and bytes.
 abbrev pub ComputedItemsAreItems : Type 0
-ComputedItemsAreItems = (flavour : Flavour) (roster : ℕ) (votes : List ReadVote) (lines : List SignatureLine)
+ComputedItemsAreItems = (flavour : Flavour) (newest : Newest) (roster : ℕ) (votes : List ReadVote)
+    (lines : List SignatureLine)
     → AreVotesInRange votes → AllFillLines votes → All IsSignature lines
-    → All IsItem (consensus_items (signed_consensus flavour roster votes lines))
+    → All IsItem (consensus_items (signed_consensus flavour newest roster votes lines))
 
 -- So within limits it is read again: where no line, no object and not the whole passes its limit, its text is read again
 -- as that consensus, as the flavour has it, and ends with the input.
 abbrev pub ConsensusesWithinLimitsAreReadAgain : Type 0
-ConsensusesWithinLimitsAreReadAgain = (flavour : Flavour) (roster : ℕ) (votes : List ReadVote) (lines : List SignatureLine)
+ConsensusesWithinLimitsAreReadAgain = (flavour : Flavour) (newest : Newest) (roster : ℕ) (votes : List ReadVote)
+    (lines : List SignatureLine)
     → AreVotesInRange votes → AllFillLines votes → All IsSignature lines
-    → AreWithinLimits max_consensus 0 (consensus_items (signed_consensus flavour roster votes lines))
-    → consensus_of (computed_text flavour roster votes lines)
-    ≡ Ok (as_read (signed_consensus flavour roster votes lines), length (computed_text flavour roster votes lines))
+    → AreWithinLimits max_consensus 0 (consensus_items (signed_consensus flavour newest roster votes lines))
+    → consensus_of (computed_text flavour newest roster votes lines)
+    ≡ Ok (as_read (signed_consensus flavour newest roster votes lines),
+    length (computed_text flavour newest roster votes lines))
 
 -- That is so of votes that can be written and read again.
 abbrev pub ConsensusesOfReadableVotesAreReadAgain : Type 0
-ConsensusesOfReadableVotesAreReadAgain = (flavour : Flavour) (roster : ℕ) (votes : List ReadVote) (lines : List SignatureLine)
+ConsensusesOfReadableVotesAreReadAgain = (flavour : Flavour) (newest : Newest) (roster : ℕ) (votes : List ReadVote)
+    (lines : List SignatureLine)
     → All (λ (vote : ReadVote). vote_laws.IsInRange vote.says) votes → All IsSignature lines
-    → AreWithinLimits max_consensus 0 (consensus_items (signed_consensus flavour roster votes lines))
-    → consensus_of (computed_text flavour roster votes lines)
-    ≡ Ok (as_read (signed_consensus flavour roster votes lines), length (computed_text flavour roster votes lines))
+    → AreWithinLimits max_consensus 0 (consensus_items (signed_consensus flavour newest roster votes lines))
+    → consensus_of (computed_text flavour newest roster votes lines)
+    ≡ Ok (as_read (signed_consensus flavour newest roster votes lines),
+    length (computed_text flavour newest roster votes lines))
