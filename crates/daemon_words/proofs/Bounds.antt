@@ -6,11 +6,14 @@ use Rattle.std.proofs.lemmas.Bool.Decides.{nat_tests}
 use Rattle.clap.specs.Words.{Row, Text, first_of}
 use Rattle.dir_bytes.specs.Fields.{number}
 use Rattle.dir_values.specs.declared.digest.Fingerprint.{Fingerprint}
+use Rattle.count_terms.specs.declared.newest.Newest.{Newest}
+use Rattle.daemon_words.specs.Methods.{newest_in}
 use Rattle.daemon_words.specs.Rehearsals.{IsWithinBounds, is_within, numbers_of, rehearse_in, rehearse_with}
 use Rattle.daemon_words.specs.Reports.{report_in}
 use Rattle.daemon_words.specs.Serving.{serve_in}
 use Rattle.daemon_words.specs.Words.{KeepsBounds, command_named, compute_with, computing, flavours_in, measures_in}
-use Rattle.daemon_words.specs.Words.{serve_with, subject_in}
+use Rattle.daemon_words.specs.Words.{make_vote_in, serve_with, serving, subject_in, voting}
+use Rattle.daemon_words.specs.declared.command.Measures.{Measures}
 use Rattle.daemon_words.specs.declared.command.Command.{Command}
 use Rattle.daemon_words.specs.declared.command.Command.TheVariants as command
 use Rattle.daemon_words.specs.declared.command.Flavours.{Flavours}
@@ -63,18 +66,23 @@ show_keeps : (named : Option Subject) → Keeps (option_map command.Show named)
 show_keeps None = tt
 show_keeps (Some named) = tt
 
-computing_keeps : (members : Option (List Fingerprint)) (valid_after : Option ℕ) (wanted : Flavours)
-    → Keeps (computing members valid_after wanted)
-computing_keeps (Some members) (Some valid_after) wanted = tt
-computing_keeps (Some members) None wanted = tt
-computing_keeps None valid_after wanted = tt
+computing_keeps : (members : Option (List Fingerprint)) (valid_after : Option ℕ) (wanted : Flavours) (newest : Newest)
+    → Keeps (computing members valid_after wanted newest)
+computing_keeps (Some members) (Some valid_after) wanted newest = tt
+computing_keeps (Some members) None wanted newest = tt
+computing_keeps None valid_after wanted newest = tt
 
-compute_keeps : (authorities valid_after : Option (List ℕ)) (wanted : Option Flavours)
-    → Keeps (compute_with authorities valid_after wanted)
-compute_keeps (Some authorities) (Some valid_after) (Some wanted) = computing_keeps _ _ wanted
-compute_keeps (Some authorities) (Some valid_after) None = tt
-compute_keeps (Some authorities) None wanted = tt
-compute_keeps None valid_after wanted = tt
+compute_keeps : (authorities valid_after : Option (List ℕ)) (wanted : Option Flavours) (newest : Option Newest)
+    → Keeps (compute_with authorities valid_after wanted newest)
+compute_keeps (Some authorities) (Some valid_after) (Some wanted) (Some newest) = computing_keeps _ _ wanted newest
+compute_keeps (Some authorities) (Some valid_after) (Some wanted) None = tt
+compute_keeps (Some authorities) (Some valid_after) None newest = tt
+compute_keeps (Some authorities) None wanted newest = tt
+compute_keeps None valid_after wanted newest = tt
+
+vote_keeps : (bandwidths : Measures) (newest : Option Newest) → Keeps (voting bandwidths newest)
+vote_keeps bandwidths (Some newest) = tt
+vote_keeps bandwidths None = tt
 
 report_keeps : (wanted : Option Report) → Keeps (option_map command.Report wanted)
 report_keeps None = tt
@@ -84,15 +92,20 @@ serve_keeps : (wanted : Option Serve) → Keeps (option_map command.Serve wanted
 serve_keeps None = tt
 serve_keeps (Some wanted) = tt
 
+serving_keeps : (values : List Row) (newest : Option Newest) → Keeps (serving values newest)
+serving_keeps values (Some newest) = serve_keeps (serve_in values (measures_in values) newest)
+serving_keeps values None = tt
+
 -- a line for each command
 pub named_keeps : (name : Text) (values : List Row) → Keeps (command_named name values)
 named_keeps name values =
-    either (bytes_eq name (codes "compute")) Keeps _ _ (compute_keeps _ _ (flavours_in values))
+    either (bytes_eq name (codes "compute")) Keeps _ _ (compute_keeps _ _ (flavours_in values) (newest_in values))
     (either (bytes_eq name (codes "check")) Keeps _ _ (check_keeps (subject_in values))
     (either (bytes_eq name (codes "show")) Keeps _ _ (show_keeps (subject_in values))
-    (either (bytes_eq name (codes "make-vote")) Keeps (Some (command.MakeVote (measures_in values))) _ tt
+    (either (bytes_eq name (codes "make-vote")) Keeps (make_vote_in values) _
+    (vote_keeps (measures_in values) (newest_in values))
     (either (bytes_eq name (codes "rehearse")) Keeps _ _ (rehearse_keeps (rehearse_in values)
     (of_texts (first_of (codes "seed") values) (first_of (codes "relays") values) (first_of (codes "authorities") values)))
     (either (bytes_eq name (codes "report")) Keeps _ _ (report_keeps (report_in values))
     (either (bytes_eq name (codes "serve")) Keeps (serve_with values) None
-    (serve_keeps (serve_in values (measures_in values))) tt))))))
+    (serving_keeps values (newest_in values)) tt))))))

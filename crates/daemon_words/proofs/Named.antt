@@ -10,6 +10,8 @@ use Rattle.clap.specs.declared.error.Error.{Error}
 use Rattle.clap.specs.declared.error.kind.ErrorKind.TheVariants as error_kind
 use Rattle.clap.specs.declared.parser.matches.SubCommand.{SubCommand}
 use Rattle.clap.specs.declared.parser.matches.ArgMatches.TheViews.{out-SubCommand}
+use Rattle.count_terms.specs.declared.newest.Newest.{Newest}
+use Rattle.daemon_words.specs.Methods.{newest_in, newest_of}
 use Rattle.daemon_words.specs.declared.command.Flavours.{Flavours}
 use Rattle.daemon_words.specs.Words.{command_named, command_read, compute_in, compute_of, compute_with, flavours_in, flavours_of}
 use Rattle.daemon_words.specs.Words.{measures_in, measures_of, subject_in, subject_named}
@@ -45,37 +47,43 @@ none_named kinds named none is = rw (none, is) refl
 pub option_is : (f : Found) (id : List ℕ) (value : Option (List ℕ)) → value ≡ first_value f id → first_of id (rows_of f) ≡ value
 option_is f id value is = sym (is ∙ first_value-rows f id)
 
-computes : (f : Found) (authorities valid_after : Option (List ℕ)) (wanted : Option Flavours)
+computes : (f : Found) (authorities valid_after : Option (List ℕ)) (wanted : Option Flavours) (newest : Option Newest)
     → first_of (codes "authorities") (rows_of f) ≡ authorities
     → first_of (codes "valid-after") (rows_of f) ≡ valid_after → flavours_in (rows_of f) ≡ wanted
-    → compute_in (rows_of f) ≡ compute_with authorities valid_after wanted
-computes f authorities valid_after wanted first second third =
-    ap (λ (a : Option (List ℕ)). compute_with a (first_of (codes "valid-after") (rows_of f)) (flavours_in (rows_of f))) first
-    ∙ ap (λ (v : Option (List ℕ)). compute_with authorities v (flavours_in (rows_of f))) second
-    ∙ ap (λ (w : Option Flavours). compute_with authorities valid_after w) third
+    → newest_in (rows_of f) ≡ newest
+    → compute_in (rows_of f) ≡ compute_with authorities valid_after wanted newest
+computes f authorities valid_after wanted newest first second third fourth =
+    let rows = rows_of f in
+    let moment = first_of (codes "valid-after") rows in
+    ap (λ (a : Option (List ℕ)). compute_with a moment (flavours_in rows) (newest_in rows)) first
+    ∙ ap (λ (v : Option (List ℕ)). compute_with authorities v (flavours_in rows) (newest_in rows)) second
+    ∙ ap (λ (w : Option Flavours). compute_with authorities valid_after w (newest_in rows)) third
+    ∙ ap (λ (n : Option Newest). compute_with authorities valid_after wanted n) fourth
 
--- `compute` with both options, and flavours
-pub compute_is : (f : Found) (authorities valid_after : List ℕ) (wanted : Flavours)
+-- `compute` with both options, flavours and a newest method
+pub compute_is : (f : Found) (authorities valid_after : List ℕ) (wanted : Flavours) (newest : Newest)
     → Some authorities ≡ first_value f (codes "authorities")
     → Some valid_after ≡ first_value f (codes "valid-after") → Some wanted ≡ flavours_in (rows_of f)
-    → compute_in (rows_of f) ≡ compute_of authorities valid_after wanted
-compute_is f authorities valid_after wanted first second third =
-    computes f (Some authorities) (Some valid_after) (Some wanted)
+    → Some newest ≡ newest_in (rows_of f)
+    → compute_in (rows_of f) ≡ compute_of authorities valid_after wanted newest
+compute_is f authorities valid_after wanted newest first second third fourth =
+    computes f (Some authorities) (Some valid_after) (Some wanted) (Some newest)
     (option_is f (codes "authorities") (Some authorities) first)
-    (option_is f (codes "valid-after") (Some valid_after) second) (sym third)
+    (option_is f (codes "valid-after") (Some valid_after) second) (sym third) (sym fourth)
 
 -- `compute` without its first option
 pub no_authorities : (f : Found) → None ≡ first_value f (codes "authorities") → compute_in (rows_of f) ≡ None
 no_authorities f first =
-    computes f None (first_of (codes "valid-after") (rows_of f)) (flavours_in (rows_of f))
-    (option_is f (codes "authorities") None first) refl refl
+    computes f None (first_of (codes "valid-after") (rows_of f)) (flavours_in (rows_of f)) (newest_in (rows_of f))
+    (option_is f (codes "authorities") None first) refl refl refl
 
 -- `compute` without its second option
 pub no_valid_after : (f : Found) (authorities : List ℕ) → Some authorities ≡ first_value f (codes "authorities")
     → None ≡ first_value f (codes "valid-after") → compute_in (rows_of f) ≡ None
 no_valid_after f authorities first second =
-    computes f (Some authorities) None (flavours_in (rows_of f))
-    (option_is f (codes "authorities") (Some authorities) first) (option_is f (codes "valid-after") None second) refl
+    computes f (Some authorities) None (flavours_in (rows_of f)) (newest_in (rows_of f))
+    (option_is f (codes "authorities") (Some authorities) first)
+    (option_is f (codes "valid-after") None second) refl refl
 
 -- `compute` where no flavours are named
 pub no_flavours : (f : Found) (authorities valid_after : List ℕ)
@@ -83,9 +91,24 @@ pub no_flavours : (f : Found) (authorities valid_after : List ℕ)
     → Some valid_after ≡ first_value f (codes "valid-after") → None ≡ flavours_in (rows_of f)
     → compute_in (rows_of f) ≡ None
 no_flavours f authorities valid_after first second third =
-    computes f (Some authorities) (Some valid_after) None
+    computes f (Some authorities) (Some valid_after) None (newest_in (rows_of f))
     (option_is f (codes "authorities") (Some authorities) first)
-    (option_is f (codes "valid-after") (Some valid_after) second) (sym third)
+    (option_is f (codes "valid-after") (Some valid_after) second) (sym third) refl
+
+-- `compute` where no newest method is named
+pub no_newest : (f : Found) (authorities valid_after : List ℕ) (wanted : Flavours)
+    → Some authorities ≡ first_value f (codes "authorities")
+    → Some valid_after ≡ first_value f (codes "valid-after") → Some wanted ≡ flavours_in (rows_of f)
+    → None ≡ newest_in (rows_of f) → compute_in (rows_of f) ≡ None
+no_newest f authorities valid_after wanted first second third fourth =
+    computes f (Some authorities) (Some valid_after) (Some wanted) None
+    (option_is f (codes "authorities") (Some authorities) first)
+    (option_is f (codes "valid-after") (Some valid_after) second) (sym third) (sym fourth)
+
+-- the newest method that the option names
+pub newest_are : (f : Found) (word : Option (List ℕ)) → word ≡ first_value f (codes "newest-method")
+    → newest_in (rows_of f) ≡ newest_of word
+newest_are f word stands = ap newest_of (option_is f (codes "newest-method") word stands)
 
 -- the flavours that the option names
 pub flavours_are : (f : Found) (word : Option (List ℕ)) → word ≡ first_value f (codes "flavour")

@@ -23,8 +23,8 @@ needed_word name = record (new_rule name) { required = true; action = Some Set }
 -- the command `compute` with its options, which stand in any order
 abbrev pub compute : App
 compute =
-    with_rule (with_rule (with_rule (new_app (codes "compute")) (needed_option (codes "authorities")))
-    (needed_option (codes "valid-after"))) (free_option (codes "flavour"))
+    with_rule (with_rule (with_rule (with_rule (new_app (codes "compute")) (needed_option (codes "authorities")))
+    (needed_option (codes "valid-after"))) (free_option (codes "flavour"))) (free_option (codes "newest-method"))
 
 -- the command `report` with its options, which stand in any order
 abbrev pub report : App
@@ -35,13 +35,17 @@ report =
 abbrev pub of_kind : List ℕ → App
 of_kind name = with_rule (new_app name) (needed_word (codes "kind"))
 
--- the command `make-vote` with its option
+-- the command `make-vote` with its options, which stand in any order
 abbrev pub make_vote : App
-make_vote = with_rule (new_app (codes "make-vote")) (flag (codes "bandwidth"))
+make_vote =
+    with_rule (with_rule (new_app (codes "make-vote")) (flag (codes "bandwidth"))) (free_option (codes "newest-method"))
 
 -- the command `serve` with its options, which stand in any order
 abbrev pub serve : App
-serve = with_rule (with_rule (new_app (codes "serve")) (needed_option (codes "listen"))) (flag (codes "bandwidth"))
+serve =
+    with_rule (with_rule (with_rule (new_app (codes "serve")) (needed_option (codes "listen")))
+    (flag (codes "bandwidth")))
+    (free_option (codes "newest-method"))
 
 -- the command `rehearse` with three words, in this order
 abbrev pub rehearse : App

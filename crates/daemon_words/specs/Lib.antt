@@ -1,5 +1,6 @@
 pub mod CommandLine
 pub mod Keys
+pub mod Methods
 pub mod Rehearsals
 pub mod Reports
 pub mod Serving

@@ -4,7 +4,9 @@ use Rattle.std.specs.Str.{bytes_eq}
 use Rattle.std.specs.Global.{Global}
 use Rattle.clap.specs.Words.{Kinds, Row, Text, first_of}
 use Rattle.dir_values.specs.declared.digest.Fingerprint.{Fingerprint}
+use Rattle.count_terms.specs.declared.newest.Newest.{Newest}
 use Rattle.daemon_words.specs.CommandLine.{faults, command_in}
+use Rattle.daemon_words.specs.Methods.{newest_in}
 use Rattle.daemon_words.specs.Rehearsals.{IsWithinBounds, rehearse_in}
 use Rattle.daemon_words.specs.Reports.{report_in}
 use Rattle.daemon_words.specs.Serving.{serve_in}
@@ -37,25 +39,27 @@ flavours_of (Some word) = flavours_named word
 abbrev pub flavours_in : List Row → Option Flavours
 flavours_in options = flavours_of (first_of (codes "flavour") options)
 
--- `compute` for a roster and a moment, where both were read, with these flavours
-abbrev pub computing : Option (List Fingerprint) → Option ℕ → Flavours → Option Command
-computing (Some members) (Some valid_after) wanted =
-    Some (command.Compute (record { roster = members; valid_after = valid_after; flavours = wanted }))
-computing _ _ wanted = None
+-- `compute` for a roster and a moment, where both were read, with these flavours and this newest method
+abbrev pub computing : Option (List Fingerprint) → Option ℕ → Flavours → Newest → Option Command
+computing (Some members) (Some valid_after) wanted newest =
+    Some (command.Compute (record { roster = members; valid_after = valid_after; flavours = wanted; newest = newest }))
+computing _ _ wanted newest = None
 
--- `compute` with the texts of two options, and these flavours
-abbrev pub compute_of : List ℕ → List ℕ → Flavours → Option Command
-compute_of authorities valid_after wanted = computing (roster authorities) (moment valid_after) wanted
+-- `compute` with the texts of two options, these flavours and this newest method
+abbrev pub compute_of : List ℕ → List ℕ → Flavours → Newest → Option Command
+compute_of authorities valid_after wanted newest = computing (roster authorities) (moment valid_after) wanted newest
 
--- the same, where both options stand there, and flavours are named
-abbrev pub compute_with : Option (List ℕ) → Option (List ℕ) → Option Flavours → Option Command
-compute_with (Some authorities) (Some valid_after) (Some wanted) = compute_of authorities valid_after wanted
-compute_with _ _ _ = None
+-- the same, where both options stand there, and flavours and a newest method are named
+abbrev pub compute_with : Option (List ℕ) → Option (List ℕ) → Option Flavours → Option Newest → Option Command
+compute_with (Some authorities) (Some valid_after) (Some wanted) (Some newest) =
+    compute_of authorities valid_after wanted newest
+compute_with _ _ _ _ = None
 
 -- `compute` with the values of its options
 abbrev pub compute_in : List Row → Option Command
 compute_in options =
     compute_with (first_of (codes "authorities") options) (first_of (codes "valid-after") options) (flavours_in options)
+    (newest_in options)
 
 -- the kind of document that a word names
 abbrev pub kind_named : List ℕ → Option Kind
@@ -90,9 +94,23 @@ measures_of (Some word) = measures_named word
 abbrev pub measures_in : List Row → Measures
 measures_in values = measures_of (first_of (codes "bandwidth") values)
 
+-- `make-vote` with these bandwidths, where a newest method is named
+abbrev pub voting : Measures → Option Newest → Option Command
+voting bandwidths (Some newest) = Some (command.MakeVote (record { bandwidths = bandwidths; newest = newest }))
+voting bandwidths None = None
+
+-- `make-vote` with the values of its options
+abbrev pub make_vote_in : List Row → Option Command
+make_vote_in options = voting (measures_in options) (newest_in options)
+
+-- `serve` with the values of its options, where a newest method is named
+abbrev pub serving : List Row → Option Newest → Option Command
+serving options (Some newest) = option_map command.Serve (serve_in options (measures_in options) newest)
+serving options None = None
+
 -- `serve` with the values of its options
 abbrev pub serve_with : List Row → Option Command
-serve_with options = option_map command.Serve (serve_in options (measures_in options))
+serve_with options = serving options (newest_in options)
 
 -- the command of a name, with the values of its options: a line for each command
 abbrev pub command_named : Text → List Row → Option Command
@@ -100,7 +118,7 @@ command_named name options =
     if bytes_eq name (codes "compute") then compute_in options
     else (if bytes_eq name (codes "check") then option_map command.Check (subject_in options)
     else (if bytes_eq name (codes "show") then option_map command.Show (subject_in options)
-    else (if bytes_eq name (codes "make-vote") then Some (command.MakeVote (measures_in options))
+    else (if bytes_eq name (codes "make-vote") then make_vote_in options
     else (if bytes_eq name (codes "rehearse") then option_map command.Rehearse (rehearse_in options)
     else (if bytes_eq name (codes "report") then option_map command.Report (report_in options)
     else (if bytes_eq name (codes "serve") then serve_with options

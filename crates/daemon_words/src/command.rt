@@ -1,14 +1,17 @@
 // The commands of the program.
-ghost use Rattle.std.specs.Prelude.{◌≡◌, IfOk, IfSome};
+ghost use Rattle.std.specs.Prelude.{◌≡◌, IfOk, IfSome, Some};
 ghost use Rattle.clap.specs.Words.{found_of, rows_of};
 ghost use Rattle.daemon_words.specs.Words as grammar;
 
 use crate::command_line::matches_of;
+use crate::making::MakeVote;
+use crate::newest::newest_in;
 use crate::rehearsal::{Rehearse, rehearse_in};
 use crate::report::{Report, report_in};
 use crate::serving::{Serve, serve_in};
 use crate::values::{read_moment, read_roster};
 use clap::ArgMatches;
+use count_terms::Newest;
 use dir_bytes::Memory;
 use dir_values::Roster;
 use std::alloc::Global;
@@ -22,6 +25,8 @@ pub struct Compute {
     pub valid_after: u64,
     /// Which texts of it are written.
     pub flavours: Flavours,
+    /// The newest consensus method that is known.
+    pub newest: Newest,
 }
 
 /// The flavours of a consensus that are written.
@@ -80,7 +85,7 @@ pub enum Command {
     /// Reads what is named, and writes its canonical text.
     Show(Subject),
     /// Reads what a station is given, and writes its signed vote.
-    MakeVote(Measures),
+    MakeVote(MakeVote),
     /// Makes votes from a number, and writes what is computed of them. It reads no input.
     Rehearse(Rehearse),
     /// Reads votes and a consensus, and writes which authority misses what.
@@ -116,7 +121,7 @@ fn command_named(
         "compute" => compute_with(alloc, options),
         "check" => Ok(subject_in(options).map(Command::Check)),
         "show" => Ok(subject_in(options).map(Command::Show)),
-        "make-vote" => Ok(Some(Command::MakeVote(measures_in(options)))),
+        "make-vote" => Ok(make_vote_in(options)),
         "rehearse" => Ok(rehearse_in(options).map(Command::Rehearse)),
         "report" => Ok(report_in(alloc, options)?.map(Command::Report)),
         "serve" => serve_with(alloc, options),
@@ -124,12 +129,43 @@ fn command_named(
     }
 }
 
+/// `make-vote` with its options.
+fn make_vote_in(options: &ArgMatches<'_>) -> Option<Command>
+    ensures { result ≡ grammar.make_vote_in (rows_of (found_of options.now)) }
+{
+    voting(measures_in(options), newest_in(options))
+}
+
+/// `make-vote` with these bandwidths, where a newest method is named.
+fn voting(bandwidths: Measures, newest: Option<Newest>) -> Option<Command>
+    ensures { result ≡ grammar.voting bandwidths newest }
+{
+    match newest {
+        Some(newest) => Some(Command::MakeVote(MakeVote { bandwidths, newest })),
+        None => None,
+    }
+}
+
 /// `serve` with its options.
 fn serve_with(alloc: Global, options: &ArgMatches<'_>) -> Result<Option<Command>, Memory>
     ensures { IfOk result (λ command. command ≡ grammar.serve_with (rows_of (found_of options.now))) }
 {
+    match newest_in(options) {
+        Some(newest) => serving(alloc, options, newest),
+        None => Ok(None),
+    }
+}
+
+/// `serve` with its options and this newest method.
+fn serving(
+    alloc: Global,
+    options: &ArgMatches<'_>,
+    newest: Newest,
+) -> Result<Option<Command>, Memory>
+    ensures { IfOk result (λ command. command ≡ grammar.serving (rows_of (found_of options.now)) (Some newest)) }
+{
     let bandwidths = measures_in(options);
-    Ok(serve_in(alloc, options, bandwidths)?.map(Command::Serve))
+    Ok(serve_in(alloc, options, bandwidths, newest)?.map(Command::Serve))
 }
 
 /// What stands among the values to be checked or shown.
@@ -221,22 +257,27 @@ fn compute_with(alloc: Global, options: &ArgMatches<'_>) -> Result<Option<Comman
     let Some(flavours) = flavours_in(options) else {
         return Ok(None);
     };
+    let Some(newest) = newest_in(options) else {
+        return Ok(None);
+    };
     compute_of(
         alloc,
         authorities.as_bytes(),
         valid_after.as_bytes(),
         flavours,
+        newest,
     )
 }
 
-/// `compute` with the texts of two options, and these flavours.
+/// `compute` with the texts of two options, these flavours and this newest method.
 fn compute_of(
     alloc: Global,
     authorities: &[u8],
     valid_after: &[u8],
     flavours: Flavours,
+    newest: Newest,
 ) -> Result<Option<Command>, Memory>
-    ensures { IfOk result (λ command. command ≡ grammar.compute_of authorities.now valid_after.now flavours) }
+    ensures { IfOk result (λ command. command ≡ grammar.compute_of authorities.now valid_after.now flavours newest) }
 {
     let (Some(roster), Some(valid_after)) = (
         read_roster(alloc, authorities)?,
@@ -248,5 +289,6 @@ fn compute_of(
         roster,
         valid_after,
         flavours,
+        newest,
     })))
 }

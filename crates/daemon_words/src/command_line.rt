@@ -58,7 +58,8 @@ fn compute<'a>(alloc: Global) -> Result<Command<'a>, AllocError>
     Command::new(alloc, "compute")
         .arg(needed_option(alloc, "authorities"))?
         .arg(needed_option(alloc, "valid-after"))?
-        .arg(free_option(alloc, "flavour"))
+        .arg(free_option(alloc, "flavour"))?
+        .arg(free_option(alloc, "newest-method"))
 }
 
 /// The command `report` with its options.
@@ -79,12 +80,14 @@ fn of_kind<'a>(alloc: Global, name: &'a str) -> Result<Command<'a>, AllocError>
     Command::new(alloc, name).arg(needed_word(alloc, "kind"))
 }
 
-/// The command `make-vote` with its option.
+/// The command `make-vote` with its options.
 fn make_vote<'a>(alloc: Global) -> Result<Command<'a>, AllocError>
     ensures app { IfOk result (λ command. app_of command ≡ command_line.make_vote) }
     ensures local { IfOk result (λ command. (out-Command command).has_globals ≡ false) }
 {
-    Command::new(alloc, "make-vote").arg(flag(alloc, "bandwidth"))
+    Command::new(alloc, "make-vote")
+        .arg(flag(alloc, "bandwidth"))?
+        .arg(free_option(alloc, "newest-method"))
 }
 
 /// The command `serve` with its options.
@@ -94,7 +97,8 @@ fn serve<'a>(alloc: Global) -> Result<Command<'a>, AllocError>
 {
     Command::new(alloc, "serve")
         .arg(needed_option(alloc, "listen"))?
-        .arg(flag(alloc, "bandwidth"))
+        .arg(flag(alloc, "bandwidth"))?
+        .arg(free_option(alloc, "newest-method"))
 }
 
 /// The command `rehearse` with its three words.

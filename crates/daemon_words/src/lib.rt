@@ -4,6 +4,8 @@
 mod command;
 mod command_line;
 mod keys;
+mod making;
+mod newest;
 mod rehearsal;
 mod report;
 mod serving;
@@ -13,6 +15,7 @@ mod values;
 pub use command::{Command, Compute, Flavours, Kind, Measures, Subject, command_of};
 pub use command_line::needed_option;
 pub use keys::{Keys, keys_of};
+pub use making::MakeVote;
 pub use rehearsal::Rehearse;
 pub use report::Report;
 pub use serving::{Serve, is_address};

@@ -5,6 +5,7 @@ ghost use Rattle.daemon_words.specs.Serving as words;
 
 use crate::command::Measures;
 use clap::ArgMatches;
+use count_terms::Newest;
 use dir_bytes::{Memory, Text};
 use std::alloc::Global;
 
@@ -15,25 +16,33 @@ pub struct Serve {
     pub address: Text,
     /// Where the measured bandwidths of relays come from.
     pub bandwidths: Measures,
+    /// The newest consensus method that it knows.
+    pub newest: Newest,
 }
 
-/// The serving that stands among the values, with these bandwidths.
+/// The serving that stands among the values, with these bandwidths and this newest method.
 pub fn serve_in(
     alloc: Global,
     values: &ArgMatches<'_>,
     bandwidths: Measures,
+    newest: Newest,
 ) -> Result<Option<Serve>, Memory>
-    ensures { IfOk result (λ serve. serve ≡ words.serve_in (rows_of (found_of values.now)) bandwidths) }
+    ensures { IfOk result (λ serve. serve ≡ words.serve_in (rows_of (found_of values.now)) bandwidths newest) }
 {
     match values.get_str("listen") {
-        Some(address) => serve_of(alloc, address.as_bytes(), bandwidths),
+        Some(address) => serve_of(alloc, address.as_bytes(), bandwidths, newest),
         None => Ok(None),
     }
 }
 
-/// The serving at the address that a text is, if it is one, with these bandwidths.
-fn serve_of(alloc: Global, address: &[u8], bandwidths: Measures) -> Result<Option<Serve>, Memory>
-    ensures { IfOk result (λ serve. serve ≡ words.serve_of address.now bandwidths) }
+/// The serving at the address that a text is, if it is one, with these bandwidths and this newest method.
+fn serve_of(
+    alloc: Global,
+    address: &[u8],
+    bandwidths: Measures,
+    newest: Newest,
+) -> Result<Option<Serve>, Memory>
+    ensures { IfOk result (λ serve. serve ≡ words.serve_of address.now bandwidths newest) }
 {
     if !is_address(address) {
         return Ok(None);
@@ -42,6 +51,7 @@ fn serve_of(alloc: Global, address: &[u8], bandwidths: Measures) -> Result<Optio
     Ok(Some(Serve {
         address,
         bandwidths,
+        newest,
     }))
 }
 
