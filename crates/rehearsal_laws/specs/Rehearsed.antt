@@ -5,6 +5,7 @@ use Rattle.vote_terms.specs.Held.{held}
 use Rattle.vote_terms.specs.Votes.{ReadVote}
 use Rattle.vote_terms.specs.declared.facts.VoteFacts.{VoteFacts}
 use Rattle.vote_doc.specs.Reading.{vote_of}
+use Rattle.count_terms.specs.declared.newest.Newest.TheVariants.{Method33}
 use Rattle.compute_terms.specs.Consensuses.{consensus}
 use Rattle.vote_rehearsal.specs.Authorities.{voters}
 use Rattle.vote_rehearsal.specs.Casting.{held_votes}
@@ -61,7 +62,7 @@ RehearsedVotesAreHeld = (seed relays authorities : ℕ) → IsRehearsal seed rel
 
 -- there is a consensus of these votes, and it is what is told of
 abbrev pub HaveConsensus : ℕ → List ReadVote → Type 0
-HaveConsensus roster votes = found_of roster votes ≡ found_in (consensus roster votes)
+HaveConsensus roster votes = found_of roster votes ≡ found_in (consensus Method33 roster votes)
 
 -- In a rehearsal that is asked for there is a consensus of the votes that are held.
 abbrev pub RehearsalsHaveAConsensus : Type 0

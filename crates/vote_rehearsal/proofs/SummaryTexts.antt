@@ -1,6 +1,7 @@
 -- The text of a summary, and what is told of a consensus, one step after the other.
 use Rattle.std.proofs.Common.{◌≡◌, ℕ, List, [], ◌++◌, length, true, false, ap, ap₂, ◌∙◌, append_assoc}
 use Rattle.count_terms.specs.Counts.{over}
+use Rattle.count_terms.specs.declared.newest.Newest.TheVariants.{Method33}
 use Rattle.vote_terms.specs.Votes.{ReadVote}
 use Rattle.consensus_terms.specs.declared.consensus.Consensus.{Consensus}
 use Rattle.compute_terms.specs.Consensuses.{consensus}
@@ -18,7 +19,7 @@ joined o a b p q first second = second ∙ ap (λ (l : List ℕ). l ++ b) first 
 
 -- where there is a consensus
 pub found_there : (roster : ℕ) (votes : List ReadVote) (c : Consensus) (found : Found) → over (length votes) roster ≡ true
-    → c ≡ consensus roster votes → found ≡ found_in c → found ≡ found_of roster votes
+    → c ≡ consensus Method33 roster votes → found ≡ found_in c → found ≡ found_of roster votes
 unfolding found_of
 found_there roster votes c found enough its is = rw enough (is ∙ ap found_in its)
 

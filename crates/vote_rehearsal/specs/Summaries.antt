@@ -4,6 +4,7 @@ use Rattle.std.specs.Prelude.{ℕ, List, [], ◌∷◌, ◌++◌, length, count_
 use Rattle.dir_bytes.specs.FieldTexts.{hex_text}
 use Rattle.item_terms.specs.Bytes.{line_feed, space}
 use Rattle.count_terms.specs.Counts.{over}
+use Rattle.count_terms.specs.declared.newest.Newest.TheVariants.{Method33}
 use Rattle.vote_terms.specs.Votes.{ReadVote}
 use Rattle.consensus_terms.specs.Routers.{is_listed}
 use Rattle.consensus_terms.specs.Signed.{digests_of}
@@ -30,9 +31,9 @@ abbrev pub nothing_found : Found
 nothing_found = record { ns = 0; microdesc = 0; sha1 = (digests_of []).sha1; sha256 = (digests_of []).sha256 }
 
 -- what is told of the consensus of held votes, where the roster has so many authorities: there is one where the votes are
--- of more than half of the roster
+-- of more than half of the roster. Method 33 is the newest that a rehearsal knows.
 unfoldable pub found_of : ℕ → List ReadVote → Found
-found_of roster votes = if over (length votes) roster then found_in (consensus roster votes) else nothing_found
+found_of roster votes = if over (length votes) roster then found_in (consensus Method33 roster votes) else nothing_found
 
 -- a line with a number
 unfoldable pub count_line : List ℕ → ℕ → List ℕ

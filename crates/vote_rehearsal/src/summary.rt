@@ -12,6 +12,7 @@ use crate::listing::ascending_relays;
 use consensus_calc::{CalcFault, compute};
 use consensus_terms::{Consensus, Digests, Flavour, Routerline};
 use consensus_text::{digests, unsigned};
+use count_terms::Newest;
 use dir_bytes::{Memory, push_decimal, push_hex_upper};
 use dir_values::{Digest1, Digest2};
 use std::alloc::Global;
@@ -86,12 +87,13 @@ fn nothing_found() -> Found
     }
 }
 
-/// What is told of the consensus of held votes, where the roster has so many authorities.
+/// What is told of the consensus of held votes, where the roster has so many authorities. Method 33 is the newest that a
+/// rehearsal knows.
 #[tactic(auto, unfolding(crate::specs::Summaries::found_of))]
 fn found_of(alloc: Global, roster: u32, votes: &Accepted) -> Result<Found, Memory>
     ensures { IfOk result (λ found. found ≡ summaries.found_of roster votes.now.votes) }
 {
-    match compute(alloc, roster, votes) {
+    match compute(alloc, Newest::Method33, roster, votes) {
         Ok(consensus) => found_in(alloc, &consensus),
         Err(CalcFault::TooFew { .. }) => Ok(nothing_found()),
         Err(CalcFault::Memory) => Err(Memory),
