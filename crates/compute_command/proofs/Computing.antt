@@ -19,7 +19,8 @@ pub computes : (rules : Rules) (wanted : Compute) (bytes text : List ℕ) (votes
     (c : Consensus) → votes_of bytes ≡ Ok votes
     → All (λ vote. IsAcceptable rules wanted.roster wanted.valid_after vote) votes → now ≡ held votes
     → roster ≡ length wanted.roster
-    → over (length now) roster ≡ true → c ≡ consensus roster now → text ≡ texts_of wanted.flavours c → Computes rules wanted bytes text
+    → over (length now) roster ≡ true → c ≡ consensus wanted.newest roster now → text ≡ texts_of wanted.flavours c
+    → Computes rules wanted bytes text
 computes rules wanted bytes text votes now roster c read acceptable held_is roster_is enough c_is text_is = record {
   votes = votes;
   read = read;
@@ -29,8 +30,8 @@ computes rules wanted bytes text votes now roster c read acceptable held_is rost
       ∙ ap (λ (r : ℕ). over (length now) r) (sym roster_is) ∙ enough;
   written =
       text_is ∙ ap (λ (x : Consensus). texts_of wanted.flavours x)
-      (c_is ∙ ap (λ (r : ℕ). consensus r now) roster_is
-      ∙ ap (λ (h : List ReadVote). consensus (length wanted.roster) h) held_is);
+      (c_is ∙ ap (λ (r : ℕ). consensus wanted.newest r now) roster_is
+      ∙ ap (λ (h : List ReadVote). consensus wanted.newest (length wanted.roster) h) held_is);
 }
 
 -- what was written, or that they are too few, answers the votes that were read
@@ -39,8 +40,9 @@ module _ (rules : Rules) (wanted : Compute) (bytes : List ℕ) (votes now : List
   where
     pub text_answers : (text : Vec ℕ) → WritesText wanted now (Ok text) → ComputeAnswers rules wanted bytes (Ok text.items)
     text_answers text is =
-        computes rules wanted bytes text.items votes now (length wanted.roster) (consensus (length wanted.roster) now) read
-        acceptable held_is refl is.0 refl is.1
+        computes rules wanted bytes text.items votes now (length wanted.roster)
+        (consensus wanted.newest (length wanted.roster) now)
+        read acceptable held_is refl is.0 refl is.1
 
     pub too_few : (count roster : ℕ) → WritesText wanted now (Err (calc.TooFew count roster))
         → HasTooFew rules wanted bytes count roster

@@ -26,13 +26,13 @@ texts_of flavours.Microdesc c = unsigned Microdesc c
 texts_of flavours.Both c = unsigned Ns c ++ unsigned Microdesc c
 
 -- The input is votes, each acceptable, and those that are held are of more than half of the roster. The text is that of
--- their consensus, in the flavours that are wanted.
+-- their consensus, in the flavours that are wanted, where the newest method that is known is the wanted one.
 pub record Computes (rules : Rules) (wanted : Compute) (bytes text : List ℕ) : Type 0 where
   pub votes : List ReadVote
   pub read : votes_of bytes ≡ Ok votes
   pub acceptable : All (λ vote. IsAcceptable rules wanted.roster wanted.valid_after vote) votes
   pub enough : over (length (held votes)) (length wanted.roster) ≡ true
-  pub written : text ≡ texts_of wanted.flavours (consensus (length wanted.roster) (held votes))
+  pub written : text ≡ texts_of wanted.flavours (consensus wanted.newest (length wanted.roster) (held votes))
 
 -- The input is votes, and the one with this number, from 1, is the first that is not acceptable, by this word.
 pub record RefusesVote (rules : Rules) (wanted : Compute) (bytes : List ℕ) (number : ℕ) (word : VoteWord) : Type 0 where

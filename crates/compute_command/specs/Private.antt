@@ -13,7 +13,7 @@ use Rattle.consensus_calc.specs.declared.record.CalcFault.TheVariants as calc
 abbrev pub WritesText : Compute → List ReadVote → Result (Vec ℕ) CalcFault → Type 0
 WritesText wanted held (Ok text) =
     (over (length held) (length wanted.roster) ≡ true)
-    × (text.items ≡ texts_of wanted.flavours (consensus (length wanted.roster) held))
+    × (text.items ≡ texts_of wanted.flavours (consensus wanted.newest (length wanted.roster) held))
 WritesText wanted held (Err (calc.TooFew count of_roster)) =
     (over (length held) (length wanted.roster) ≡ false) × (count ≡ length held) × (of_roster ≡ length wanted.roster)
 WritesText wanted held (Err calc.Memory) = Unit {0}

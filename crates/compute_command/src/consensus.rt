@@ -24,7 +24,7 @@ pub(crate) fn text_of(
     ensures { WritesText wanted.now accepted.now.votes result }
 {
     let roster = wanted.roster.len() as u32;
-    let consensus = compute(alloc, roster, accepted)?;
+    let consensus = compute(alloc, wanted.newest, roster, accepted)?;
     let text = texts_of(alloc, &consensus, wanted.flavours)?;
     Ok(text)
 }

@@ -13,6 +13,7 @@ use crate::told::{of_accept, of_fault, of_input};
 use bytes::Bytes;
 use compute_command::accept;
 use consensus_terms::SignedConsensus;
+use count_terms::Newest;
 use daemon_words::{Compute, Flavours, Report, Stop};
 use frame_values::between;
 use health_report::ReportFault;
@@ -69,6 +70,7 @@ fn answer<V: Verifier>(
         roster: wanted.roster.copy(alloc)?,
         valid_after: wanted.valid_after,
         flavours: Flavours::Ns,
+        newest: Newest::Method33,
     };
     match accept(alloc, &asked, votes, verifier) {
         Ok(accepted) => of_held(alloc, wanted, &accepted, consensus, bytes, verifier),
