@@ -23,7 +23,7 @@ use Rattle.period_core.specs.Rounds.{make_of}
 use Rattle.period_core.specs.Signing.{Advances, Comes}
 
 pub made_comes : (s next : State) (c made : Consensus) → (over (length s.votes) (length s.roster) ≡ true)
-    × (c ≡ consensus (length s.roster) s.votes) → made ≡ c
+    × (c ≡ consensus s.newest (length s.roster) s.votes) → made ≡ c
     → next ≡ (advances.compute s made).after → Comes (make_of s) answer.Computed next
 unfolding consensus_of
 made_comes s next c made p q n = rw p.0 (refl, n ∙ ap (λ x. (advances.compute s x).after) (q ∙ p.1))

@@ -1,5 +1,6 @@
 -- The state that an authority's parts make.
 use Rattle.std.specs.Prelude.{ℕ, List, Option}
+use Rattle.count_terms.specs.declared.newest.Newest.{Newest}
 use Rattle.dir_values.specs.declared.digest.Fingerprint.{Fingerprint}
 use Rattle.consensus_terms.specs.declared.consensus.Consensus.{Consensus}
 use Rattle.consensus_terms.specs.declared.signature.SignatureLine.{SignatureLine}
@@ -10,13 +11,14 @@ use Rattle.period_terms.specs.declared.stage.Stage.{Stage}
 use Rattle.period_terms.specs.declared.state.State.{State}
 
 -- the state of these parts
-abbrev pub state_of : List Fingerprint → Fingerprint → Schedule → ℕ → Stage → List ReadVote → ℕ → Option Consensus
-    → List SignatureLine → List SignatureLine
+abbrev pub state_of : List Fingerprint → Fingerprint → Newest → Schedule → ℕ → Stage → List ReadVote → ℕ
+    → Option Consensus → List SignatureLine → List SignatureLine
     → Option (List ℕ) → Option (List ℕ) → ℕ → ℕ → List Change → State
-state_of roster own schedule valid_after stage votes vote_changes computed ns_lines micro_lines ns_current
+state_of roster own newest schedule valid_after stage votes vote_changes computed ns_lines micro_lines ns_current
     micro_current front base changes = record {
       roster = roster;
       own = own;
+      newest = newest;
       schedule = schedule;
       valid_after = valid_after;
       stage = stage;

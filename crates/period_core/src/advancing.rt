@@ -84,10 +84,10 @@ impl<V: Verifier> Station<V> {
 
     /// The consensus of the held votes.
     fn calculate(&self, alloc: Global) -> Result<Consensus, CalcFault>
-        ensures calculates { Calculates (length self.now.roster) self.now.votes result }
+        ensures calculates { Calculates self.now.newest (length self.now.roster) self.now.votes result }
         ensures moments { IfOk result (λ c. HasMoments c.facts) }
     {
-        compute(alloc, self.members(), &self.held)
+        compute(alloc, self.newest, self.members(), &self.held)
     }
 
     /// Computes the consensus, if the votes are of more than half of the roster.

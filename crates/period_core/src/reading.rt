@@ -9,6 +9,7 @@ ghost use Rattle.vote_terms.specs.Votes.{rank_of};
 use crate::made::Made;
 use crate::station::Station;
 use consensus_terms::{Flavour, SignatureLine};
+use count_terms::Newest;
 use dir_values::{Fingerprint, Roster};
 use key_port::Verifier;
 use period_terms::{Change, Stage, Via};
@@ -59,6 +60,13 @@ impl<V: Verifier> Station<V> {
         ensures { result ≡ self.now.own }
     {
         self.own
+    }
+
+    /// The newest consensus method that it knows.
+    pub fn newest(&self) -> Newest
+        ensures { result ≡ self.now.newest }
+    {
+        self.newest
     }
 
     /// The held votes.

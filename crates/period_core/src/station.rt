@@ -6,6 +6,7 @@ use crate::log::Log;
 use crate::made::Made;
 use crate::next::next_period;
 use consensus_terms::SignatureLine;
+use count_terms::Newest;
 use dir_bytes::{Memory, Text};
 use dir_values::{Fingerprint, Roster};
 use key_port::Verifier;
@@ -20,6 +21,7 @@ use vote_schedule::Config;
 pub struct Station<V: Verifier> {
     pub(crate) roster: Roster,
     pub(crate) own: Fingerprint,
+    pub(crate) newest: Newest,
     pub(crate) config: Config,
     pub(crate) valid_after: u64,
     pub(crate) stage: Stage,
@@ -42,10 +44,10 @@ impl<V: Verifier> Model for Station<V> {
 
     ghost Value = { State };
 
-    ghost view = { λ s. state_of s.roster s.own s.config s.valid_after s.stage s.held.votes s.vote_changes s.made s.ns_lines.items s.micro_lines.items s.ns_current s.micro_current s.log.front s.log.base s.log.changes.items };
+    ghost view = { λ s. state_of s.roster s.own s.newest s.config s.valid_after s.stage s.held.votes s.vote_changes s.made s.ns_lines.items s.micro_lines.items s.ns_current s.micro_current s.log.front s.log.base s.log.changes.items };
 
     ghost invariant = { λ s.
-        IsStanding (state_of s.roster s.own s.config s.valid_after s.stage s.held.votes s.vote_changes s.made s.ns_lines.items s.micro_lines.items s.ns_current s.micro_current s.log.front s.log.base s.log.changes.items)
+        IsStanding (state_of s.roster s.own s.newest s.config s.valid_after s.stage s.held.votes s.vote_changes s.made s.ns_lines.items s.micro_lines.items s.ns_current s.micro_current s.log.front s.log.base s.log.changes.items)
         × (most_votes ≤ s.held.room) × (most_votes ≤ vec_capacity s.ns_lines) × (most_votes ≤ vec_capacity s.micro_lines)
         × (most_changes ≤ vec_capacity s.log.changes) };
 }
@@ -86,8 +88,8 @@ const MOST_VOTES: usize = 33;
 const MOST_CHANGES: usize = 65_603;
 
 impl<V: Verifier> Station<V> {
-    /// An authority of the roster that begins at a moment. It takes the memory that its votes, its signatures and its changes
-    /// will ever need.
+    /// An authority of the roster that knows this newest method and begins at a moment. It takes the memory that its votes, its
+    /// signatures and its changes will ever need.
     ///
     /// # Errors
     /// The first that applies: `OwnNotInRoster` where the roster lacks it, `EndOfTime` where there is no next period; `Memory` is
@@ -96,10 +98,11 @@ impl<V: Verifier> Station<V> {
         alloc: Global,
         roster: Roster,
         own: Fingerprint,
+        newest: Newest,
         config: Config,
         now: u64,
     ) -> Result<Station<V>, StartFault>
-        ensures { Starts roster own config now result }
+        ensures { Starts roster own newest config now result }
     {
         if !roster.contains(&own) {
             return Err(StartFault::OwnNotInRoster);
@@ -114,6 +117,7 @@ impl<V: Verifier> Station<V> {
         Ok(Station {
             roster,
             own,
+            newest,
             config,
             valid_after,
             stage: Stage::Voting,

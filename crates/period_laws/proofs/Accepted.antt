@@ -3,6 +3,7 @@ use Rattle.std.proofs.Common.{◌≡◌, ℕ, Bool, true, false, cond, List, [],
 use Rattle.std.proofs.Common.{sym, ap, ◌∙◌, subst, ⊎_elim, append-nil}
 use Rattle.std.specs.Prelude.{Contains}
 use Rattle.std.proofs.lemmas.Bool.{false≢true}
+use Rattle.count_terms.specs.declared.newest.Newest.{Newest}
 use Rattle.dir_values.specs.declared.digest.Fingerprint.{Fingerprint}
 use Rattle.dir_values.specs.Rosters.{has_member}
 use Rattle.vote_terms.specs.Votes.{ReadVote}
@@ -46,17 +47,19 @@ is_set Computed = true
 is_set Signed = true
 is_set Ended = true
 
--- what is held and computed is that of these votes
-record Stands (roster : List Fingerprint) (acc : List ReadVote) (members : List Fingerprint) (votes : List ReadVote)
-    (valid_after : ℕ) (stage : Stage) (computed : Option Consensus) : Type 0 where
+-- what is held and computed is that of these votes, for this newest method and this roster
+record Stands (newest : Newest) (roster : List Fingerprint) (acc : List ReadVote) (known : Newest)
+    (members : List Fingerprint)
+    (votes : List ReadVote) (valid_after : ℕ) (stage : Stage) (computed : Option Consensus) : Type 0 where
+  newest_is : known ≡ newest
   roster_is : members ≡ roster
   votes_is : votes ≡ held acc
   wanted : (v : ReadVote) → In v acc → (v.says.valid_after ≡ valid_after) × (has_member roster v.says.identity ≡ true)
   unset : is_set stage ≡ false → computed ≡ None
-  texts : (c : Consensus) → computed ≡ Some c → c ≡ consensus (length roster) (held acc)
+  texts : (c : Consensus) → computed ≡ Some c → c ≡ consensus newest (length roster) (held acc)
 
-abbrev StandsAt : List Fingerprint → List ReadVote → State → Type 0
-StandsAt roster acc s = Stands roster acc s.roster s.votes s.valid_after s.stage s.computed
+abbrev StandsAt : Newest → List Fingerprint → List ReadVote → State → Type 0
+StandsAt newest roster acc s = Stands newest roster acc s.newest s.roster s.votes s.valid_after s.stage s.computed
 
 -- ---- votes
 
@@ -84,28 +87,31 @@ in_roster : (s : State) (roster : List Fingerprint) (a : Fingerprint) → s.rost
     true → has_member roster a ≡ true
 in_roster s roster a e m = subst (λ (l : List Fingerprint). has_member l a ≡ true) e m
 
-had_stands : (roster : List Fingerprint) (acc : List ReadVote) (s : State) (v h : ReadVote) → v.says.valid_after ≡
-    s.valid_after → has_member s.roster v.says.identity ≡ true
-    → vote_of s.votes v.says.identity ≡ Some h → outranks v h ≡ false → StandsAt roster acc s
-    → StandsAt roster (acc ++ v ∷ []) s
-had_stands roster acc s v h p m f o k =
+had_stands : (newest : Newest) (roster : List Fingerprint) (acc : List ReadVote) (s : State) (v h : ReadVote)
+    → v.says.valid_after ≡ s.valid_after → has_member s.roster v.says.identity ≡ true
+    → vote_of s.votes v.says.identity ≡ Some h → outranks v h ≡ false → StandsAt newest roster acc s
+    → StandsAt newest roster (acc ++ v ∷ []) s
+had_stands newest roster acc s v h p m f o k =
     let at_held : vote_of (held acc) v.says.identity ≡ Some h =
     subst (λ (l : List ReadVote). vote_of l v.says.identity ≡ Some h) k.votes_is f in
     let same : held acc ≡ held (acc ++ v ∷ []) = sym (held_push acc v ∙ placed_stays (held acc) v h (held_ascends acc)
     at_held o) in
     record {
+      newest_is = k.newest_is;
       roster_is = k.roster_is;
       votes_is = k.votes_is ∙ same;
       wanted = wanted_more roster acc s.valid_after v p (in_roster s roster v.says.identity k.roster_is m) k.wanted;
       unset = k.unset;
-      texts = λ c e. k.texts c e ∙ ap (λ (l : List ReadVote). consensus (length roster) l) same;
+      texts = λ c e. k.texts c e ∙ ap (λ (l : List ReadVote). consensus newest (length roster) l) same;
     }
 
-kept_stands : (roster : List Fingerprint) (acc : List ReadVote) (s : State) (v : ReadVote) → v.says.valid_after ≡
-    s.valid_after → has_member s.roster v.says.identity ≡ true
-    → is_voting s.stage ≡ true → StandsAt roster acc s → Stands roster (acc ++ v ∷ []) s.roster (placed s.votes v)
+kept_stands : (newest : Newest) (roster : List Fingerprint) (acc : List ReadVote) (s : State) (v : ReadVote)
+    → v.says.valid_after ≡ s.valid_after → has_member s.roster v.says.identity ≡ true
+    → is_voting s.stage ≡ true → StandsAt newest roster acc s
+    → Stands newest roster (acc ++ v ∷ []) s.newest s.roster (placed s.votes v)
     s.valid_after s.stage s.computed
-kept_stands roster acc s v p m voting k = record {
+kept_stands newest roster acc s v p m voting k = record {
+  newest_is = k.newest_is;
   roster_is = k.roster_is;
   votes_is = ap (λ (l : List ReadVote). placed l v) k.votes_is ∙ sym (held_push acc v);
   wanted = wanted_more roster acc s.valid_after v p (in_roster s roster v.says.identity k.roster_is m) k.wanted;
@@ -117,20 +123,22 @@ kept_stands roster acc s v p m voting k = record {
 abbrev with_answer : List ReadVote → ReadVote → Bool → List ReadVote
 with_answer acc v passed = acc ++ cond passed (v ∷ []) []
 
-vote_stands : (roster : List Fingerprint) (acc : List ReadVote) (s : State) (v : ReadVote) (o : Outcome Offer)
-    → Offering s v o → StandsAt roster acc s → StandsAt roster (with_answer acc v (accepts o.answer)) o.after
-vote_stands roster acc s v o row k =
-    let P : Outcome Offer → Type 0 = λ x. StandsAt roster (with_answer acc v (accepts x.answer)) x.after in
+vote_stands : (newest : Newest) (roster : List Fingerprint) (acc : List ReadVote) (s : State) (v : ReadVote)
+    (o : Outcome Offer)
+    → Offering s v o → StandsAt newest roster acc s
+    → StandsAt newest roster (with_answer acc v (accepts o.answer)) o.after
+vote_stands newest roster acc s v o row k =
+    let P : Outcome Offer → Type 0 = λ x. StandsAt newest roster (with_answer acc v (accepts x.answer)) x.after in
     elim row [
       | refused answer e q a ↦ subst P (sym e)
-          (subst (λ (b : Bool). StandsAt roster (with_answer acc v b) s) (sym a)
-          (subst (λ (l : List ReadVote). StandsAt roster l s) (sym (append-nil acc)) k))
+          (subst (λ (b : Bool). StandsAt newest roster (with_answer acc v b) s) (sym a)
+          (subst (λ (l : List ReadVote). StandsAt newest roster l s) (sym (append-nil acc)) k))
       | had answer h p m f n e q a ↦ subst P (sym e)
-          (subst (λ (b : Bool). StandsAt roster (with_answer acc v b) s) (sym a) (had_stands roster acc s v h p m f n
-          k))
+          (subst (λ (b : Bool). StandsAt newest roster (with_answer acc v b) s) (sym a)
+          (had_stands newest roster acc s v h p m f n k))
       | kept answer p m voting few beats e q a ↦ subst P (sym e)
-          (subst (λ (b : Bool). StandsAt roster (with_answer acc v b) (with_vote v s)) (sym a)
-          (kept_stands roster acc s v p m voting k))
+          (subst (λ (b : Bool). StandsAt newest roster (with_answer acc v b) (with_vote v s)) (sym a)
+          (kept_stands newest roster acc s v p m voting k))
     ]
 
 -- ---- moments
@@ -151,10 +159,12 @@ quiet acc moments.VerifierFault e = refl
 quiet acc (moments.OwnSignatureRefused digest) e = refl
 
 -- the station goes on to another stage, with what is computed as it was
-goes_on : (roster : List Fingerprint) (acc : List ReadVote) (s : State) (stage next : Stage) → s.stage ≡ stage
+goes_on : (newest : Newest) (roster : List Fingerprint) (acc : List ReadVote) (s : State) (stage next : Stage)
+    → s.stage ≡ stage
     → (is_set next ≡ false → is_set stage ≡ false)
-    → StandsAt roster acc s → Stands roster acc s.roster s.votes s.valid_after next s.computed
-goes_on roster acc s stage next at unset k = record {
+    → StandsAt newest roster acc s → Stands newest roster acc s.newest s.roster s.votes s.valid_after next s.computed
+goes_on newest roster acc s stage next at unset k = record {
+  newest_is = k.newest_is;
   roster_is = k.roster_is;
   votes_is = k.votes_is;
   wanted = k.wanted;
@@ -162,28 +172,33 @@ goes_on roster acc s stage next at unset k = record {
   texts = k.texts;
 }
 
-consensus_is : (s : State) → consensus_of s ≡ consensus (length s.roster) s.votes
+consensus_is : (s : State) → consensus_of s ≡ consensus s.newest (length s.roster) s.votes
 unfolding consensus_of
 consensus_is s = refl
 
 same_some : (c d : Consensus) → Some c ≡ Some d → c ≡ d
 same_some c d e = cc
 
-computes_it : (roster : List Fingerprint) (acc : List ReadVote) (s : State) → StandsAt roster acc s
-    → Stands roster acc s.roster s.votes s.valid_after Computed (Some (consensus_of s))
-computes_it roster acc s k = record {
+computes_it : (newest : Newest) (roster : List Fingerprint) (acc : List ReadVote) (s : State)
+    → StandsAt newest roster acc s
+    → Stands newest roster acc s.newest s.roster s.votes s.valid_after Computed (Some (consensus_of s))
+computes_it newest roster acc s k = record {
+  newest_is = k.newest_is;
   roster_is = k.roster_is;
   votes_is = k.votes_is;
   wanted = k.wanted;
   unset = λ e. absurd (false≢true (sym e));
   texts = λ c e. sym (same_some (consensus_of s) c e) ∙ consensus_is s
-      ∙ ap (λ (l : List Fingerprint). consensus (length l) s.votes) k.roster_is
-      ∙ ap (λ (l : List ReadVote). consensus (length roster) l) k.votes_is;
+      ∙ ap (λ (n : Newest). consensus n (length s.roster) s.votes) k.newest_is
+      ∙ ap (λ (l : List Fingerprint). consensus newest (length l) s.votes) k.roster_is
+      ∙ ap (λ (l : List ReadVote). consensus newest (length roster) l) k.votes_is;
 }
 
-begins_it : (roster : List Fingerprint) (acc : List ReadVote) (s : State) (next : ℕ) → StandsAt roster acc s
-    → Stands roster [] s.roster [] next Voting None
-begins_it roster acc s next k = record {
+begins_it : (newest : Newest) (roster : List Fingerprint) (acc : List ReadVote) (s : State) (next : ℕ)
+    → StandsAt newest roster acc s
+    → Stands newest roster [] s.newest s.roster [] next Voting None
+begins_it newest roster acc s next k = record {
+  newest_is = k.newest_is;
   roster_is = k.roster_is;
   votes_is = refl;
   wanted = λ v i. absurd i;
@@ -191,64 +206,72 @@ begins_it roster acc s next k = record {
   texts = λ c e. absurd (none_is c None refl e);
 }
 
-moment_stands : (roster : List Fingerprint) (acc : List ReadVote) (s : State) (given : Signing) (o : Outcome Advance)
+moment_stands : (newest : Newest) (roster : List Fingerprint) (acc : List ReadVote) (s : State) (given : Signing)
+    (o : Outcome Advance)
     → Advancing s given o
-    → StandsAt roster acc s → StandsAt roster (still_accepted o.answer acc) o.after
-moment_stands roster acc s given o row k =
-    let P : Outcome Advance → Type 0 = λ x. StandsAt roster (still_accepted x.answer acc) x.after in
+    → StandsAt newest roster acc s → StandsAt newest roster (still_accepted o.answer acc) o.after
+moment_stands newest roster acc s given o row k =
+    let P : Outcome Advance → Type 0 = λ x. StandsAt newest roster (still_accepted x.answer acc) x.after in
     elim row [
-      | stays answer e q ↦ subst P (sym e) (subst (λ (l : List ReadVote). StandsAt roster l s)
+      | stays answer e q ↦ subst P (sym e) (subst (λ (l : List ReadVote). StandsAt newest roster l s)
           (sym (quiet acc answer q)) k)
-      | freezes at e ↦ subst P (sym e) (goes_on roster acc s Voting Frozen at (λ h. h) k)
-      | computes at n e ↦ subst P (sym e) (computes_it roster acc s k)
-      | gives_up at e ↦ subst P (sym e) (goes_on roster acc s Frozen Ended at (λ h. absurd (false≢true (sym h))) k)
-      | passes_over c at is e ↦ subst P (sym e) (goes_on roster acc s Computed Signed at
+      | freezes at e ↦ subst P (sym e) (goes_on newest roster acc s Voting Frozen at (λ h. h) k)
+      | computes at n e ↦ subst P (sym e) (computes_it newest roster acc s k)
+      | gives_up at e ↦ subst P (sym e) (goes_on newest roster acc s Frozen Ended at
           (λ h. absurd (false≢true (sym h))) k)
-      | signs c vote ns microdesc at is f g e ↦ subst P (sym e) (goes_on roster acc s Computed Signed at
+      | passes_over c at is e ↦ subst P (sym e) (goes_on newest roster acc s Computed Signed at
           (λ h. absurd (false≢true (sym h))) k)
-      | publishes c at is h e ↦ subst P (sym e) (goes_on roster acc s Signed Ended at
+      | signs c vote ns microdesc at is f g e ↦ subst P (sym e) (goes_on newest roster acc s Computed Signed at
           (λ h. absurd (false≢true (sym h))) k)
-      | misses at e ↦ subst P (sym e) (goes_on roster acc s Signed Ended at (λ h. absurd (false≢true (sym h))) k)
-      | begins now next at f e ↦ subst P (sym e) (begins_it roster acc s next k)
+      | publishes c at is h e ↦ subst P (sym e) (goes_on newest roster acc s Signed Ended at
+          (λ h. absurd (false≢true (sym h))) k)
+      | misses at e ↦ subst P (sym e) (goes_on newest roster acc s Signed Ended at (λ h. absurd (false≢true (sym h))) k)
+      | begins now next at f e ↦ subst P (sym e) (begins_it newest roster acc s next k)
     ]
 
 -- ---- signatures
 
-line_stands : (flavour : Flavour) (line : SignatureLine) (roster : List Fingerprint) (acc : List ReadVote) (s : State)
-    → StandsAt roster acc s
-    → StandsAt roster acc (with_line flavour line s)
-line_stands Ns line roster acc s k = k
-line_stands Microdesc line roster acc s k = k
+line_stands : (flavour : Flavour) (line : SignatureLine) (newest : Newest) (roster : List Fingerprint)
+    (acc : List ReadVote) (s : State)
+    → StandsAt newest roster acc s
+    → StandsAt newest roster acc (with_line flavour line s)
+line_stands Ns line newest roster acc s k = k
+line_stands Microdesc line newest roster acc s k = k
 
-signature_stands : (roster : List Fingerprint) (acc : List ReadVote) (s : State) (signature : OfferedSignature)
-    (o : Outcome SignIn) → SigningIn s signature o → StandsAt roster acc s → StandsAt roster acc o.after
-signature_stands roster acc s signature o row k = elim row [
-  | refuses answer e q ↦ subst (λ (x : Outcome SignIn). StandsAt roster acc x.after) (sym e) k
-  | keeps c p is d key n open_it e ↦ subst (λ (x : Outcome SignIn). StandsAt roster acc x.after) (sym e)
-      (line_stands signature.flavour (line_of signature) roster acc s k)
+signature_stands : (newest : Newest) (roster : List Fingerprint) (acc : List ReadVote) (s : State)
+    (signature : OfferedSignature)
+    (o : Outcome SignIn) → SigningIn s signature o → StandsAt newest roster acc s → StandsAt newest roster acc o.after
+signature_stands newest roster acc s signature o row k = elim row [
+  | refuses answer e q ↦ subst (λ (x : Outcome SignIn). StandsAt newest roster acc x.after) (sym e) k
+  | keeps c p is d key n open_it e ↦ subst (λ (x : Outcome SignIn). StandsAt newest roster acc x.after) (sym e)
+      (line_stands signature.flavour (line_of signature) newest roster acc s k)
 ]
 
 -- ---- whole lists
 
-step_stands : (roster : List Fingerprint) (acc : List ReadVote) (s : State) (event : Event) → StandsAt roster acc s
-    → StandsAt roster (accepted_after event (step s event).answer acc) (step s event).after
-step_stands roster acc s (Offered vote via now) k = vote_stands roster acc s vote (offer s vote via now)
+step_stands : (newest : Newest) (roster : List Fingerprint) (acc : List ReadVote) (s : State) (event : Event)
+    → StandsAt newest roster acc s
+    → StandsAt newest roster (accepted_after event (step s event).answer acc) (step s event).after
+step_stands newest roster acc s (Offered vote via now) k = vote_stands newest roster acc s vote (offer s vote via now)
     (offering s vote via now) k
-step_stands roster acc s (Advanced now given) k = moment_stands roster acc s given (advance s now given)
+step_stands newest roster acc s (Advanced now given) k = moment_stands newest roster acc s given (advance s now given)
     (advancing s now given) k
-step_stands roster acc s (SignedIn signature) k = signature_stands roster acc s signature (sign_in s signature)
+step_stands newest roster acc s (SignedIn signature) k =
+    signature_stands newest roster acc s signature (sign_in s signature)
     (signing_in s signature) k
-step_stands roster acc s Read k = k
+step_stands newest roster acc s Read k = k
 
-run_stands : (events : List Event) (roster : List Fingerprint) (acc : List ReadVote) (s : State) → StandsAt roster acc s
-    → StandsAt roster (accepted_with acc s events) (run s events)
-run_stands [] roster acc s k = k
-run_stands (event ∷ events) roster acc s k =
-    run_stands events roster (accepted_after event (step s event).answer acc) (step s event).after
-    (step_stands roster acc s event k)
+run_stands : (events : List Event) (newest : Newest) (roster : List Fingerprint) (acc : List ReadVote) (s : State)
+    → StandsAt newest roster acc s
+    → StandsAt newest roster (accepted_with acc s events) (run s events)
+run_stands [] newest roster acc s k = k
+run_stands (event ∷ events) newest roster acc s k =
+    run_stands events newest roster (accepted_after event (step s event).answer acc) (step s event).after
+    (step_stands newest roster acc s event k)
 
-start_stands : (start : State) → IsStart start → StandsAt start.roster [] start
+start_stands : (start : State) → IsStart start → StandsAt start.newest start.roster [] start
 start_stands start begin = record {
+  newest_is = refl;
   roster_is = refl;
   votes_is = ap (λ (x : State). x.votes) begin.empty;
   wanted = λ v i. absurd i;
@@ -256,9 +279,10 @@ start_stands start begin = record {
   texts = λ c e. absurd (none_is c start.computed (ap (λ (x : State). x.computed) begin.empty) e);
 }
 
-after_all : (start : State) (events : List Event) → IsStart start → StandsAt start.roster (accepted start events)
+after_all : (start : State) (events : List Event) → IsStart start
+    → StandsAt start.newest start.roster (accepted start events)
     (run start events)
-after_all start events begin = run_stands events start.roster [] start (start_stands start begin)
+after_all start events begin = run_stands events start.newest start.roster [] start (start_stands start begin)
 
 -- ---- the laws
 
@@ -293,7 +317,9 @@ one_text one other events others alike apart =
     record {
       votes = are_held one events alike.first ∙ same ∙ sym (are_held other others alike.second);
       texts = λ c d e f flavour. ap (λ (x : Consensus). unsigned flavour x)
-          (of_accepted one events alike.first c e ∙ ap (λ (x : List Fingerprint). consensus (length x) (held l))
-          alike.roster ∙ ap (λ (x : List ReadVote). consensus (length other.roster) x) same
+          (of_accepted one events alike.first c e
+          ∙ ap (λ (x : Newest). consensus x (length one.roster) (held l)) alike.newest
+          ∙ ap (λ (x : List Fingerprint). consensus other.newest (length x) (held l)) alike.roster
+          ∙ ap (λ (x : List ReadVote). consensus other.newest (length other.roster) x) same
           ∙ sym (of_accepted other others alike.second d f));
     }

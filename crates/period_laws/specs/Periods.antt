@@ -43,7 +43,7 @@ AcceptedAreWanted = (start : State) (events : List Event) → IsStart start
 abbrev pub ComputedOfAccepted : Type 0
 ComputedOfAccepted = (start : State) (events : List Event) → IsStart start
     → (c : Consensus) → (run start events).computed ≡ Some c
-    → c ≡ consensus (length start.roster) (held (accepted start events))
+    → c ≡ consensus start.newest (length start.roster) (held (accepted start events))
 
 -- ---- histories
 
@@ -77,11 +77,12 @@ FrontCounts = (start : State) (events : List Event)
 
 -- ---- two authorities
 
--- Two authorities with one roster, to which events came.
+-- Two authorities with one roster that know the same newest method, to which events came.
 pub record AreAlike (one other : State) (events others : List Event) : Type 0 where
   pub first : IsStart one
   pub second : IsStart other
   pub roster : one.roster ≡ other.roster
+  pub newest : one.newest ≡ other.newest
   -- the same votes were accepted, in whatever order and however often
   pub same : SameMembers (accepted one events) (accepted other others)
 

@@ -90,7 +90,7 @@ pub record IsLastPublished (start : State) (story : List Entry) (flavour : Flavo
 pub record MayPublish (rules : Rules) (start : State) (story : List Entry) (flavour : Flavour) (c : Consensus) :
     Type 0 where
   -- it is that of the accepted votes of the period alone
-  pub accepted_alone : c ≡ consensus (length start.roster) (held (accepted start (events_of story)))
+  pub accepted_alone : c ≡ consensus start.newest (length start.roster) (held (accepted start (events_of story)))
   -- each of which is acceptable
   pub acceptable : (vote : ReadVote) → Contains (accepted start (events_of story)) vote
       → IsAcceptable rules start.roster (after start story).valid_after vote

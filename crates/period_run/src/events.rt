@@ -5,6 +5,7 @@ use crate::signature::signature_of;
 use crate::texts::{number_after, word_after, words_of};
 use crate::vote::{roster_of, vote_of};
 use anyhow::{Result, bail};
+use count_terms::Newest;
 use dir_values::Roster;
 use key_port::TestKeys;
 use period_core::Station;
@@ -48,7 +49,7 @@ pub fn started(rt: &HostRuntime, line: &str) -> Result<Station<TestKeys>> {
     let own = authority_of(rt, word_after(words, "own")?)?.identity;
     let config = config_in(words)?;
     let now = number_after(words, "now")?;
-    match Station::start(rt.alloc(), roster, own, config, now) {
+    match Station::start(rt.alloc(), roster, own, Newest::Method33, config, now) {
         Ok(station) => Ok(station),
         Err(_) => bail!("no start"),
     }

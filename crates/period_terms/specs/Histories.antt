@@ -1,5 +1,6 @@
 -- Whole lists of events, and the history that they leave.
 use Rattle.std.specs.Prelude.{◌≡◌, ℕ, Bool, true, List, [], ◌∷◌, ◌++◌, Some, None, if◌then◌else◌, Option}
+use Rattle.count_terms.specs.declared.newest.Newest.{Newest}
 use Rattle.dir_values.specs.declared.digest.Fingerprint.{Fingerprint}
 use Rattle.dir_values.specs.Rosters.{IsRoster, has_member}
 use Rattle.vote_terms.specs.Votes.{ReadVote}
@@ -20,11 +21,12 @@ use Rattle.period_terms.specs.Steps.{step, changes}
 
 -- ---- the start
 
--- an authority that begins, in the period that begins then
-abbrev pub start_in : List Fingerprint → Fingerprint → Schedule → ℕ → State
-start_in roster own schedule valid_after = record {
+-- an authority that begins and knows this newest method, in the period that begins then
+abbrev pub start_in : List Fingerprint → Fingerprint → Newest → Schedule → ℕ → State
+start_in roster own newest schedule valid_after = record {
   roster = roster;
   own = own;
+  newest = newest;
   schedule = schedule;
   valid_after = valid_after;
   stage = Voting;
@@ -47,7 +49,7 @@ pub record IsStart (state : State) : Type 0 where
   pub times : IsSchedule state.schedule
   pub now : ℕ
   pub next : next_valid_after state.schedule 0 now ≡ Some state.valid_after
-  pub empty : state ≡ start_in state.roster state.own state.schedule state.valid_after
+  pub empty : state ≡ start_in state.roster state.own state.newest state.schedule state.valid_after
 
 -- ---- lists of events
 

@@ -60,7 +60,7 @@ has_key votes authority key =
 
 -- the consensus of the held votes
 unfoldable pub consensus_of : State → Consensus
-consensus_of state = consensus (length state.roster) state.votes
+consensus_of state = consensus state.newest (length state.roster) state.votes
 
 -- the digest of a text of a flavour, over which it is signed
 unfoldable pub text_digest : Flavour → List ℕ → List ℕ

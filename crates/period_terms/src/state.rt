@@ -3,6 +3,7 @@ use crate::change::Change;
 use crate::stage::Stage;
 use crate::vote::OfferedVote;
 use consensus_terms::{Consensus, SignatureLine};
+use count_terms::Newest;
 use dir_bytes::{Seq, Text};
 use dir_values::Fingerprint;
 use vote_schedule::Config;
@@ -14,6 +15,8 @@ pub struct State {
     pub roster: Seq<Fingerprint>,
     /// This one.
     pub own: Fingerprint,
+    /// The newest consensus method that it knows.
+    pub newest: Newest,
     /// The schedule.
     pub schedule: Config,
     /// When the period begins, for which votes are taken.

@@ -1,5 +1,6 @@
 -- A station that begins is in a state that is a start.
 use Rattle.std.proofs.Common.{◌≡◌, ℕ, List, Result, Ok, Err, refl, IfOk}
+use Rattle.count_terms.specs.declared.newest.Newest.{Newest}
 use Rattle.dir_values.specs.declared.digest.Fingerprint.{Fingerprint}
 use Rattle.dir_values.specs.Rosters.{IsRoster}
 use Rattle.vote_schedule.specs.Schedules.{Schedule, IsSchedule}
@@ -8,10 +9,11 @@ use Rattle.period_terms.specs.Histories.{IsStart}
 use Rattle.period_core.specs.declared.station.StartFault.{StartFault}
 use Rattle.period_core.specs.Starting.{Starts}
 
-pub starts_so : (roster : List Fingerprint) (own : Fingerprint) (schedule : Schedule) (now : ℕ)
-    (result : Result State StartFault) → IsRoster roster → IsSchedule schedule → Starts roster own schedule now result
+pub starts_so : (roster : List Fingerprint) (own : Fingerprint) (newest : Newest) (schedule : Schedule) (now : ℕ)
+    (result : Result State StartFault) → IsRoster roster → IsSchedule schedule
+    → Starts roster own newest schedule now result
     → IfOk result (λ state. IsStart state)
-starts_so roster own schedule now (Ok state) members times starts = rw starts.1.2 (record {
+starts_so roster own newest schedule now (Ok state) members times starts = rw starts.1.2 (record {
   members = members;
   member = starts.0;
   times = times;
@@ -19,4 +21,4 @@ starts_so roster own schedule now (Ok state) members times starts = rw starts.1.
   next = starts.1.1;
   empty = refl;
 })
-starts_so roster own schedule now (Err fault) members times starts = tt
+starts_so roster own newest schedule now (Err fault) members times starts = tt

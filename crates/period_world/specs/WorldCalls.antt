@@ -6,6 +6,7 @@ use Rattle.key_port.specs.Answers.{Relation, Rules}
 use Rattle.period_terms.specs.declared.answer.Answer.{Answer}
 use Rattle.period_terms.specs.declared.state.State.{State}
 use Rattle.period_terms.specs.Histories.{IsStart}
+use Rattle.count_terms.specs.declared.newest.Newest.{Newest}
 use Rattle.vote_schedule.specs.Schedules.{Schedule}
 use Rattle.period_core.specs.Starting.{Starts}
 use Rattle.period_laws.specs.Worlds.{World, WorldEvent, SignedDigest, signed_by, is_among, moved, signed_elsewhere}
@@ -69,9 +70,10 @@ LeadsOn may_give rules old coming answer new = (world : World) (member : Fingerp
 
 -- The station of a member of the roster began in this state, as `begin` says it.
 pub record HasBegun (roster : List Fingerprint) (member : Fingerprint) (state : State) : Type 0 where
+  pub newest : Newest
   pub schedule : Schedule
   pub now : ℕ
-  pub starts : Starts roster member schedule now (Ok state)
+  pub starts : Starts roster member newest schedule now (Ok state)
   pub start : IsStart state
 
 -- Stations of one roster that began are the start of a world.

@@ -3,13 +3,14 @@ ghost use Rattle.std.specs.Prelude.{IfOk};
 ghost use Rattle.period_core.specs.Starting.{Starts};
 ghost use Rattle.period_terms.specs.Histories.{IsStart};
 
+use count_terms::Newest;
 use dir_values::{Fingerprint, Roster};
 use key_port::Verifier;
 use period_core::{StartFault, Station};
 use std::alloc::Global;
 use vote_schedule::Config;
 
-/// An authority of the roster that begins at a moment, in a state that is a start.
+/// An authority of the roster that knows this newest method and begins at a moment, in a state that is a start.
 ///
 /// # Errors
 /// Those of `Station::start`.
@@ -17,13 +18,14 @@ pub fn begin<V: Verifier>(
     alloc: Global,
     roster: Roster,
     own: Fingerprint,
+    newest: Newest,
     config: Config,
     now: u64,
 ) -> Result<Station<V>, StartFault>
-    ensures starts { Starts roster own config now result }
+    ensures starts { Starts roster own newest config now result }
     ensures start { IfOk result (λ state. IsStart state) }
 {
     let _ = roster.len();
     let _ = config.interval();
-    Station::start(alloc, roster, own, config, now)
+    Station::start(alloc, roster, own, newest, config, now)
 }
