@@ -1,5 +1,6 @@
 -- What was kept of a document is what a station is given.
 use Rattle.std.proofs.Common.{◌≡◌, ℕ, List, length, Ok, Result, sym, ap, ◌∙◌}
+use Rattle.count_terms.specs.declared.newest.Newest.{Newest}
 use Rattle.item_terms.specs.Items.{Contents, items_of}
 use Rattle.frame_terms.specs.declared.fault.ReadRefusal.{ReadRefusal}
 use Rattle.frame_terms.specs.Documents.{document_of, finish}
@@ -16,11 +17,12 @@ kept_of before items bytes = finish kept_with before (document_of station_tables
 abbrev ok_of : StationFacts → ℕ → Result (StationFacts × ℕ) ReadRefusal
 ok_of facts used = Ok (facts, used)
 
-pub reads : (bytes : List ℕ) (before kept : Kept) (items : Contents) (used : ℕ) (facts : StationFacts)
+pub reads : (newest : Newest) (bytes : List ℕ) (before kept : Kept) (items : Contents) (used : ℕ) (facts : StationFacts)
     → items ≡ items_of max_station bytes → before ≡ none_kept
     → finish kept_with before (document_of station_tables (length bytes) items) ≡ Ok (kept, used)
-    → facts ≡ facts_of bytes kept → station_of bytes ≡ Ok (facts, used)
-reads bytes before kept items used facts e f g h =
+    → facts ≡ facts_of newest bytes kept → station_of newest bytes ≡ Ok (facts, used)
+reads newest bytes before kept items used facts e f g h =
     let read : kept_of none_kept (items_of max_station bytes) bytes ≡ Ok (kept, used) =
     ap (λ (i : Contents). kept_of none_kept i bytes) (sym e) ∙ ap (λ (s : Kept). kept_of s items bytes) (sym f) ∙ g in
-    ap (λ (r : Result (Kept × ℕ) ReadRefusal). with_facts bytes r) read ∙ ap (λ (s : StationFacts). ok_of s used) (sym h)
+    ap (λ (r : Result (Kept × ℕ) ReadRefusal). with_facts newest bytes r) read
+    ∙ ap (λ (s : StationFacts). ok_of s used) (sym h)

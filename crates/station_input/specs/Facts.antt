@@ -3,6 +3,7 @@ use Rattle.std.specs.Prelude.{ℕ, List, map, option_map}
 use Rattle.frame_values.specs.Parts.{part}
 use Rattle.authority_certs.specs.Certs.{cert_in}
 pub use Rattle.authority_certs.specs.Certs.{whole_part}
+use Rattle.count_terms.specs.declared.newest.Newest.{Newest}
 use Rattle.station_input.specs.declared.frame_said.MemberLine.{MemberLine}
 use Rattle.station_input.specs.declared.facts.Peer.{Peer}
 use Rattle.station_input.specs.declared.facts.StationFacts.{StationFacts}
@@ -13,9 +14,9 @@ use Rattle.station_input.specs.Lists.{vote_lists}
 abbrev pub peer_in : List ℕ → MemberLine → Peer
 peer_in bytes member = record { identity = member.identity; address = option_map (part bytes) member.peer }
 
--- what a station is given of which this was kept, in these bytes
-abbrev pub facts_of : List ℕ → Kept → StationFacts
-facts_of bytes kept = let head = kept.head in record {
+-- what a station is given of which this was kept, in these bytes, where this is the newest method that is known
+abbrev pub facts_of : Newest → List ℕ → Kept → StationFacts
+facts_of newest bytes kept = let head = kept.head in record {
   nickname = part bytes head.source.nickname;
   identity = head.source.identity;
   address = part bytes head.source.address;
@@ -32,4 +33,5 @@ facts_of bytes kept = let head = kept.head in record {
   measured = kept.measured;
   certificate = cert_in bytes head.certificate;
   certificate_bytes = whole_part bytes head.certificate;
+  newest = newest;
 }

@@ -6,6 +6,7 @@ use crate::frame_said::{MeasuredRelay, MemberLine};
 use crate::kept::Kept;
 use crate::lists::vote_lists;
 use authority_certs::{Cert, CertHead, cert_at};
+use count_terms::Newest;
 use dir_bytes::{Memory, Seq, Text};
 use dir_values::Fingerprint;
 use flag_rules::OperatorRule;
@@ -22,7 +23,8 @@ pub struct Peer {
     pub address: Option<Text>,
 }
 
-/// What a station is given, without the descriptors: a field for each item, but for those that say always the same.
+/// What a station is given, without the descriptors: a field for each item, but for those that say always the same; and the newest
+/// consensus method that its authority knows.
 #[derive(Drop)]
 pub struct StationFacts {
     /// The own authority's nickname.
@@ -57,6 +59,8 @@ pub struct StationFacts {
     pub certificate: Cert,
     /// The certificate's bytes as they stand in the input, from its first item through its last object.
     pub certificate_bytes: Text,
+    /// The newest consensus method that the authority knows, which the operator names.
+    pub newest: Newest,
 }
 
 /// An authority of the network, in these bytes.
@@ -87,12 +91,17 @@ fn certificate_bytes(alloc: Global, bytes: &[u8], head: &CertHead) -> Result<Tex
     Text::copy_of(alloc, between(bytes, head.begin, head.end))
 }
 
-/// What the station input says of which this was kept.
+/// What the station input says of which this was kept, where this is the newest method that is known.
 ///
 /// # Errors
 /// `Memory` is want of memory.
-pub(crate) fn facts_of(alloc: Global, bytes: &[u8], kept: Kept) -> Result<StationFacts, Memory>
-    ensures { IfOk result (λ found. found ≡ facts.facts_of bytes.now kept) }
+pub(crate) fn facts_of(
+    alloc: Global,
+    newest: Newest,
+    bytes: &[u8],
+    kept: Kept,
+) -> Result<StationFacts, Memory>
+    ensures { IfOk result (λ found. found ≡ facts.facts_of newest bytes.now kept) }
 {
     let head = &kept.head;
     Ok(StationFacts {
@@ -112,5 +121,6 @@ pub(crate) fn facts_of(alloc: Global, bytes: &[u8], kept: Kept) -> Result<Statio
         certificate_bytes: certificate_bytes(alloc, bytes, &head.certificate)?,
         rules: kept.rules,
         measured: kept.measured,
+        newest,
     })
 }

@@ -42,11 +42,12 @@ descriptor_within bytes fault is = by (own_kept (max_descriptor - front_of bytes
     by (Err Memory) there e = absurd (cc e)
 
 pub station_within : StationFaultsStandWithin
-station_within bytes fault is = by (document_of station_tables (length bytes) (items_of max_station bytes)) refl is
+station_within newest bytes fault is =
+    by (document_of station_tables (length bytes) (items_of max_station bytes)) refl is
   where
     by : (read : Result (Document StationSection (Value StationValue)) ReadRefusal)
         → document_of station_tables (length bytes) (items_of max_station bytes) ≡ read
-        → with_facts bytes (finish station_kept.kept_with station_kept.none_kept read) ≡ Err (Frame fault)
+        → with_facts newest bytes (finish station_kept.kept_with station_kept.none_kept read) ≡ Err (Frame fault)
         → fault.place ≤ length bytes
     by (Ok document) there e = absurd (cc e)
     by (Err refusal) there e =

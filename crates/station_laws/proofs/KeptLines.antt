@@ -6,6 +6,7 @@ use Rattle.std.specs.Prelude.{AllPairs, length, replicate, if◌then◌else◌}
 use Rattle.std.specs.List.{fold}
 use Rattle.std.proofs.lemmas.List.Elements.{All-from_recursion}
 use Rattle.dir_values.proofs.Orders.{AllPairs-cons, AllPairs-nil}
+use Rattle.count_terms.specs.declared.newest.Newest.{Newest}
 use Rattle.dir_values.specs.Digests.{same_identity}
 use Rattle.flag_rules.specs.Rules.{AreApart}
 use Rattle.flag_rules.specs.declared.operator.OperatorRule.{OperatorRule}
@@ -123,9 +124,9 @@ groups_are document has = by has.part.inside has.section has.is_part.others
         )
 
 -- what a station is given of which these sections were read
-abbrev pub facts_in : List ℕ → List StationGroup → StationFacts
-facts_in bytes groups =
-    facts_of bytes (fold (λ kept (g : StationGroup). kept_with kept g.section g.taken) none_kept groups)
+abbrev pub facts_in : Newest → List ℕ → List StationGroup → StationFacts
+facts_in newest bytes groups =
+    facts_of newest bytes (fold (λ kept (g : StationGroup). kept_with kept g.section g.taken) none_kept groups)
 
 -- ---- lines of a section
 
@@ -165,13 +166,14 @@ named_in_section part next is =
       measured = subst (λ (l : List MeasuredRelay). AreOfOthers l) (sym (measured_are taken)) measured;
     }
 
-named_in : (bytes : List ℕ) (groups : List StationGroup) (taken : List StationTaken) → AreSections groups taken
-    → AreNamedOnce taken → NamesOnce (facts_in bytes groups)
-named_in bytes groups taken (inl are) once =
-    subst (λ (l : List StationGroup). NamesOnce (facts_in bytes l)) (sym are)
+named_in : (newest : Newest) (bytes : List ℕ) (groups : List StationGroup) (taken : List StationTaken)
+    → AreSections groups taken
+    → AreNamedOnce taken → NamesOnce (facts_in newest bytes groups)
+named_in newest bytes groups taken (inl are) once =
+    subst (λ (l : List StationGroup). NamesOnce (facts_in newest bytes l)) (sym are)
     (record { rules = once.rules; measured = once.measured })
-named_in bytes groups taken (inr (certificate, are)) once =
-    subst (λ (l : List StationGroup). NamesOnce (facts_in bytes l)) (sym are)
+named_in newest bytes groups taken (inr (certificate, are)) once =
+    subst (λ (l : List StationGroup). NamesOnce (facts_in newest bytes l)) (sym are)
     (record { rules = once.rules; measured = once.measured })
 
 -- ---- the law
@@ -187,15 +189,16 @@ pub same_facts : (a b : StationFacts) (m n : ℕ) → as_facts a m ≡ as_facts 
 same_facts a b m n is = ap (facts_or a) is
 
 pub named_once : RelaysAreNamedOnce
-named_once bytes facts used is = by (document_of station_tables (length bytes) (items_of max_station bytes)) refl is
+named_once newest bytes facts used is =
+    by (document_of station_tables (length bytes) (items_of max_station bytes)) refl is
   where
     by : (read : Result (Document StationSection (Value StationValue)) ReadRefusal)
         → document_of station_tables (length bytes) (items_of max_station bytes) ≡ read
-        → with_facts bytes (finish kept_with none_kept read) ≡ Ok (facts, used) → NamesOnce facts
+        → with_facts newest bytes (finish kept_with none_kept read) ≡ Ok (facts, used) → NamesOnce facts
     by (Err refusal) e f = absurd (cc (f))
     by (Ok document) e f =
         let has = sections_are bytes document e in
         subst (λ (f : StationFacts). NamesOnce f) (same_facts
-        (facts_in bytes document.groups) facts document.used used f)
-        (named_in bytes document.groups has.part.whole.taken (groups_are document has)
+        (facts_in newest bytes document.groups) facts document.used used f)
+        (named_in newest bytes document.groups has.part.whole.taken (groups_are document has)
         (named_in_section has.part has.next has.is_part))

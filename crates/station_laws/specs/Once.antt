@@ -1,5 +1,6 @@
 -- What a station is given names no relay twice in one kind of line.
 use Rattle.std.specs.Prelude.{◌≡◌, ℕ, false, List, AllPairs, Ok}
+use Rattle.count_terms.specs.declared.newest.Newest.{Newest}
 use Rattle.dir_values.specs.Digests.{same_identity}
 use Rattle.flag_rules.specs.Rules.{AreApart}
 use Rattle.station_input.specs.declared.frame_said.MeasuredRelay.{MeasuredRelay}
@@ -15,7 +16,7 @@ pub record NamesOnce (facts : StationFacts) : Type 0 where
   pub rules : AreApart facts.rules
   pub measured : AreOfOthers facts.measured
 
--- All that is read is such.
+-- All that is read is such, whatever the newest method that is known.
 abbrev pub RelaysAreNamedOnce : Type 0
-RelaysAreNamedOnce = (bytes : List ℕ) (facts : StationFacts) (used : ℕ) → station_of bytes ≡ Ok (facts, used)
-    → NamesOnce facts
+RelaysAreNamedOnce = (newest : Newest) (bytes : List ℕ) (facts : StationFacts) (used : ℕ)
+    → station_of newest bytes ≡ Ok (facts, used) → NamesOnce facts

@@ -1,5 +1,6 @@
 -- Where the first fault of a descriptor, and of what a station is given, stands: within its bytes.
 use Rattle.std.specs.Prelude.{◌≡◌, ℕ, ◌≤◌, List, length, Err}
+use Rattle.count_terms.specs.declared.newest.Newest.{Newest}
 use Rattle.frame_terms.specs.declared.fault.FrameFault.{FrameFault}
 use Rattle.frame_terms.specs.declared.fault.ReadRefusal.TheVariants.{Frame}
 use Rattle.descriptor_doc.specs.Reading.{descriptor_of}
@@ -12,5 +13,5 @@ DescriptorFaultsStandWithin = (bytes : List ℕ) (fault : FrameFault) → descri
 
 -- The first fault of what a station is given stands within its bytes.
 abbrev pub StationFaultsStandWithin : Type 0
-StationFaultsStandWithin = (bytes : List ℕ) (fault : FrameFault) → station_of bytes ≡ Err (Frame fault)
-    → fault.place ≤ length bytes
+StationFaultsStandWithin = (newest : Newest) (bytes : List ℕ) (fault : FrameFault)
+    → station_of newest bytes ≡ Err (Frame fault) → fault.place ≤ length bytes
