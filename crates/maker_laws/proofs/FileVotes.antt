@@ -13,6 +13,7 @@ pub told_stations : ToldStationsAreStations
 told_stations station is = record {
   input = is.input;
   bytes = is.bytes;
+  newest = is.newest;
   given = is.given;
   used = is.used;
   read = is.read;

@@ -6,6 +6,7 @@ use Rattle.std.specs.Prelude.{replicate, slice_range}
 use Rattle.std.specs.List.{fold}
 use Rattle.std.proofs.lemmas.List.{take_all}
 use Rattle.item_terms.specs.Items.{Item, items_of}
+use Rattle.count_terms.specs.declared.newest.Newest.{Newest}
 use Rattle.frame_terms.specs.Documents.{Document, document_of, finish, group}
 use Rattle.frame_terms.specs.Keywords.{same}
 use Rattle.frame_terms.specs.Order.{inner, opener}
@@ -189,11 +190,12 @@ same_facts : (a b : StationFacts) (m n : ℕ) → as_facts a m ≡ as_facts b n 
 same_facts a b m n is = ap (facts_or a) is
 
 -- what is read of such an input has a certificate that is given
-given_in : (input : List ℕ) (groups : List StationGroup) → IsStationInput input groups
+given_in : (newest : Newest) (input : List ℕ) (groups : List StationGroup) → IsStationInput input groups
     → IsGiven vote_tables vote.Certificate
-    (facts_of input (fold (λ k (g : StationGroup). kept_with k g.section g.taken) none_kept groups)).certificate_bytes
-    (facts_of input (fold (λ k (g : StationGroup). kept_with k g.section g.taken) none_kept groups)).certificate
-given_in input groups is =
+    (facts_of newest input (fold (λ k (g : StationGroup). kept_with k g.section g.taken) none_kept
+    groups)).certificate_bytes
+    (facts_of newest input (fold (λ k (g : StationGroup). kept_with k g.section g.taken) none_kept groups)).certificate
+given_in newest input groups is =
     let has = is.has in
     let own = has.own in
     let alone = has.is_alone in
@@ -215,8 +217,8 @@ given_in input groups is =
     let given : IsGiven vote_tables vote.Certificate own (cert_in own head) =
     record { read = alone.read; first = has.first; strangers = has.none } in
     subst (λ (l : List StationGroup). IsGiven vote_tables vote.Certificate
-    (facts_of input (fold (λ k (g : StationGroup). kept_with k g.section g.taken) none_kept l)).certificate_bytes
-    (facts_of input (fold (λ k (g : StationGroup). kept_with k g.section g.taken) none_kept l)).certificate)
+    (facts_of newest input (fold (λ k (g : StationGroup). kept_with k g.section g.taken) none_kept l)).certificate_bytes
+    (facts_of newest input (fold (λ k (g : StationGroup). kept_with k g.section g.taken) none_kept l)).certificate)
     (sym is.are)
     (subst (λ (b : List ℕ). IsGiven vote_tables vote.Certificate b (cert_in input (head_of is.taken))) (sym whole)
     (subst (λ (c : Cert). IsGiven vote_tables vote.Certificate own c) (sym says) given))
@@ -229,12 +231,12 @@ one_part (part ∷ []) is = (part, refl, cc)
 one_part (part ∷ other ∷ parts) is = absurd (cc (is))
 
 pub certificates_are_given : StationsCertificatesAreGiven
-certificates_are_given input facts used is =
+certificates_are_given newest input facts used is =
     by (document_of station_tables (length input) (items_of max_station input)) refl is
   where
     by : (read : Result (Document StationSection (Value StationValue)) ReadRefusal)
         → document_of station_tables (length input) (items_of max_station input) ≡ read
-        → with_facts input (finish kept_with none_kept read) ≡ Ok (facts, used)
+        → with_facts newest input (finish kept_with none_kept read) ≡ Ok (facts, used)
         → IsGiven vote_tables vote.Certificate facts.certificate_bytes facts.certificate
     by (Err refusal) got e = absurd (cc (e))
     by (Ok document) got e =
@@ -256,5 +258,5 @@ certificates_are_given input facts used is =
         let kept =
         fold (λ k (g : StationGroup). kept_with k g.section g.taken) none_kept document.groups in
         subst (λ (f : StationFacts). IsGiven vote_tables vote.Certificate f.certificate_bytes f.certificate)
-        (same_facts (facts_of input kept) facts document.used used e)
-        (given_in input document.groups (subst (IsStationInput input) (sym groups) station))
+        (same_facts (facts_of newest input kept) facts document.used used e)
+        (given_in newest input document.groups (subst (IsStationInput input) (sym groups) station))

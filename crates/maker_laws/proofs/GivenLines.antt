@@ -8,6 +8,7 @@ use Rattle.item_terms.specs.Items.{Item, items_of}
 use Rattle.dir_bytes.specs.FieldTexts.{address_text, hex_text}
 use Rattle.dir_values.specs.declared.digest.Fingerprint.{Fingerprint}
 use Rattle.dirdoc_grammar.specs.Writing.{NewItem}
+use Rattle.count_terms.specs.declared.newest.Newest.{Newest}
 use Rattle.frame_terms.specs.Documents.{Document, document_of, finish, group}
 use Rattle.frame_terms.specs.Keywords.{same, text_of}
 use Rattle.frame_terms.specs.Rows.{row}
@@ -238,20 +239,22 @@ section_short bytes items taken station sound short from counts lists contact so
     }
 
 -- of the section of a station, which stands last
-facts_short : (bytes : List ℕ) (items : List Item) (groups : List StationGroup) (taken : List StationTaken)
+facts_short : (newest : Newest) (bytes : List ℕ) (items : List Item) (groups : List StationGroup)
+    (taken : List StationTaken)
     → EachSound bytes items → EachShort items → AreSections groups taken → All (AreFrom items) groups
-    → All CountsOf groups → GivesShortLines (facts_in bytes groups)
-facts_short bytes items groups taken sound short (inl is) from counts =
+    → All CountsOf groups → GivesShortLines (facts_in newest bytes groups)
+facts_short newest bytes items groups taken sound short (inl is) from counts =
     let one : List StationGroup = group its.Station taken ∷ [] in
     let here = All-head (AreFrom items) (group its.Station taken) []
     (subst (λ (l : List StationGroup). All (AreFrom items) l) is from) in
     let often = All-head CountsOf (group its.Station taken) []
     (subst (λ (l : List StationGroup). All CountsOf l) is counts) in
     let own = source_in (item_at taken the.Own) in
-    subst (λ (l : List StationGroup). GivesShortLines (facts_in bytes l)) (sym is)
-    (section_short bytes items taken (facts_in bytes one) sound short here often refl refl
-    (λ facts fits says. source_said bytes own (facts_in bytes one) fits refl refl refl refl refl refl facts says))
-facts_short bytes items groups taken sound short (inr (inside, is)) from counts =
+    subst (λ (l : List StationGroup). GivesShortLines (facts_in newest bytes l)) (sym is)
+    (section_short bytes items taken (facts_in newest bytes one) sound short here often refl refl
+    (λ facts fits says. source_said bytes own (facts_in newest bytes one) fits refl refl refl refl refl refl facts
+    says))
+facts_short newest bytes items groups taken sound short (inr (inside, is)) from counts =
     let first : StationGroup = group its.Certificate inside in
     let second : StationGroup = group its.Station taken in
     let both : List StationGroup = first ∷ second ∷ [] in
@@ -260,34 +263,35 @@ facts_short bytes items groups taken sound short (inr (inside, is)) from counts 
     let here = All-head (AreFrom items) second [] (All-tail (AreFrom items) first (second ∷ []) all_from) in
     let often = All-head CountsOf second [] (All-tail CountsOf first (second ∷ []) all_counts) in
     let own = source_in (item_at taken the.Own) in
-    subst (λ (l : List StationGroup). GivesShortLines (facts_in bytes l)) (sym is)
-    (section_short bytes items taken (facts_in bytes both) sound short here often refl refl
-    (λ facts fits says. source_said bytes own (facts_in bytes both) fits refl refl refl refl refl refl facts says))
+    subst (λ (l : List StationGroup). GivesShortLines (facts_in newest bytes l)) (sym is)
+    (section_short bytes items taken (facts_in newest bytes both) sound short here often refl refl
+    (λ facts fits says. source_said bytes own (facts_in newest bytes both) fits refl refl refl refl refl refl facts
+    says))
 
 -- ---- the law
 
-station_short : (bytes : List ℕ) (station : StationFacts) (used : ℕ)
-    → with_facts bytes (finish kept_with none_kept (document_of station_tables (length bytes)
+station_short : (newest : Newest) (bytes : List ℕ) (station : StationFacts) (used : ℕ)
+    → with_facts newest bytes (finish kept_with none_kept (document_of station_tables (length bytes)
     (items_of max_station bytes))) ≡ Ok (station, used) → GivesShortLines station
-station_short bytes station used is =
+station_short newest bytes station used is =
     by (document_of station_tables (length bytes) (items_of max_station bytes)) refl is
   where
     by : (read : Result (Document StationSection (Value StationValue)) ReadRefusal)
         → document_of station_tables (length bytes) (items_of max_station bytes) ≡ read
-        → with_facts bytes (finish kept_with none_kept read) ≡ Ok (station, used) → GivesShortLines station
+        → with_facts newest bytes (finish kept_with none_kept read) ≡ Ok (station, used) → GivesShortLines station
     by (Err refusal) got e = absurd (cc e)
     by (Ok document) got e =
         let contents = items_of max_station bytes in
         let has = sections_are bytes document got in
-        subst GivesShortLines (same_facts (facts_in bytes document.groups) station document.used used e)
-        (facts_short bytes contents.items document.groups has.part.whole.taken (all_sound 0 max_station bytes)
+        subst GivesShortLines (same_facts (facts_in newest bytes document.groups) station document.used used e)
+        (facts_short newest bytes contents.items document.groups has.part.whole.taken (all_sound 0 max_station bytes)
         (each_short 0 max_station bytes) (groups_are document has)
         (are_said station_tables (length bytes) contents document got)
         (stand_as_often station_tables (length bytes) contents document got))
 
 pub given_short : GivenLinesAreShort
-given_short bytes station used facts read says =
-    let short = station_short bytes station used read in
+given_short newest bytes station used facts read says =
+    let short = station_short newest bytes station used read in
     let lists = subst HasShortLists (sym says.lists) short.lists in
     record {
       versions = lists.versions;

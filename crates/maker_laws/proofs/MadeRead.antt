@@ -52,7 +52,7 @@ use Rattle.maker_laws.proofs.ShortPreamble.{before_short}
 station_ranged : (its : Basis) → IsBasis its → IsStationInRange its.station
 station_ranged its basis =
     let is = basis.station in
-    let read = station_in_range is.input is.given is.used is.bytes is.read in
+    let read = station_in_range is.newest is.input is.given is.used is.bytes is.read in
     let told : IsStationInRange (record is.given { measured = its.station.measured }) = record {
       nickname = read.nickname;
       identity = read.identity;
@@ -70,14 +70,15 @@ station_ranged its basis =
 
 -- what was read is such
 pub stations_read : StationsReadAreStations
-stations_read input station used bytes read = record {
+stations_read newest input station used bytes read = record {
   input = input;
   bytes = bytes;
+  newest = newest;
   given = station;
   used = used;
   read = read;
   same = refl;
-  measured = (station_in_range input station used bytes read).measured;
+  measured = (station_in_range newest input station used bytes read).measured;
 }
 
 descriptor_ranged : DescriptorsReadAreInRange → (d : Descriptor) → IsDescriptor d → IsDescriptorInRange d
@@ -177,7 +178,7 @@ made_lines : (its : Basis) (rulings : List Ruling) (signature : List ℕ) → Is
     → HasShortLines (signed_facts its rulings signature)
 made_lines its rulings signature basis =
     let is = basis.station in
-    given_short is.input is.given is.used (signed_facts its rulings signature) is.read
+    given_short is.newest is.input is.given is.used (signed_facts its rulings signature) is.read
     (record {
       nickname = ap (λ (station : StationFacts). station.nickname) is.same;
       identity = ap (λ (station : StationFacts). station.identity) is.same;
@@ -196,7 +197,7 @@ certificate_given its basis =
     let is = basis.station in
     subst (λ (station : StationFacts).
     IsGiven vote_tables section.Certificate station.certificate_bytes station.certificate)
-    (sym is.same) (certificates_are_given is.input is.given is.used is.read)
+    (sym is.same) (certificates_are_given is.newest is.input is.given is.used is.read)
 
 pub read_as_made : DescriptorsReadAreInRange → MadeVotesReadAsMade
 read_as_made law front its rulings signature rest few basis signing fits =

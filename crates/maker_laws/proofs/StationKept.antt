@@ -4,6 +4,7 @@ use Rattle.std.proofs.Common.{Result, Ok, Err, arith, inl, inr}
 use Rattle.std.specs.Prelude.{All, IfSome, option_map}
 use Rattle.std.proofs.lemmas.List.Elements.{All-head, All-tail}
 use Rattle.base64.specs.GeneralPurpose.{IsBytes}
+use Rattle.count_terms.specs.declared.newest.Newest.{Newest}
 use Rattle.item_terms.specs.Items.{Item, items_of}
 use Rattle.dirdoc_grammar.specs.Writing.{IsLineRest}
 use Rattle.frame_terms.specs.Documents.{Document, document_of, finish, group}
@@ -127,12 +128,13 @@ abbrev CountsOf : StationGroup → Type 0
 CountsOf g = RowsStand station_tables g.section g.taken
 
 -- what is kept of the station's section, where the head of its certificate is in range
-made_ranged : (bytes : List ℕ) → IsBytes bytes → (taken : List StationTaken) → SectionSays bytes taken
+made_ranged : (newest : Newest) (bytes : List ℕ) → IsBytes bytes → (taken : List StationTaken) → SectionSays bytes taken
     → (head : CertHead) → SaysInRange (cert_in bytes head)
     → IsStationInRange
-    (facts_of bytes (kept_with (record none_kept { head = record none_kept.head { certificate = head } }) its.Station
+    (facts_of newest bytes (kept_with (record none_kept { head = record none_kept.head { certificate = head } })
+    its.Station
     taken))
-made_ranged bytes are taken says head certificate = record {
+made_ranged newest bytes are taken says head certificate = record {
   nickname = says.source.nickname;
   identity = says.source.identity;
   address = says.source.address;
@@ -146,20 +148,21 @@ made_ranged bytes are taken says head certificate = record {
   keys = keys_of bytes head are;
 }
 
-facts_ranged : (bytes : List ℕ) (items : List Item) (groups : List StationGroup) (taken : List StationTaken)
+facts_ranged : (newest : Newest) (bytes : List ℕ) (items : List Item) (groups : List StationGroup)
+    (taken : List StationTaken)
     → IsBytes bytes → EachSound bytes items → AreSections groups taken → All (AreFrom items) groups
     → All CountsOf groups
-    → IsStationInRange (facts_in bytes groups)
-facts_ranged bytes items groups taken are sound (inl is) from counts =
+    → IsStationInRange (facts_in newest bytes groups)
+facts_ranged newest bytes items groups taken are sound (inl is) from counts =
     let here = All-head (AreFrom items) (group its.Station taken) []
     (subst (λ (l : List StationGroup). All (AreFrom items) l) is from) in
     let often = All-head CountsOf (group its.Station taken) []
     (subst (λ (l : List StationGroup). All CountsOf l) is counts) in
     let says = section_ranged bytes are taken
     (each_stands station_tables bytes its.Station items taken sound here) often in
-    subst (λ (l : List StationGroup). IsStationInRange (facts_in bytes l)) (sym is)
-    (made_ranged bytes are taken says no_head (nothing_says bytes))
-facts_ranged bytes items groups taken are sound (inr (inside, is)) from counts =
+    subst (λ (l : List StationGroup). IsStationInRange (facts_in newest bytes l)) (sym is)
+    (made_ranged newest bytes are taken says no_head (nothing_says bytes))
+facts_ranged newest bytes items groups taken are sound (inr (inside, is)) from counts =
     let first : StationGroup = group its.Certificate inside in
     let second : StationGroup = group its.Station taken in
     let all_from = subst (λ (l : List StationGroup). All (AreFrom items) l) is from in
@@ -169,25 +172,26 @@ facts_ranged bytes items groups taken are sound (inr (inside, is)) from counts =
     let often = All-head CountsOf second [] (All-tail CountsOf first (second ∷ []) all_counts) in
     let says = section_ranged bytes are taken
     (each_stands station_tables bytes its.Station items taken sound here) often in
-    subst (λ (l : List StationGroup). IsStationInRange (facts_in bytes l)) (sym is)
-    (made_ranged bytes are taken says (head_of inside)
+    subst (λ (l : List StationGroup). IsStationInRange (facts_in newest bytes l)) (sym is)
+    (made_ranged newest bytes are taken says (head_of inside)
     (section_says station_tables its.Certificate kind.Certificate certificates bytes are inside
     (each_stands station_tables bytes its.Certificate items inside sound there)))
 
 -- ---- the law
 
 pub station_in_range : StationsReadAreInRange
-station_in_range bytes facts used are is =
+station_in_range newest bytes facts used are is =
     by (document_of station_tables (length bytes) (items_of max_station bytes)) refl is
   where
     by : (read : Result (Document StationSection (Value StationValue)) ReadRefusal)
         → document_of station_tables (length bytes) (items_of max_station bytes) ≡ read
-        → with_facts bytes (finish kept_with none_kept read) ≡ Ok (facts, used) → IsStationInRange facts
+        → with_facts newest bytes (finish kept_with none_kept read) ≡ Ok (facts, used) → IsStationInRange facts
     by (Err refusal) got e = absurd (cc (e))
     by (Ok document) got e =
         let contents = items_of max_station bytes in
         let has = sections_are bytes document got in
-        subst IsStationInRange (same_facts (facts_in bytes document.groups) facts document.used used e)
-        (facts_ranged bytes contents.items document.groups has.part.whole.taken are (all_sound 0 max_station bytes)
+        subst IsStationInRange (same_facts (facts_in newest bytes document.groups) facts document.used used e)
+        (facts_ranged newest bytes contents.items document.groups has.part.whole.taken are
+        (all_sound 0 max_station bytes)
         (groups_are document has) (are_said station_tables (length bytes) contents document got)
         (stand_as_often station_tables (length bytes) contents document got))

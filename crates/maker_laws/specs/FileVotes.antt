@@ -6,6 +6,7 @@ use Rattle.dir_bytes.specs.Causes.{last_moment}
 use Rattle.bandwidth_file.specs.Files.{IsBandFile}
 use Rattle.bandwidth_file.specs.declared.file.BandFile.{BandFile}
 use Rattle.flag_rules.specs.declared.ruling.Ruling.{Ruling}
+use Rattle.count_terms.specs.declared.newest.Newest.{Newest}
 use Rattle.station_input.specs.Reading.{station_of}
 use Rattle.station_input.specs.declared.facts.StationFacts.{StationFacts}
 use Rattle.vote_terms.specs.Votes.{ReadVote}
@@ -26,9 +27,10 @@ pub record IsToldStation (station : StationFacts) : Type 0 where
   pub is_file : IsBandFile content file
   pub input : List ℕ
   pub bytes : IsBytes input
+  pub newest : Newest
   pub given : StationFacts
   pub used : ℕ
-  pub read : station_of input ≡ Ok (given, used)
+  pub read : station_of newest input ≡ Ok (given, used)
   pub told : station ≡ record given { measured = told_relays file.relays given.measured }
 
 -- It is what a station of a vote may be given.

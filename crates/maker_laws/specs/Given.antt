@@ -2,6 +2,7 @@
 use Rattle.std.specs.Prelude.{◌≡◌, ℕ, ◌≤◌, List, length, All, Ok}
 use Rattle.base64.specs.GeneralPurpose.{IsBytes}
 use Rattle.dir_bytes.specs.Causes.{last_moment}
+use Rattle.count_terms.specs.declared.newest.Newest.{Newest}
 use Rattle.descriptor_doc.specs.Reading.{descriptor_of}
 use Rattle.descriptor_doc.specs.declared.descriptor.Descriptor.{Descriptor}
 use Rattle.station_input.specs.Reading.{station_of}
@@ -17,16 +18,17 @@ use Rattle.vote_maker.specs.Made.{Basis, schedule_in}
 pub record IsStation (station : StationFacts) : Type 0 where
   pub input : List ℕ
   pub bytes : IsBytes input
+  pub newest : Newest
   pub given : StationFacts
   pub used : ℕ
-  pub read : station_of input ≡ Ok (given, used)
+  pub read : station_of newest input ≡ Ok (given, used)
   pub same : station ≡ record given { measured = station.measured }
   pub measured : All IsMeasuredInRange station.measured
 
 -- What was read is such.
 abbrev pub StationsReadAreStations : Type 0
-StationsReadAreStations = (input : List ℕ) (station : StationFacts) (used : ℕ) → IsBytes input
-    → station_of input ≡ Ok (station, used) → IsStation station
+StationsReadAreStations = (newest : Newest) (input : List ℕ) (station : StationFacts) (used : ℕ) → IsBytes input
+    → station_of newest input ≡ Ok (station, used) → IsStation station
 
 -- What a descriptor says was read of an input, which it begins.
 pub record IsDescriptor (d : Descriptor) : Type 0 where

@@ -5,6 +5,7 @@ use Rattle.item_terms.specs.Faults.{max_line}
 use Rattle.dirdoc_grammar.specs.Writing.{NewItem, keyword_text}
 use Rattle.frame_terms.specs.declared.keyword.Keyword.TheVariants as the
 use Rattle.frame_values.specs.Items.{bare, item_if}
+use Rattle.count_terms.specs.declared.newest.Newest.{Newest}
 use Rattle.station_input.specs.Reading.{station_of}
 use Rattle.station_input.specs.declared.facts.StationFacts.{StationFacts}
 use Rattle.vote_terms.specs.declared.facts.VoteFacts.{VoteFacts}
@@ -37,5 +38,5 @@ pub record SaysAsGiven (facts : VoteFacts) (station : StationFacts) : Type 0 whe
 -- Where that was read of bytes, these lines are no longer than a line may be.
 abbrev pub GivenLinesAreShort : Type 0
 GivenLinesAreShort =
-    (bytes : List ℕ) (station : StationFacts) (used : ℕ) (facts : VoteFacts)
-    → station_of bytes ≡ Ok (station, used) → SaysAsGiven facts station → HasShortLines facts
+    (newest : Newest) (bytes : List ℕ) (station : StationFacts) (used : ℕ) (facts : VoteFacts)
+    → station_of newest bytes ≡ Ok (station, used) → SaysAsGiven facts station → HasShortLines facts

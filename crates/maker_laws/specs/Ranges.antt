@@ -8,6 +8,7 @@ use Rattle.frame_values.specs.Ranges.{AreTwenty}
 use Rattle.authority_certs.specs.declared.cert.Cert.{Cert}
 use Rattle.certificate_laws.specs.Again.{SaysInRange}
 use Rattle.station_input.specs.declared.frame_said.MeasuredRelay.{MeasuredRelay}
+use Rattle.count_terms.specs.declared.newest.Newest.{Newest}
 use Rattle.station_input.specs.Reading.{station_of}
 use Rattle.station_input.specs.declared.facts.StationFacts.{StationFacts}
 use Rattle.vote_laws.specs.Again.{AreListsInRange}
@@ -39,5 +40,5 @@ pub record IsStationInRange (facts : StationFacts) : Type 0 where
 
 -- What is read of bytes is such.
 abbrev pub StationsReadAreInRange : Type 0
-StationsReadAreInRange = (bytes : List ℕ) (facts : StationFacts) (used : ℕ) → IsBytes bytes
-    → station_of bytes ≡ Ok (facts, used) → IsStationInRange facts
+StationsReadAreInRange = (newest : Newest) (bytes : List ℕ) (facts : StationFacts) (used : ℕ) → IsBytes bytes
+    → station_of newest bytes ≡ Ok (facts, used) → IsStationInRange facts

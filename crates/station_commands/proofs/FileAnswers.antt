@@ -5,6 +5,7 @@ use Rattle.key_port.specs.Answers.{Relation, Rules}
 use Rattle.key_port.specs.Signing.{SignerSteps}
 use Rattle.bandwidth_file.specs.declared.file.BandFile.{BandFile}
 use Rattle.bandwidth_file.specs.declared.front.Front.{Front}
+use Rattle.count_terms.specs.declared.newest.Newest.{Newest}
 use Rattle.frame_terms.specs.declared.fault.FrameFault.{FrameFault}
 use Rattle.daemon_words.specs.Stops.{Answered}
 use Rattle.daemon_words.specs.declared.stop.Stop.{Stop}
@@ -19,22 +20,23 @@ use Rattle.station_commands.specs.WithFile.{BeginsWithFile, FileVoteAnswers, IsB
 use Rattle.station_commands.specs.declared.file_refusal.BandwidthRefusal.{BandwidthRefusal}
 use Rattle.station_commands.specs.declared.file_refusal.FileVoteRefusal.{FileVoteRefusal}
 
-module _ {N : Type 0} (rules : Rules) (gives : Relation) (steps : SignerSteps N) (now : ℕ) (bytes : List ℕ) (old new : N) where
+module _ {N : Type 0} (rules : Rules) (gives : Relation) (steps : SignerSteps N) (newest : Newest) (now : ℕ)
+    (bytes : List ℕ) (old new : N) where
   -- what the command answers
   abbrev pub Answers : Result (List ℕ) FileVoteRefusal → Type 0
-  Answers answer = FileVoteAnswers rules gives steps now bytes answer old new
+  Answers answer = FileVoteAnswers rules gives steps newest now bytes answer old new
 
   pub no_file : (why : Stop BandwidthRefusal) → GivesFile bytes now (Err why) → Answered Answers (Err (of_file why))
   no_file stop.Memory is = tt
   no_file (stop.Refused why) is = inl (why, refl, is)
 
   pub no_station : (file : BandFile) (start : ℕ) (why : Stop FrameFault) → BeginsWithFile bytes now file start
-      → GivesStationBehind file start bytes (Err why) → Answered Answers (Err (of_fault why))
+      → GivesStationBehind newest file start bytes (Err why) → Answered Answers (Err (of_fault why))
   no_station file start stop.Memory begins is = tt
   no_station file start (stop.Refused fault) begins is = inr (file, start, begins, inl (fault, refl, is))
 
   module _ (file : BandFile) (start : ℕ) (given : StationFacts) (used : ℕ) (begins : BeginsWithFile bytes now file start)
-      (is : station_behind file start bytes ≡ Ok (given, used)) where
+      (is : station_behind newest file start bytes ≡ Ok (given, used)) where
     pub voted : (text : Vec ℕ)
         → Answered (λ answer. VoteAnswers rules gives steps now given used bytes answer old new) (Ok text)
         → Answered Answers (Ok text)
@@ -75,7 +77,9 @@ file_at bytes slice now moment front same last is =
     subst (λ (b : List ℕ). BeginsWithFile b now front.file front.used) same
     (subst (λ (m : ℕ). BeginsWithFile slice m front.file front.used) (sym last) is.0)
 
-pub station_at : (file : BandFile) (start : ℕ) (bytes slice : List ℕ) (result : Result (StationFacts × ℕ) (Stop FrameFault))
-    → slice ≡ bytes → GivesStationBehind file start slice result → GivesStationBehind file start bytes result
-station_at file start bytes slice result same is =
-    subst (λ (b : List ℕ). GivesStationBehind file start b result) same is
+pub station_at : (newest : Newest) (file : BandFile) (start : ℕ) (bytes slice : List ℕ)
+    (result : Result (StationFacts × ℕ) (Stop FrameFault))
+    → slice ≡ bytes → GivesStationBehind newest file start slice result
+    → GivesStationBehind newest file start bytes result
+station_at newest file start bytes slice result same is =
+    subst (λ (b : List ℕ). GivesStationBehind newest file start b result) same is

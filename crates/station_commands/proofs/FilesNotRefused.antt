@@ -9,6 +9,7 @@ use Rattle.bandwidth_file.specs.declared.file.BandFile.{BandFile}
 use Rattle.bandwidth_file.specs.declared.refusal.BandFault.{BandFault}
 use Rattle.bandwidth_laws.proofs.OneFile.{one_file}
 use Rattle.bandwidth_file.specs.Fronts.{IsFront, end_size, fault_before, front_fault}
+use Rattle.count_terms.specs.declared.newest.Newest.{Newest}
 use Rattle.frame_terms.specs.declared.fault.FrameFault.{FrameFault}
 use Rattle.frame_terms.specs.declared.fault.ReadRefusal.TheVariants as doc
 use Rattle.station_input.specs.declared.facts.StationFacts.{StationFacts}
@@ -47,27 +48,30 @@ no_fault bytes file start fault front is =
     not_there (fault_before bytes (Some front.place)) fault front.file_is.sound
     (ap (λ (p : Option ℕ). fault_before bytes p) (sym front.ends) ∙ is)
 
-file_holds : (rules : Rules) (now : ℕ) (bytes : List ℕ) (why : BandwidthRefusal) → CanMakeVoteWithFile rules now bytes
+file_holds : (rules : Rules) (newest : Newest) (now : ℕ) (bytes : List ℕ) (why : BandwidthRefusal)
+    → CanMakeVoteWithFile rules newest now bytes
     → RefusesFile bytes now why → ⊥
-file_holds rules now bytes (bandwidth.Fault fault) can refuses =
+file_holds rules newest now bytes (bandwidth.Fault fault) can refuses =
     no_fault bytes can.file can.start fault can.begins.front refuses
-file_holds rules now bytes (bandwidth.Old timestamp) can refuses =
+file_holds rules newest now bytes (bandwidth.Old timestamp) can refuses =
     let same = one_front bytes can.file refuses.file can.start refuses.start can.begins.front refuses.front in
     can.begins.young (subst (λ (f : BandFile). IsOld f now) same refuses.old)
 
 -- nor has what stands behind it
-pub not_faulty_behind : (bytes : List ℕ) (file : BandFile) (start : ℕ) (given : StationFacts) (used : ℕ)
-    (fault : FrameFault) → station_behind file start bytes ≡ Ok (given, used) → IsFaultyBehind file start bytes fault → ⊥
-not_faulty_behind bytes file start given used fault reads is =
-    not_both (station_behind file start bytes) (given, used) (doc.Frame fault) reads is
+pub not_faulty_behind : (newest : Newest) (bytes : List ℕ) (file : BandFile) (start : ℕ) (given : StationFacts)
+    (used : ℕ)
+    (fault : FrameFault) → station_behind newest file start bytes ≡ Ok (given, used)
+    → IsFaultyBehind newest file start bytes fault → ⊥
+not_faulty_behind newest bytes file start given used fault reads is =
+    not_both (station_behind newest file start bytes) (given, used) (doc.Frame fault) reads is
 
 module _ {N : Type 0} (gives : Relation) (steps : SignerSteps N) where
-  behind : (rules : Rules) (now : ℕ) (bytes : List ℕ) (old new : N) (why : FileVoteRefusal)
-      (can : CanMakeVoteWithFile rules now bytes)
-      → AnswersBehind rules gives steps now can.file can.start bytes (Err why) old new → IsOfKeysBehind why
-  behind rules now bytes old new why can (inl (fault, told, faulty)) =
-      absurd (not_faulty_behind bytes can.file can.start can.given can.used fault can.read faulty)
-  behind rules now bytes old new why can (inr (given, used, read, (own, told, answer))) =
+  behind : (rules : Rules) (newest : Newest) (now : ℕ) (bytes : List ℕ) (old new : N) (why : FileVoteRefusal)
+      (can : CanMakeVoteWithFile rules newest now bytes)
+      → AnswersBehind rules gives steps newest now can.file can.start bytes (Err why) old new → IsOfKeysBehind why
+  behind rules newest now bytes old new why can (inl (fault, told, faulty)) =
+      absurd (not_faulty_behind newest bytes can.file can.start can.given can.used fault can.read faulty)
+  behind rules newest now bytes old new why can (inr (given, used, read, (own, told, answer))) =
       let whole = sym read ∙ can.read in (
         own,
         told,
@@ -78,11 +82,12 @@ module _ {N : Type 0} (gives : Relation) (steps : SignerSteps N) where
       )
 
   pub files_not_refused : SuchFilesAreNotRefused gives steps
-  files_not_refused rules now bytes old new why can (inl (own, told, refuses)) =
-      absurd (file_holds rules now bytes own can refuses)
-  files_not_refused rules now bytes old new why can (inr (file, start, begins, answer)) =
+  files_not_refused rules newest now bytes old new why can (inl (own, told, refuses)) =
+      absurd (file_holds rules newest now bytes own can refuses)
+  files_not_refused rules newest now bytes old new why can (inr (file, start, begins, answer)) =
       let same = one_front bytes can.file file can.start start can.begins.front begins.front in
       let place = one_start bytes can.file file can.start start can.begins.front begins.front in
-      behind rules now bytes old new why can
-      (subst (λ (n : ℕ). AnswersBehind rules gives steps now can.file n bytes (Err why) old new) place
-      (subst (λ (f : BandFile). AnswersBehind rules gives steps now f start bytes (Err why) old new) same answer))
+      behind rules newest now bytes old new why can
+      (subst (λ (n : ℕ). AnswersBehind rules gives steps newest now can.file n bytes (Err why) old new) place
+      (subst (λ (f : BandFile). AnswersBehind rules gives steps newest now f start bytes (Err why) old new) same
+      answer))

@@ -4,6 +4,7 @@ use Rattle.std.proofs.Common.{inl, inr}
 use Rattle.std.specs.Prelude.{All, IsTrue}
 use Rattle.std.proofs.lemmas.Bool.{false≢true}
 use Rattle.std.proofs.lemmas.List.Elements.{All-weaker}
+use Rattle.count_terms.specs.declared.newest.Newest.{Newest}
 use Rattle.dir_values.specs.Rosters.{has_member}
 use Rattle.dir_values.specs.declared.digest.Fingerprint.{Fingerprint}
 use Rattle.key_port.specs.Answers.{Relation, Rules}
@@ -49,9 +50,10 @@ use Rattle.station_commands.proofs.OneBasis.{one_basis, one_station, one_used}
 
 -- ---- the station
 
-pub not_faulty : (bytes : List ℕ) (given : StationFacts) (used : ℕ) (fault : FrameFault)
-    → station_of bytes ≡ Ok (given, used) → station_of bytes ≡ Err (doc.Frame fault) → ⊥
-not_faulty bytes given used fault reads is = not_both (station_of bytes) (given, used) (doc.Frame fault) reads is
+pub not_faulty : (newest : Newest) (bytes : List ℕ) (given : StationFacts) (used : ℕ) (fault : FrameFault)
+    → station_of newest bytes ≡ Ok (given, used) → station_of newest bytes ≡ Err (doc.Frame fault) → ⊥
+not_faulty newest bytes given used fault reads is =
+    not_both (station_of newest bytes) (given, used) (doc.Frame fault) reads is
 
 pub in_order : (given : StationFacts) (schedule : Schedule) (why : OrderWord) → IsInOrder given schedule
     → IsOutOfOrder given why → ⊥
@@ -182,11 +184,11 @@ module _ {N : Type 0} (rules : Rules) (gives : Relation) (steps : SignerSteps N)
 
 module _ {N : Type 0} (gives : Relation) (steps : SignerSteps N) where
   pub not_refused : SuchAreNotRefused gives steps
-  not_refused rules now bytes old new why can (inl (fault, told, faulty)) =
-      absurd (not_faulty bytes can.given can.used fault can.read faulty)
-  not_refused rules now bytes old new why can (inr (given, used, read, answer)) =
-      let station = one_station bytes given can.given used can.used read can.read in
-      let behind = one_used bytes given can.given used can.used read can.read in
+  not_refused rules newest now bytes old new why can (inl (fault, told, faulty)) =
+      absurd (not_faulty newest bytes can.given can.used fault can.read faulty)
+  not_refused rules newest now bytes old new why can (inr (given, used, read, answer)) =
+      let station = one_station newest bytes given can.given used can.used read can.read in
+      let behind = one_used newest bytes given can.given used can.used read can.read in
       none_refused rules gives steps now can.given can.used bytes old new why can.can
       (subst (λ (n : ℕ). RefusesVote rules gives steps now can.given n bytes why old new) behind
       (subst (λ (s : StationFacts). RefusesVote rules gives steps now s used bytes why old new) station answer))

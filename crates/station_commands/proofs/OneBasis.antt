@@ -1,5 +1,6 @@
 -- A station has one basis at a moment, of the descriptors that it is given.
 use Rattle.std.proofs.Common.{◌≡◌, ℕ, List, Result, Ok, Err, sym, ap, ◌∙◌, arith}
+use Rattle.count_terms.specs.declared.newest.Newest.{Newest}
 use Rattle.frame_terms.specs.declared.fault.ReadRefusal.{ReadRefusal}
 use Rattle.key_port.specs.Answers.{Rules}
 use Rattle.station_input.specs.Reading.{station_of}
@@ -22,13 +23,14 @@ used_in (Ok read) = read.1
 used_in (Err why) = 0
 
 -- two readings of one input are of one station
-pub one_station : (bytes : List ℕ) (a b : StationFacts) (m n : ℕ) → station_of bytes ≡ Ok (a, m)
-    → station_of bytes ≡ Ok (b, n) → a ≡ b
-one_station bytes a b m n first second = ap (given_in a) (sym first ∙ second)
+pub one_station : (newest : Newest) (bytes : List ℕ) (a b : StationFacts) (m n : ℕ)
+    → station_of newest bytes ≡ Ok (a, m)
+    → station_of newest bytes ≡ Ok (b, n) → a ≡ b
+one_station newest bytes a b m n first second = ap (given_in a) (sym first ∙ second)
 
-pub one_used : (bytes : List ℕ) (a b : StationFacts) (m n : ℕ) → station_of bytes ≡ Ok (a, m)
-    → station_of bytes ≡ Ok (b, n) → m ≡ n
-one_used bytes a b m n first second = ap used_in (sym first ∙ second)
+pub one_used : (newest : Newest) (bytes : List ℕ) (a b : StationFacts) (m n : ℕ) → station_of newest bytes ≡ Ok (a, m)
+    → station_of newest bytes ≡ Ok (b, n) → m ≡ n
+one_used newest bytes a b m n first second = ap used_in (sym first ∙ second)
 
 -- two pools of one input are one
 one_pool : (rules : Rules) (start : ℕ) (bytes : List ℕ) (a b : Pooled) → IsPoolOf rules start bytes a

@@ -2,6 +2,7 @@
 use Rattle.std.proofs.Common.{◌≡◌, ℕ, ◌+◌, Bool, true, false, List, length, Result, Ok, Err, refl, sym, ap, subst, ◌∙◌}
 use Rattle.std.proofs.Common.{inl, inr, Option, Some, None}
 use Rattle.std.specs.Global.{Vec}
+use Rattle.count_terms.specs.declared.newest.Newest.{Newest}
 use Rattle.blank_lines.specs.Ends.{ends_at}
 use Rattle.key_port.specs.Answers.{Relation, Rules}
 use Rattle.key_port.specs.Signing.{SignerSteps}
@@ -148,17 +149,18 @@ module _ {N : Type 0} (rules : Rules) (gives : Relation) (steps : SignerSteps N)
 
 -- ---- the command, call by call
 
-module _ {N : Type 0} (rules : Rules) (gives : Relation) (steps : SignerSteps N) (now : ℕ) (bytes : List ℕ) (old new : N) where
+module _ {N : Type 0} (rules : Rules) (gives : Relation) (steps : SignerSteps N) (newest : Newest) (now : ℕ)
+    (bytes : List ℕ) (old new : N) where
   -- what the command answers
   abbrev pub Answers : Result (List ℕ) MakeVoteRefusal → Type 0
-  Answers answer = MakeVoteAnswers rules gives steps now bytes answer old new
+  Answers answer = MakeVoteAnswers rules gives steps newest now bytes answer old new
 
-  pub faulty : (why : Stop FrameFault) → GivesStation bytes (Err why) → Answered Answers (Err (of_fault why))
+  pub faulty : (why : Stop FrameFault) → GivesStation newest bytes (Err why) → Answered Answers (Err (of_fault why))
   faulty stop.Memory is = tt
   faulty (stop.Refused fault) is = inl (fault, refl, is)
 
   pub answered : (given : StationFacts) (used : ℕ) (result : Result (Vec ℕ) (Stop MakeVoteRefusal))
-      → station_of bytes ≡ Ok (given, used)
+      → station_of newest bytes ≡ Ok (given, used)
       → Answered (λ answer. VoteAnswers rules gives steps now given used bytes answer old new) result
       → Answered Answers result
   answered given used (Ok text) is told = inr (given, used, is, told)

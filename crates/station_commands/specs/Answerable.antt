@@ -6,6 +6,7 @@ use Rattle.authority_certs.specs.Checks.{IsCertified, certifies, crosscertifies}
 use Rattle.authority_certs.specs.declared.cert.Cert.{Cert}
 use Rattle.descriptor_doc.specs.Checks.{is_ed_refused, signs}
 use Rattle.descriptor_doc.specs.declared.descriptor.Descriptor.{Descriptor}
+use Rattle.count_terms.specs.declared.newest.Newest.{Newest}
 use Rattle.flag_rules.specs.Rules.{AreAllowed, list_allows}
 use Rattle.flag_rules.specs.declared.ruling.Ruling.{Ruling}
 use Rattle.vote_text.specs.Made.{made_text}
@@ -49,21 +50,21 @@ pub record CanVote (rules : Rules) (now : ℕ) (given : StationFacts) (used : �
   pub short : IsShort its
 
 -- The input begins with what a station is given, for which a vote can be made of what stands behind it.
-pub record CanMakeVote (rules : Rules) (now : ℕ) (bytes : List ℕ) : Type 0 where
+pub record CanMakeVote (rules : Rules) (newest : Newest) (now : ℕ) (bytes : List ℕ) : Type 0 where
   pub given : StationFacts
   pub used : ℕ
-  pub read : station_of bytes ≡ Ok (given, used)
+  pub read : station_of newest bytes ≡ Ok (given, used)
   pub can : CanVote rules now given used bytes
 
 -- The input begins with a bandwidth file that is not too old at the moment, and behind it with what a station is given, for
 -- which, with the bandwidths of the file, a vote can be made of what follows.
-pub record CanMakeVoteWithFile (rules : Rules) (now : ℕ) (bytes : List ℕ) : Type 0 where
+pub record CanMakeVoteWithFile (rules : Rules) (newest : Newest) (now : ℕ) (bytes : List ℕ) : Type 0 where
   pub file : BandFile
   pub start : ℕ
   pub begins : BeginsWithFile bytes now file start
   pub given : StationFacts
   pub used : ℕ
-  pub read : station_behind file start bytes ≡ Ok (given, used)
+  pub read : station_behind newest file start bytes ≡ Ok (given, used)
   pub can : CanVote rules now given used bytes
 
 -- it is the verifier's or the signer's
@@ -76,11 +77,12 @@ IsOfKeysBehind why = (own : MakeVoteRefusal) × (why ≡ by_vote own) × IsOfKey
 
 -- an input that a vote can be made of at a moment is refused only where the verifier or the signer failed
 abbrev pub SuchAreNotRefused : {N : Type 0} → Relation → SignerSteps N → Type 0
-SuchAreNotRefused {N} gives steps = (rules : Rules) (now : ℕ) (bytes : List ℕ) (old new : N) (why : MakeVoteRefusal)
-    → CanMakeVote rules now bytes → MakeVoteAnswers rules gives steps now bytes (Err why) old new → IsOfKeys why
+SuchAreNotRefused {N} gives steps = (rules : Rules) (newest : Newest) (now : ℕ) (bytes : List ℕ) (old new : N)
+    (why : MakeVoteRefusal) → CanMakeVote rules newest now bytes
+    → MakeVoteAnswers rules gives steps newest now bytes (Err why) old new → IsOfKeys why
 
 -- the same of an input with a bandwidth file in front
 abbrev pub SuchFilesAreNotRefused : {N : Type 0} → Relation → SignerSteps N → Type 0
-SuchFilesAreNotRefused {N} gives steps = (rules : Rules) (now : ℕ) (bytes : List ℕ) (old new : N) (why : FileVoteRefusal)
-    → CanMakeVoteWithFile rules now bytes → FileVoteAnswers rules gives steps now bytes (Err why) old new
-    → IsOfKeysBehind why
+SuchFilesAreNotRefused {N} gives steps = (rules : Rules) (newest : Newest) (now : ℕ) (bytes : List ℕ) (old new : N)
+    (why : FileVoteRefusal) → CanMakeVoteWithFile rules newest now bytes
+    → FileVoteAnswers rules gives steps newest now bytes (Err why) old new → IsOfKeysBehind why

@@ -3,6 +3,7 @@ use Rattle.std.specs.Prelude.{◌≡◌, ℕ, ◌≤◌, List, length, Some, Res
 use Rattle.bandwidth_file.specs.declared.file.BandFile.{BandFile}
 use Rattle.bandwidth_file.specs.Fronts.{IsFront, front_fault}
 use Rattle.bandwidth_file.specs.declared.front.Front.{Front}
+use Rattle.count_terms.specs.declared.newest.Newest.{Newest}
 use Rattle.flag_rules.specs.Rules.{AreApart}
 use Rattle.frame_terms.specs.declared.fault.ReadRefusal.{ReadRefusal}
 use Rattle.frame_terms.specs.declared.fault.ReadRefusal.TheVariants as read
@@ -42,8 +43,8 @@ fault_behind start refused = station_fault (refusal_behind start refused)
 
 -- what a station is given behind the file, and the place behind it, with rules of which no two are of one relay; or its fault,
 -- or there was no memory
-abbrev pub GivesStationBehind : BandFile → ℕ → List ℕ → Result (StationFacts × ℕ) (Stop FrameFault) → Type 0
-GivesStationBehind file start bytes (Ok (given, used)) =
-    (station_behind file start bytes ≡ Ok (given, used)) × (used ≤ length bytes) × AreApart given.rules
-GivesStationBehind file start bytes (Err stop.Memory) = Unit {0}
-GivesStationBehind file start bytes (Err (stop.Refused fault)) = IsFaultyBehind file start bytes fault
+abbrev pub GivesStationBehind : Newest → BandFile → ℕ → List ℕ → Result (StationFacts × ℕ) (Stop FrameFault) → Type 0
+GivesStationBehind newest file start bytes (Ok (given, used)) =
+    (station_behind newest file start bytes ≡ Ok (given, used)) × (used ≤ length bytes) × AreApart given.rules
+GivesStationBehind newest file start bytes (Err stop.Memory) = Unit {0}
+GivesStationBehind newest file start bytes (Err (stop.Refused fault)) = IsFaultyBehind newest file start bytes fault

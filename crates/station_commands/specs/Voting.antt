@@ -6,6 +6,7 @@ use Rattle.key_port.specs.Answers.{Relation, Rules}
 use Rattle.key_port.specs.Signing.{SignerSteps}
 use Rattle.flag_rules.specs.Rules.{RuleAlike, list_allows}
 use Rattle.flag_rules.specs.declared.operator.OperatorRule.{OperatorRule}
+use Rattle.count_terms.specs.declared.newest.Newest.{Newest}
 use Rattle.frame_terms.specs.declared.fault.ReadRefusal.TheVariants as read
 use Rattle.frame_terms.specs.declared.fault.FrameFault.{FrameFault}
 use Rattle.daemon_words.specs.declared.stop.Stop.{Stop}
@@ -97,17 +98,17 @@ VoteAnswers rules gives steps now given used bytes (Err why) old new =
 -- ---- the command
 
 -- the answer is that the input does not begin with what a station is given
-abbrev pub IsFaulty : List ℕ → Result (List ℕ) MakeVoteRefusal → Type 0
-IsFaulty bytes answer =
-    (fault : FrameFault) × (answer ≡ Err (by_fault fault)) × (station_of bytes ≡ Err (read.Frame fault))
+abbrev pub IsFaulty : Newest → List ℕ → Result (List ℕ) MakeVoteRefusal → Type 0
+IsFaulty newest bytes answer =
+    (fault : FrameFault) × (answer ≡ Err (by_fault fault)) × (station_of newest bytes ≡ Err (read.Frame fault))
 
--- what the command answers to an input at a moment: why it does not begin with what a station is given; or else what is
--- answered for that station
-abbrev pub MakeVoteAnswers : {N : Type 0} → Rules → Relation → SignerSteps N → ℕ → List ℕ
+-- what the command answers to an input at a moment, where this is the newest method that is known: why it does not
+-- begin with what a station is given; or else what is answered for that station
+abbrev pub MakeVoteAnswers : {N : Type 0} → Rules → Relation → SignerSteps N → Newest → ℕ → List ℕ
     → Result (List ℕ) MakeVoteRefusal → N → N → Type 0
-MakeVoteAnswers rules gives steps now bytes answer old new =
-    IsFaulty bytes answer
-    ⊎ ((given : StationFacts) × (used : ℕ) × (station_of bytes ≡ Ok (given, used))
+MakeVoteAnswers rules gives steps newest now bytes answer old new =
+    IsFaulty newest bytes answer
+    ⊎ ((given : StationFacts) × (used : ℕ) × (station_of newest bytes ≡ Ok (given, used))
     × VoteAnswers rules gives steps now given used bytes answer old new)
 
 -- ---- what is asked
@@ -132,7 +133,7 @@ IsBeforeSigner _ = ⊥
 -- ---- what the private functions give
 
 -- what a station is given, and the place behind it, or its first fault, or there was no memory
-abbrev pub GivesStation : List ℕ → Result (StationFacts × ℕ) (Stop FrameFault) → Type 0
-GivesStation bytes (Ok (given, used)) = (station_of bytes ≡ Ok (given, used)) × (used ≤ length bytes)
-GivesStation bytes (Err stop.Memory) = Unit {0}
-GivesStation bytes (Err (stop.Refused fault)) = station_of bytes ≡ Err (read.Frame fault)
+abbrev pub GivesStation : Newest → List ℕ → Result (StationFacts × ℕ) (Stop FrameFault) → Type 0
+GivesStation newest bytes (Ok (given, used)) = (station_of newest bytes ≡ Ok (given, used)) × (used ≤ length bytes)
+GivesStation newest bytes (Err stop.Memory) = Unit {0}
+GivesStation newest bytes (Err (stop.Refused fault)) = station_of newest bytes ≡ Err (read.Frame fault)

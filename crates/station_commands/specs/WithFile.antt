@@ -5,6 +5,7 @@ use Rattle.key_port.specs.Signing.{SignerSteps}
 use Rattle.bandwidth_file.specs.Ages.{IsOld}
 use Rattle.bandwidth_file.specs.declared.file.BandFile.{BandFile}
 use Rattle.bandwidth_file.specs.Fronts.{IsFront, front_fault}
+use Rattle.count_terms.specs.declared.newest.Newest.{Newest}
 use Rattle.frame_terms.specs.declared.fault.ReadRefusal.{ReadRefusal}
 use Rattle.frame_terms.specs.declared.fault.ReadRefusal.TheVariants as read
 use Rattle.frame_terms.specs.declared.fault.FrameFault.{FrameFault}
@@ -56,8 +57,8 @@ told_from file start (Ok found) = Ok (told_station file found.0, start + found.1
 told_from file start (Err refusal) = Err (refusal_behind start refusal)
 
 -- what a station is given that stands in the input from a place on, where a file tells the bandwidths of relays
-abbrev pub station_behind : BandFile → ℕ → List ℕ → Result (StationFacts × ℕ) ReadRefusal
-station_behind file start bytes = told_from file start (station_of (drop start bytes))
+abbrev pub station_behind : Newest → BandFile → ℕ → List ℕ → Result (StationFacts × ℕ) ReadRefusal
+station_behind newest file start bytes = told_from file start (station_of newest (drop start bytes))
 
 -- ---- the command
 
@@ -66,25 +67,26 @@ abbrev pub IsOfFile : List ℕ → ℕ → Result (List ℕ) FileVoteRefusal →
 IsOfFile bytes now answer = (why : BandwidthRefusal) × (answer ≡ Err (by_file why)) × RefusesFile bytes now why
 
 -- what stands behind the file is not what a station is given, with this fault
-abbrev pub IsFaultyBehind : BandFile → ℕ → List ℕ → FrameFault → Type 0
-IsFaultyBehind file start bytes fault = station_behind file start bytes ≡ Err (read.Frame fault)
+abbrev pub IsFaultyBehind : Newest → BandFile → ℕ → List ℕ → FrameFault → Type 0
+IsFaultyBehind newest file start bytes fault = station_behind newest file start bytes ≡ Err (read.Frame fault)
 
 -- what is answered for what stands behind the file: why that is not what a station is given; or else what is answered for
 -- that station, with the bandwidths of the file
-abbrev pub AnswersBehind : {N : Type 0} → Rules → Relation → SignerSteps N → ℕ → BandFile → ℕ → List ℕ
+abbrev pub AnswersBehind : {N : Type 0} → Rules → Relation → SignerSteps N → Newest → ℕ → BandFile → ℕ → List ℕ
     → Result (List ℕ) FileVoteRefusal → N → N → Type 0
-AnswersBehind rules gives steps now file start bytes answer old new =
-    ((fault : FrameFault) × (answer ≡ Err (by_fault fault)) × IsFaultyBehind file start bytes fault)
-    ⊎ ((given : StationFacts) × (used : ℕ) × (station_behind file start bytes ≡ Ok (given, used))
+AnswersBehind rules gives steps newest now file start bytes answer old new =
+    ((fault : FrameFault) × (answer ≡ Err (by_fault fault)) × IsFaultyBehind newest file start bytes fault)
+    ⊎ ((given : StationFacts) × (used : ℕ) × (station_behind newest file start bytes ≡ Ok (given, used))
     × AnsweredAs by_vote (λ own. VoteAnswers rules gives steps now given used bytes own old new) answer)
 
--- what the command answers to an input at a moment: why the file is refused; or else what is answered behind it
-abbrev pub FileVoteAnswers : {N : Type 0} → Rules → Relation → SignerSteps N → ℕ → List ℕ
+-- what the command answers to an input at a moment, where this is the newest method that is known: why the file is
+-- refused; or else what is answered behind it
+abbrev pub FileVoteAnswers : {N : Type 0} → Rules → Relation → SignerSteps N → Newest → ℕ → List ℕ
     → Result (List ℕ) FileVoteRefusal → N → N → Type 0
-FileVoteAnswers rules gives steps now bytes answer old new =
+FileVoteAnswers rules gives steps newest now bytes answer old new =
     IsOfFile bytes now answer
     ⊎ ((file : BandFile) × (start : ℕ) × BeginsWithFile bytes now file start
-    × AnswersBehind rules gives steps now file start bytes answer old new)
+    × AnswersBehind rules gives steps newest now file start bytes answer old new)
 
 -- ---- what is asked
 

@@ -7,6 +7,7 @@ ghost use Rattle.station_commands.specs.WithFile.{told_station};
 use crate::descriptors::from_place;
 use crate::measured_told::told_by;
 use bandwidth_file::{BandFile, Front};
+use count_terms::Newest;
 use daemon_words::Stop;
 use dir_bytes::{Memory, Seq};
 use frame_terms::{FrameFault, ReadRefusal};
@@ -34,21 +35,23 @@ fn fault_behind(start: usize, refusal: ReadRefusal) -> Stop<FrameFault>
     }
 }
 
-/// What a station is given behind a bandwidth file, which tells the bandwidths of its relays, and the place behind it.
+/// What a station that knows this newest method is given behind a bandwidth file, which tells the bandwidths of its relays, and the
+/// place behind it.
 ///
 /// # Errors
 /// `Refused` is the first fault of what stands there, with its place in the input. `Memory` is want of memory.
 pub fn station_behind(
     alloc: Global,
+    newest: Newest,
     bytes: &[u8],
     front: &Front,
 ) -> Result<(StationFacts, usize), Stop<FrameFault>>
     requires short { length bytes.now < 2 ^ 61 }
     requires within { front.now.used ≤ length bytes.now }
-    ensures { its.GivesStationBehind front.now.file front.now.used bytes.now result }
+    ensures { its.GivesStationBehind newest front.now.file front.now.used bytes.now result }
 {
     relays_are_named_once();
-    match read_station(alloc, &bytes[front.used..]) {
+    match read_station(alloc, newest, &bytes[front.used..]) {
         Ok((station, used)) => Ok((told(alloc, station, &front.file)?, front.used + used)),
         Err(refusal) => Err(fault_behind(front.used, refusal)),
     }

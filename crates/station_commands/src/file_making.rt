@@ -12,6 +12,7 @@ use crate::front::file_of;
 use crate::making::vote_from;
 use crate::refusal::MakeVoteRefusal;
 use bytes::Bytes;
+use count_terms::Newest;
 use daemon_words::Stop;
 use dir_bytes::Clock;
 use key_port::{Signer, Verifier};
@@ -25,13 +26,14 @@ use std::alloc::Global;
 /// whole input. `Memory` is want of memory.
 pub fn make_vote_with_file<C: Clock, V: Verifier, N: Signer>(
     alloc: Global,
+    newest: Newest,
     bytes: &Bytes,
     clock: &mut C,
     verifier: &mut V,
     signer: &mut N,
 ) -> Result<Vec<u8>, Stop<FileVoteRefusal>>
     requires { length bytes.now < 2 ^ 61 }
-    ensures answer { Answered (λ answer. FileVoteAnswers (rules V.may_accept V.may_refuse) N.may_give N.steps (C.last clock.new) bytes.now answer signer.old signer.new) result }
+    ensures answer { Answered (λ answer. FileVoteAnswers (rules V.may_accept V.may_refuse) N.may_give N.steps newest (C.last clock.new) bytes.now answer signer.old signer.new) result }
     ensures clock { Counts (C.asks clock.old) (C.asks clock.new) }
     ensures verifier_fault { result ≡ Err (Stop.Refused (FileVoteRefusal.Vote MakeVoteRefusal.Verifier)) → Rose (V.faults verifier.old) (V.faults verifier.new) }
     ensures verifier_told { V.faults verifier.old < V.faults verifier.new → result ≡ Err (Stop.Refused (FileVoteRefusal.Vote MakeVoteRefusal.Verifier)) }
@@ -45,7 +47,7 @@ pub fn make_vote_with_file<C: Clock, V: Verifier, N: Signer>(
         Ok(front) => front,
         Err(why) => return Err(of_file(why)),
     };
-    let (station, used) = match station_behind(alloc, bytes, &front) {
+    let (station, used) = match station_behind(alloc, newest, bytes, &front) {
         Ok((station, used)) => (station, used),
         Err(why) => return Err(of_fault(why)),
     };

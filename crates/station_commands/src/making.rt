@@ -14,6 +14,7 @@ use crate::refusal::{MakeVoteRefusal, StationRefusal};
 use crate::told::{of_fault, of_order, of_pool, station_stop};
 use crate::voting::vote_of;
 use bytes::Bytes;
+use count_terms::Newest;
 use daemon_words::Stop;
 use dir_bytes::Clock;
 use frame_terms::{FrameFault, ReadRefusal};
@@ -23,15 +24,19 @@ use station_laws::relays_are_named_once;
 use std::alloc::Global;
 use vote_schedule::{Config, next_valid_after};
 
-/// What a station is given, and the place behind it, where its descriptors begin.
+/// What a station that knows this newest method is given, and the place behind it, where its descriptors begin.
 ///
 /// # Errors
 /// `Refused` is its first fault. `Memory` is want of memory.
-pub fn station_of(alloc: Global, bytes: &Bytes) -> Result<(StationFacts, usize), Stop<FrameFault>>
+pub fn station_of(
+    alloc: Global,
+    newest: Newest,
+    bytes: &Bytes,
+) -> Result<(StationFacts, usize), Stop<FrameFault>>
     requires { length bytes.now < 2 ^ 61 }
-    ensures { voting.GivesStation bytes.now result }
+    ensures { voting.GivesStation newest bytes.now result }
 {
-    match read_station(alloc, bytes) {
+    match read_station(alloc, newest, bytes) {
         Ok(read) => Ok(read),
         Err(ReadRefusal::Memory) => Err(Stop::Memory),
         Err(ReadRefusal::Frame(fault)) => Err(Stop::Refused(fault)),
@@ -87,8 +92,8 @@ pub fn vote_from<V: Verifier, N: Signer>(
     vote_of(alloc, station, &pool, valid_after, now, verifier, signer)
 }
 
-/// The signed vote of the station that the input begins with, of the descriptors that follow, for the next period of its
-/// schedule at the moment that the clock gives.
+/// The signed vote of the station that the input begins with and that knows this newest method, of the descriptors that follow, for
+/// the next period of its schedule at the moment that the clock gives.
 ///
 /// # Errors
 /// `Refused` by the first that applies: the fault of what the station is given; its roster, its schedule, its own authority;
@@ -97,13 +102,14 @@ pub fn vote_from<V: Verifier, N: Signer>(
 /// it was asked. `Memory` is want of memory.
 pub fn make_vote<C: Clock, V: Verifier, N: Signer>(
     alloc: Global,
+    newest: Newest,
     bytes: &Bytes,
     clock: &mut C,
     verifier: &mut V,
     signer: &mut N,
 ) -> Result<Vec<u8>, Stop<MakeVoteRefusal>>
     requires { length bytes.now < 2 ^ 61 }
-    ensures answer { Answered (λ answer. voting.MakeVoteAnswers (rules V.may_accept V.may_refuse) N.may_give N.steps (C.last clock.new) bytes.now answer signer.old signer.new) result }
+    ensures answer { Answered (λ answer. voting.MakeVoteAnswers (rules V.may_accept V.may_refuse) N.may_give N.steps newest (C.last clock.new) bytes.now answer signer.old signer.new) result }
     ensures clock { Counts (C.asks clock.old) (C.asks clock.new) }
     ensures verifier_fault { result ≡ Err (Stop.Refused MakeVoteRefusal.Verifier) → Rose (V.faults verifier.old) (V.faults verifier.new) }
     ensures verifier_told { V.faults verifier.old < V.faults verifier.new → result ≡ Err (Stop.Refused MakeVoteRefusal.Verifier) }
@@ -114,7 +120,7 @@ pub fn make_vote<C: Clock, V: Verifier, N: Signer>(
 {
     relays_are_named_once();
     let now = clock.now();
-    let (station, used) = match station_of(alloc, bytes) {
+    let (station, used) = match station_of(alloc, newest, bytes) {
         Ok((station, used)) => (station, used),
         Err(why) => return Err(of_fault(why)),
     };

@@ -13,7 +13,7 @@ pub returns-in-Err-clause-answer : goal.returns-in-Err-clause-answer
 returns-in-Err-clause-answer g c =
     rw c.of_file.ensures
     (no_file (verifier_rules g.V.Verifier.may_accept g.V.Verifier.may_refuse) g.N.Signer.may_give g.N.Signer.steps
-    (g.C.Clock.last c.now-now.new.self) c.args.bytes.now c.args.signer.now c.args.signer.now c.in-Err.why
+    c.args.newest (g.C.Clock.last c.now-now.new.self) c.args.bytes.now c.args.signer.now c.args.signer.now c.in-Err.why
     (no_file_at c.args.bytes.now c.deref.result.now (g.C.Clock.last c.now-now.new.self) c.now-now.result
     c.in-Err.why c.deref.ensures c.now-now.ensures.last c.in-Err.ensures))
 
@@ -22,17 +22,19 @@ returns-in-Err-station_behind-clause-answer g c =
     let front = c.in-Ok.front in
     rw c.of_fault.ensures
     (no_station (verifier_rules g.V.Verifier.may_accept g.V.Verifier.may_refuse) g.N.Signer.may_give g.N.Signer.steps
-    (g.C.Clock.last c.now-now.new.self) c.args.bytes.now c.args.signer.now c.args.signer.now front.file front.used
+    c.args.newest (g.C.Clock.last c.now-now.new.self) c.args.bytes.now c.args.signer.now c.args.signer.now front.file
+    front.used
     c.in-Err-station_behind.why
     (file_at c.args.bytes.now c.deref.result.now (g.C.Clock.last c.now-now.new.self) c.now-now.result front
     c.deref.ensures c.now-now.ensures.last c.in-Ok.ensures)
-    (station_at front.file front.used c.args.bytes.now c.deref-2.result.now (Err c.in-Err-station_behind.why)
+    (station_at c.args.newest front.file front.used c.args.bytes.now c.deref-2.result.now
+    (Err c.in-Err-station_behind.why)
     c.deref-2.ensures c.in-Err-station_behind.ensures))
 
 pub vote_from-requires : goal.vote_from-requires
 vote_from-requires g c =
     let front = c.in-Ok.front in
-    let read = station_at front.file front.used c.args.bytes.now c.deref-2.result.now
+    let read = station_at c.args.newest front.file front.used c.args.bytes.now c.deref-2.result.now
     (Ok (c.in-Ok-station_behind.station, c.in-Ok-station_behind.used)) c.deref-2.ensures
     c.in-Ok-station_behind.ensures in
     record { short = c.requires; within = read.1; apart = read.2 }
@@ -44,9 +46,9 @@ returns-in-Ok-vote_from-clause-answer g c =
     let given = c.in-Ok-station_behind.station in
     let used = c.in-Ok-station_behind.used in
     let text = c.in-Ok-vote_from.text in
-    let read = station_at front.file front.used c.args.bytes.now c.deref-2.result.now (Ok (given, used))
+    let read = station_at c.args.newest front.file front.used c.args.bytes.now c.deref-2.result.now (Ok (given, used))
     c.deref-2.ensures c.in-Ok-station_behind.ensures in
-    voted checks g.N.Signer.may_give g.N.Signer.steps (g.C.Clock.last c.now-now.new.self) c.args.bytes.now
+    voted checks g.N.Signer.may_give g.N.Signer.steps c.args.newest (g.C.Clock.last c.now-now.new.self) c.args.bytes.now
     c.args.signer.now c.vote_from.new.signer front.file front.used given used
     (file_at c.args.bytes.now c.deref.result.now (g.C.Clock.last c.now-now.new.self) c.now-now.result front
     c.deref.ensures c.now-now.ensures.last c.in-Ok.ensures)
@@ -63,10 +65,11 @@ returns-clause-answer g c =
     let given = c.in-Ok-station_behind.station in
     let used = c.in-Ok-station_behind.used in
     let why = c.in-Err-vote_from.why in
-    let read = station_at front.file front.used c.args.bytes.now c.deref-2.result.now (Ok (given, used))
+    let read = station_at c.args.newest front.file front.used c.args.bytes.now c.deref-2.result.now (Ok (given, used))
     c.deref-2.ensures c.in-Ok-station_behind.ensures in
     rw c.of_vote.ensures
-    (no_vote checks g.N.Signer.may_give g.N.Signer.steps (g.C.Clock.last c.now-now.new.self) c.args.bytes.now
+    (no_vote checks g.N.Signer.may_give g.N.Signer.steps c.args.newest
+    (g.C.Clock.last c.now-now.new.self) c.args.bytes.now
     c.args.signer.now c.vote_from.new.signer front.file front.used given used
     (file_at c.args.bytes.now c.deref.result.now (g.C.Clock.last c.now-now.new.self) c.now-now.result front
     c.deref.ensures c.now-now.ensures.last c.in-Ok.ensures)

@@ -9,14 +9,15 @@ pub returns-in-Err-clause-answer : goal.returns-in-Err-clause-answer
 returns-in-Err-clause-answer g c =
     rw c.of_fault.ensures
     (faulty (verifier_rules g.V.Verifier.may_accept g.V.Verifier.may_refuse) g.N.Signer.may_give g.N.Signer.steps
-    (g.C.Clock.last c.now-now.new.self) c.args.bytes.now c.args.signer.now c.args.signer.now c.in-Err.why
+    c.args.newest (g.C.Clock.last c.now-now.new.self) c.args.bytes.now c.args.signer.now c.args.signer.now c.in-Err.why
     c.in-Err.ensures)
 
 pub vote_from-requires : goal.vote_from-requires
 vote_from-requires g c = record {
   short = c.requires;
   within = c.in-Ok.ensures.1;
-  apart = (c.relays_are_named_once.ensures c.args.bytes.now c.in-Ok.station c.in-Ok.used c.in-Ok.ensures.0).rules;
+  apart = (c.relays_are_named_once.ensures c.args.newest c.args.bytes.now c.in-Ok.station c.in-Ok.used
+      c.in-Ok.ensures.0).rules;
 }
 
 pub returns-clause-answer : goal.returns-clause-answer
@@ -24,7 +25,8 @@ returns-clause-answer g c =
     let checks = verifier_rules g.V.Verifier.may_accept g.V.Verifier.may_refuse in
     let given = c.in-Ok.station in
     let used = c.in-Ok.used in
-    answered checks g.N.Signer.may_give g.N.Signer.steps (g.C.Clock.last c.now-now.new.self) c.args.bytes.now
+    answered checks g.N.Signer.may_give g.N.Signer.steps c.args.newest
+    (g.C.Clock.last c.now-now.new.self) c.args.bytes.now
     c.args.signer.now c.vote_from.new.signer given used c.vote_from.result c.in-Ok.ensures.0
     (subst (λ (now : ℕ).
     Answered (λ answer.
