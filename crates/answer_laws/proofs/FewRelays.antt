@@ -108,8 +108,8 @@ few_entries : (vote : ReadVote) → WasRead vote → HasFew vote
 few_entries vote was = (vote_in_range was.start was.bytes vote was.after was.are was.read).entries.count
 
 pub relays_of_votes : RelaysOfVotesAreFew
-relays_of_votes votes few were roster =
-    below (length (facts_of roster votes).routers) (length votes)
+relays_of_votes votes few were newest roster =
+    below (length (facts_of newest roster votes).routers) (length votes)
     (relays_within roster _ _ votes (All-weaker WasRead HasFew few_entries votes were)) few
 
 -- by what an input of votes is

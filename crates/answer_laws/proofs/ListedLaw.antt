@@ -18,6 +18,7 @@ use Rattle.dir_values.proofs.Flags.{has_flag-as_set}
 use Rattle.vote_terms.specs.Votes.{ReadVote}
 use Rattle.vote_terms.specs.declared.entry.EntryFacts.{EntryFacts}
 use Rattle.count_terms.specs.Choosing.{outdoes, chosen}
+use Rattle.count_terms.specs.declared.newest.Newest.{Newest}
 use Rattle.field_votes.specs.Leading.{after}
 use Rattle.field_votes.proofs.Leaders.{leader_is_chosen}
 use Rattle.consensus_terms.specs.declared.router.Routerline.{Routerline}
@@ -166,14 +167,17 @@ unlisted roster votes rsa (l ∷ said) e = absurd cc
 abbrev limit_of : ℕ → List ReadVote → ℕ
 limit_of roster votes = unmeasured_limit (listed_params roster votes)
 
-law_by : (b : Bool) (roster : ℕ) (votes : List ReadVote) (rsa : Fingerprint) → has_flag (bytes_in votes) rsa.0 ≡ b → (b && is_some (router_of roster (chosen_method votes) (limit_of roster votes) votes rsa)) ≡ is_listed_relay roster votes rsa
-law_by true roster votes rsa h = some_is roster (chosen_method votes) (limit_of roster votes) votes rsa
-law_by false roster votes rsa h = sym (unlisted roster votes rsa (listings votes rsa) (nothing_said votes rsa h))
+law_by : (b : Bool) (newest : Newest) (roster : ℕ) (votes : List ReadVote) (rsa : Fingerprint)
+    → has_flag (bytes_in votes) rsa.0 ≡ b
+    → (b && is_some (router_of roster (chosen_method newest votes) (limit_of roster votes) votes rsa))
+    ≡ is_listed_relay roster votes rsa
+law_by true newest roster votes rsa h = some_is roster (chosen_method newest votes) (limit_of roster votes) votes rsa
+law_by false newest roster votes rsa h = sym (unlisted roster votes rsa (listings votes rsa) (nothing_said votes rsa h))
 
 pub listed_law : ListedRelaysAreListed
-listed_law roster votes rsa =
-    let f = router_of roster (chosen_method votes) (limit_of roster votes) votes in
+listed_law newest roster votes rsa =
+    let f = router_of roster (chosen_method newest votes) (limit_of roster votes) votes in
     let where_listed : among (identities_in votes) rsa ≡ has_flag (bytes_in votes) rsa.0 = among_map (as_set (bytes_in votes)) rsa ∙ has_flag-as_set (bytes_in votes) rsa.0 in
-    has f (named roster (chosen_method votes) (limit_of roster votes) votes) rsa (identities_in votes)
+    has f (named roster (chosen_method newest votes) (limit_of roster votes) votes) rsa (identities_in votes)
     ∙ ap (λ (b : Bool). b && is_some (f rsa)) where_listed
-    ∙ law_by _ roster votes rsa refl
+    ∙ law_by _ newest roster votes rsa refl

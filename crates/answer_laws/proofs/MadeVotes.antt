@@ -8,6 +8,7 @@ use Rattle.key_port.specs.Signing.{SignerSteps}
 use Rattle.frame_terms.specs.declared.fault.ReadRefusal.{ReadRefusal}
 use Rattle.bandwidth_file.specs.declared.file.BandFile.{BandFile}
 use Rattle.flag_rules.specs.declared.ruling.Ruling.{Ruling}
+use Rattle.count_terms.specs.declared.newest.Newest.{Newest}
 use Rattle.station_input.specs.Reading.{station_of}
 use Rattle.station_input.specs.declared.facts.StationFacts.{StationFacts}
 use Rattle.vote_terms.specs.Votes.{ReadVote}
@@ -78,13 +79,13 @@ answered gives steps rules now given used bytes text old new are station is =
 -- ---- the laws
 
 pub answered_votes : {N : Type 0} (gives : Relation) (steps : SignerSteps N) → AnsweredVotesAreRead gives steps
-answered_votes gives steps rules now bytes text old new are (inl faulty) = let wrong = faulty.1 in absurd cc
-answered_votes gives steps rules now bytes text old new are (inr is) = (
+answered_votes gives steps rules newest now bytes text old new are (inl faulty) = let wrong = faulty.1 in absurd cc
+answered_votes gives steps rules newest now bytes text old new are (inr is) = (
   is.0,
   is.1,
   is.2,
   answered gives steps rules now is.0 is.1 bytes text old new are
-      (stations_read bytes is.0 is.1 are is.2) is.3,
+      (stations_read newest bytes is.0 is.1 are is.2) is.3,
 )
 
 -- the station that was read
@@ -99,16 +100,19 @@ behind_by : (file : BandFile) (start : ℕ) (read : Result (StationFacts × ℕ)
 behind_by file start (Ok (own, end)) given used is = (own, end, refl, sym (ap (station_in given) is))
 behind_by file start (Err why) given used is = absurd cc
 
-of_file : (bytes : List ℕ) (now : ℕ) (file : BandFile) (start : ℕ) (given : StationFacts) (used : ℕ) → IsBytes bytes
-    → BeginsWithFile bytes now file start → station_behind file start bytes ≡ Ok (given, used) → IsToldStation given
-of_file bytes now file start given used are begins is =
-    let own = behind_by file start (station_of (drop start bytes)) given used is in
+of_file : (newest : Newest) (bytes : List ℕ) (now : ℕ) (file : BandFile) (start : ℕ) (given : StationFacts) (used : ℕ)
+    → IsBytes bytes
+    → BeginsWithFile bytes now file start → station_behind newest file start bytes ≡ Ok (given, used)
+    → IsToldStation given
+of_file newest bytes now file start given used are begins is =
+    let own = behind_by file start (station_of newest (drop start bytes)) given used is in
     record {
       content = take begins.front.place bytes;
       file = file;
       is_file = begins.front.file_is;
       input = drop start bytes;
       bytes = bytes_drop start bytes are;
+      newest = newest;
       given = own.0;
       used = own.1;
       read = own.2;
@@ -117,11 +121,11 @@ of_file bytes now file start given used are begins is =
 
 pub answered_file_votes : {N : Type 0} (gives : Relation) (steps : SignerSteps N)
     → AnsweredFileVotesAreRead gives steps
-answered_file_votes gives steps rules now bytes text old new are (inl refused) =
+answered_file_votes gives steps rules newest now bytes text old new are (inl refused) =
     let wrong = refused.1 in absurd cc
-answered_file_votes gives steps rules now bytes text old new are (inr (file, start, begins, inl faulty)) =
+answered_file_votes gives steps rules newest now bytes text old new are (inr (file, start, begins, inl faulty)) =
     let wrong = faulty.1 in absurd cc
-answered_file_votes gives steps rules now bytes text old new are (inr (file, start, begins, inr is)) = (
+answered_file_votes gives steps rules newest now bytes text old new are (inr (file, start, begins, inr is)) = (
   file,
   start,
   begins,
@@ -129,5 +133,5 @@ answered_file_votes gives steps rules now bytes text old new are (inr (file, sta
   is.1,
   is.2,
   answered gives steps rules now is.0 is.1 bytes text old new are
-      (told_stations is.0 (of_file bytes now file start is.0 is.1 are begins is.2)) is.3,
+      (told_stations is.0 (of_file newest bytes now file start is.0 is.1 are begins is.2)) is.3,
 )

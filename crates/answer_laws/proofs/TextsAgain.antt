@@ -5,6 +5,7 @@ use Rattle.std.proofs.lemmas.List.{append-nil}
 use Rattle.std.proofs.lemmas.List.Elements.{All-nil, All-weaker}
 use Rattle.vote_terms.specs.Held.{held}
 use Rattle.vote_terms.specs.Votes.{ReadVote}
+use Rattle.count_terms.specs.declared.newest.Newest.{Newest}
 use Rattle.consensus_terms.specs.Texts.{unsigned}
 use Rattle.consensus_terms.specs.declared.flavour.Flavour.{Flavour}
 use Rattle.consensus_terms.specs.declared.flavour.Flavour.TheVariants.{Ns, Microdesc}
@@ -19,27 +20,27 @@ use Rattle.answer_laws.specs.Texts.{AnswersAreReadAgain, IsReadAgain, IsReadAs, 
 use Rattle.answer_laws.specs.Votes.{IsFit, VotesOfInputsAreFit}
 
 -- the text of what is computed of votes that are fit
-text_again : (flavour : Flavour) (roster : ℕ) (votes : List ReadVote) → All IsFit votes
-    → IsReadAgain flavour roster votes (unsigned flavour (consensus roster votes))
-text_again flavour roster votes fit =
+text_again : (flavour : Flavour) (newest : Newest) (roster : ℕ) (votes : List ReadVote) → All IsFit votes
+    → IsReadAgain flavour newest roster votes (unsigned flavour (consensus newest roster votes))
+text_again flavour newest roster votes fit =
     let are = All-weaker IsFit (λ (vote : ReadVote). IsVoteInRange vote.says) (λ vote is. is.in_range) votes fit in
     let fill = All-weaker IsFit (λ (vote : ReadVote). FillsLines vote.says) (λ vote is. is.fills) votes fit in
-    let text = unsigned flavour (consensus roster votes) in
+    let text = unsigned flavour (consensus newest roster votes) in
     record {
-      alone = λ within. subst (IsReadAs flavour roster votes []) (append-nil text)
-          (again_within flavour roster votes [] are fill (All-nil IsSignature) within);
-      behind = λ lines signed_ within. again_within flavour roster votes lines are fill signed_ within;
+      alone = λ within. subst (IsReadAs flavour newest roster votes []) (append-nil text)
+          (again_within flavour newest roster votes [] are fill (All-nil IsSignature) within);
+      behind = λ lines signed_ within. again_within flavour newest roster votes lines are fill signed_ within;
     }
 
 -- so it is in the flavours that are wanted
-wanted_again : (wanted : Flavours) (roster : ℕ) (votes : List ReadVote) → All IsFit votes
-    → IsReadAsWanted wanted roster votes (texts_of wanted (consensus roster votes))
-wanted_again flavours.Ns roster votes fit = text_again Ns roster votes fit
-wanted_again flavours.Microdesc roster votes fit = text_again Microdesc roster votes fit
-wanted_again flavours.Both roster votes fit = record {
+wanted_again : (wanted : Flavours) (newest : Newest) (roster : ℕ) (votes : List ReadVote) → All IsFit votes
+    → IsReadAsWanted wanted newest roster votes (texts_of wanted (consensus newest roster votes))
+wanted_again flavours.Ns newest roster votes fit = text_again Ns newest roster votes fit
+wanted_again flavours.Microdesc newest roster votes fit = text_again Microdesc newest roster votes fit
+wanted_again flavours.Both newest roster votes fit = record {
   stand = refl;
-  ns = text_again Ns roster votes fit;
-  microdesc = text_again Microdesc roster votes fit;
+  ns = text_again Ns newest roster votes fit;
+  microdesc = text_again Microdesc newest roster votes fit;
 }
 
 -- by what the votes of an input are
@@ -47,5 +48,5 @@ pub answers_again : VotesOfInputsAreFit → AnswersAreReadAgain
 answers_again fit rules wanted bytes text are is =
     let votes = held is.votes in
     let roster : ℕ = length wanted.roster in
-    subst (IsReadAsWanted wanted.flavours roster votes) (sym is.written)
-    (wanted_again wanted.flavours roster votes (fit bytes is.votes are is.read).1)
+    subst (IsReadAsWanted wanted.flavours wanted.newest roster votes) (sym is.written)
+    (wanted_again wanted.flavours wanted.newest roster votes (fit bytes is.votes are is.read).1)

@@ -2,6 +2,7 @@
 use Rattle.std.specs.Prelude.{◌≡◌, ℕ, List, ◌++◌}
 use Rattle.vote_terms.specs.Votes.{ReadVote}
 use Rattle.vote_terms.specs.Held.{IsHeld, RanksApart, SameMembers, held}
+use Rattle.count_terms.specs.declared.newest.Newest.{Newest}
 use Rattle.compute_terms.specs.Consensuses.{consensus}
 use Rattle.consensus_terms.specs.Texts.{unsigned}
 use Rattle.consensus_terms.specs.declared.flavour.Flavour.{Flavour}
@@ -14,7 +15,8 @@ HeldAlike = (list g h : List ReadVote) → IsHeld list g → IsHeld list h → S
 abbrev pub HeldOfLists : Type 0
 HeldOfLists = (l m : List ReadVote) → IsHeld (l ++ m) (held (held l ++ held m))
 
--- Of lists with the same members the consensus has the same text in each flavour, whatever the size of the roster.
+-- Of lists with the same members the consensus has the same text in each flavour, whatever the newest method that is
+-- known and the size of the roster.
 abbrev pub TextsAgree : Type 0
-TextsAgree = (roster : ℕ) (flavour : Flavour) (l m : List ReadVote) → SameMembers l m → RanksApart l
-    → unsigned flavour (consensus roster (held l)) ≡ unsigned flavour (consensus roster (held m))
+TextsAgree = (newest : Newest) (roster : ℕ) (flavour : Flavour) (l m : List ReadVote) → SameMembers l m → RanksApart l
+    → unsigned flavour (consensus newest roster (held l)) ≡ unsigned flavour (consensus newest roster (held m))

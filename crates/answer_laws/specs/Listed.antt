@@ -5,6 +5,7 @@ use Rattle.std.specs.List.{list_any}
 use Rattle.dir_values.specs.declared.digest.Fingerprint.{Fingerprint}
 use Rattle.dir_values.specs.Digests.{same_identity}
 use Rattle.vote_terms.specs.Votes.{ReadVote}
+use Rattle.count_terms.specs.declared.newest.Newest.{Newest}
 use Rattle.consensus_terms.specs.declared.router.Routerline.{Routerline}
 use Rattle.compute_terms.specs.declared.identity.EdPart.{EdPart}
 use Rattle.compute_terms.specs.Listings.{listings}
@@ -28,7 +29,7 @@ is_listed_relay roster votes rsa =
     (included_part roster (eds_of (listings votes rsa))) false
 
 -- An RSA identity stands among the routers of a consensus exactly where it is included and its flags have `Running`
--- and `Valid`.
+-- and `Valid`, whatever the newest method that is known.
 abbrev pub ListedRelaysAreListed : Type 0
-ListedRelaysAreListed = (roster : ℕ) (votes : List ReadVote) (rsa : Fingerprint)
-    → has_router (consensus roster votes).facts.routers rsa ≡ is_listed_relay roster votes rsa
+ListedRelaysAreListed = (newest : Newest) (roster : ℕ) (votes : List ReadVote) (rsa : Fingerprint)
+    → has_router (consensus newest roster votes).facts.routers rsa ≡ is_listed_relay roster votes rsa

@@ -6,6 +6,7 @@ use Rattle.key_port.specs.Answers.{Relation, Rules}
 use Rattle.key_port.specs.Signing.{SignerSteps}
 use Rattle.bandwidth_file.specs.declared.file.BandFile.{BandFile}
 use Rattle.flag_rules.specs.declared.ruling.Ruling.{Ruling}
+use Rattle.count_terms.specs.declared.newest.Newest.{Newest}
 use Rattle.station_input.specs.Reading.{station_of}
 use Rattle.station_input.specs.declared.facts.StationFacts.{StationFacts}
 use Rattle.vote_terms.specs.Votes.{ReadVote}
@@ -35,15 +36,16 @@ module _ {N : Type 0} (gives : Relation) (steps : SignerSteps N) where
 
   -- The text that is answered to an input of bytes is so, of the station that the input begins with.
   abbrev pub AnsweredVotesAreRead : Type 0
-  AnsweredVotesAreRead = (rules : Rules) (now : ℕ) (bytes text : List ℕ) (old new : N) → IsBytes bytes
-      → MakeVoteAnswers rules gives steps now bytes (Ok text) old new
-      → (given : StationFacts) × (used : ℕ) × (station_of bytes ≡ Ok (given, used))
+  AnsweredVotesAreRead = (rules : Rules) (newest : Newest) (now : ℕ) (bytes text : List ℕ) (old new : N) → IsBytes bytes
+      → MakeVoteAnswers rules gives steps newest now bytes (Ok text) old new
+      → (given : StationFacts) × (used : ℕ) × (station_of newest bytes ≡ Ok (given, used))
       × IsVoteRead rules now given used bytes text old new
 
   -- The same of an input with a bandwidth file in front, of the station behind it with the file's bandwidths.
   abbrev pub AnsweredFileVotesAreRead : Type 0
-  AnsweredFileVotesAreRead = (rules : Rules) (now : ℕ) (bytes text : List ℕ) (old new : N) → IsBytes bytes
-      → FileVoteAnswers rules gives steps now bytes (Ok text) old new
+  AnsweredFileVotesAreRead = (rules : Rules) (newest : Newest) (now : ℕ) (bytes text : List ℕ) (old new : N)
+      → IsBytes bytes
+      → FileVoteAnswers rules gives steps newest now bytes (Ok text) old new
       → (file : BandFile) × (start : ℕ) × BeginsWithFile bytes now file start
-      × (given : StationFacts) × (used : ℕ) × (station_behind file start bytes ≡ Ok (given, used))
+      × (given : StationFacts) × (used : ℕ) × (station_behind newest file start bytes ≡ Ok (given, used))
       × IsVoteRead rules now given used bytes text old new

@@ -4,6 +4,7 @@ use Rattle.base64.specs.GeneralPurpose.{IsBytes}
 use Rattle.vote_terms.specs.Held.{held}
 use Rattle.vote_terms.specs.Votes.{ReadVote}
 use Rattle.vote_doc.specs.Reading.{vote_from}
+use Rattle.count_terms.specs.declared.newest.Newest.{Newest}
 use Rattle.compute_terms.specs.Consensuses.{facts_of}
 use Rattle.compute_command.specs.Votes.{most_votes, votes_of}
 
@@ -15,9 +16,9 @@ pub record WasRead (vote : ReadVote) : Type 0 where
   pub are : IsBytes bytes
   pub read : vote_from start bytes ≡ Ok (vote, after)
 
--- The consensus of these votes lists fewer than 2 ^ 22 relays, whatever the roster.
+-- The consensus of these votes lists fewer than 2 ^ 22 relays, whatever the newest method that is known and the roster.
 abbrev pub ListsFew : List ReadVote → Type 0
-ListsFew votes = (roster : ℕ) → length (facts_of roster votes).routers < 2 ^ 22
+ListsFew votes = (newest : Newest) (roster : ℕ) → length (facts_of newest roster votes).routers < 2 ^ 22
 
 -- So does that of 64 votes or fewer that were read from bytes.
 abbrev pub RelaysOfVotesAreFew : Type 0
