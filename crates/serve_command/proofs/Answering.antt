@@ -3,6 +3,7 @@ use Rattle.std.proofs.Common.{◌≡◌, ℕ, List, length, Ok, Err, subst}
 use Rattle.std.specs.Prelude.{Bool, Option}
 use Rattle.key_port.specs.Answers.{Relation, Rules}
 use Rattle.key_port.specs.Signing.{SignerSteps}
+use Rattle.count_terms.specs.declared.newest.Newest.{Newest}
 use Rattle.daemon_words.specs.declared.command.Measures.{Measures}
 use Rattle.daemon_words.specs.declared.stop.Stop.{Stop}
 use Rattle.daemon_words.specs.declared.stop.Stop.TheVariants as stop
@@ -18,22 +19,24 @@ use Rattle.serve_command.specs.Private.{IsReady, StopsFor, starting}
 use Rattle.serve_command.specs.Serving.{IsBoardOf, ServeAnswers}
 use Rattle.serve_command.specs.Starting.{RefusesToServe}
 
-module _ (rules : Rules) (from : Measures) (now : ℕ) (bytes : List ℕ) where
+module _ (rules : Rules) (from : Measures) (newest : Newest) (now : ℕ) (bytes : List ℕ) where
   module _ {N C G : Type 0} (gives : Relation) (steps : SignerSteps N) (last : C → ℕ) (faults : G → ℕ)
       (closed : G → Bool) (gates gates' : List G) (old new : Option (List ℕ)) (before after : ℕ) where
     -- none started
-    pub none_started : (why : Stop ServeRefusal) → StopsFor (RefusesToServe rules from now bytes) why
-        → ServeAnswers rules gives steps last faults closed from now bytes gates gates' old new before after (Err why)
+    pub none_started : (why : Stop ServeRefusal) → StopsFor (RefusesToServe rules from newest now bytes) why
+        → ServeAnswers rules gives steps last faults closed from newest now bytes gates gates' old new before after
+        (Err why)
     none_started stop.Memory is = tt
     none_started (stop.Refused why) is = is
 
     -- one served
     pub has_served : (count : ℕ) (given : StationFacts) (rulings : List OperatorRule) (board : Locks)
         (passes : List Parts) (served : Served)
-        → IsReady rules from now bytes count given rulings board passes → count ≡ length gates
+        → IsReady rules from newest now bytes count given rulings board passes → count ≡ length gates
         → Serves faults closed gates gates' rules board
         (HasWorked rules gives steps (list_allows rulings) given last board) passes old new before after served
-        → ServeAnswers rules gives steps last faults closed from now bytes gates gates' old new before after (Ok served)
+        → ServeAnswers rules gives steps last faults closed from newest now bytes gates gates' old new before after
+        (Ok served)
     has_served count given rulings board passes served ready same serves = record {
       its = starting given board;
       starts = ready.starts;

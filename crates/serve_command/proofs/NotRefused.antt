@@ -3,6 +3,7 @@ use Rattle.std.proofs.Common.{◌≡◌, ℕ, List, ap, inl, inr, ◌∙◌}
 use Rattle.key_port.specs.Answers.{Rules}
 use Rattle.frame_terms.specs.declared.fault.FrameFault.{FrameFault}
 use Rattle.bandwidth_file.specs.declared.file.BandFile.{BandFile}
+use Rattle.count_terms.specs.declared.newest.Newest.{Newest}
 use Rattle.daemon_words.specs.declared.command.Measures.{Measures}
 use Rattle.daemon_words.specs.declared.command.Measures.TheVariants as measures
 use Rattle.station_input.specs.declared.facts.StationFacts.{StationFacts}
@@ -53,7 +54,7 @@ module _ (rules : Rules) (now : ℕ) (given : StationFacts) (used : ℕ) (bytes 
 
 -- ---- the input
 
-module _ (now : ℕ) (bytes : List ℕ) where
+module _ (newest : Newest) (now : ℕ) (bytes : List ℕ) where
   -- a file that is not too old in front of the input is none that is too old
   not_old : (file : BandFile) (start timestamp : ℕ) → BeginsWithFile bytes now file start
       → BeginsWithOldFile bytes now timestamp → ⊥
@@ -70,19 +71,20 @@ module _ (now : ℕ) (bytes : List ℕ) where
 
   -- nor is what stands behind it
   counts_behind : (given : StationFacts) (used : ℕ) (fault : FrameFault) (file : BandFile) (start : ℕ)
-      → StandsBehind now bytes given used → BeginsWithFile bytes now file start → IsFaultyBehind file start bytes fault
+      → StandsBehind newest now bytes given used → BeginsWithFile bytes now file start
+      → IsFaultyBehind newest file start bytes fault
       → ⊥
   counts_behind given used fault file start stands begins faulty =
-      not_faulty_behind bytes stands.file stands.start given used fault stands.stands
-      (faulty_alike bytes file stands.file start stands.start fault
+      not_faulty_behind newest bytes stands.file stands.start given used fault stands.stands
+      (faulty_alike newest bytes file stands.file start stands.start fault
       (one_front bytes stands.file file stands.start start stands.begins.front begins.front)
       (one_start bytes stands.file file stands.start start stands.begins.front begins.front) faulty)
 
   -- nor an input with what a station is given
   reads_well : (from : Measures) (given : StationFacts) (used : ℕ) (why : ServeRefusal)
-      → StandsIn from now bytes given used → IsFaultyIn from now bytes why → ⊥
+      → StandsIn from newest now bytes given used → IsFaultyIn from newest now bytes why → ⊥
   reads_well measures.Station given used why stands (fault, told, faulty) =
-      not_faulty bytes given used fault stands faulty
+      not_faulty newest bytes given used fault stands faulty
   reads_well measures.File given used why stands (inl (own, told, refuses)) =
       file_counts stands.file stands.start own stands.begins refuses
   reads_well measures.File given used why stands (inr (file, start, begins, (fault, told, faulty))) =
@@ -90,20 +92,21 @@ module _ (now : ℕ) (bytes : List ℕ) where
 
 -- ---- why an input is refused
 
-module _ (rules : Rules) (from : Measures) (now : ℕ) (bytes : List ℕ) (why : ServeRefusal) where
+module _ (rules : Rules) (from : Measures) (newest : Newest) (now : ℕ) (bytes : List ℕ) (why : ServeRefusal) where
   -- not for the station, where it can start an authority
-  starts : (given : StationFacts) (used : ℕ) → StandsIn from now bytes given used
-      → RefusesStation rules now given used bytes why → CanServe rules from now bytes → why ≡ refusal.Verifier
+  starts : (given : StationFacts) (used : ℕ) → StandsIn from newest now bytes given used
+      → RefusesStation rules now given used bytes why → CanServe rules from newest now bytes → why ≡ refusal.Verifier
   starts given used stands refuses can =
       station_starts rules now can.given can.used bytes why can.can
       (refused_alike rules now given can.given used can.used bytes why
-      (one_given from now bytes can.given given can.used used can.stands stands)
-      (one_place from now bytes can.given given can.used used can.stands stands) refuses)
+      (one_given from newest now bytes can.given given can.used used can.stands stands)
+      (one_place from newest now bytes can.given given can.used used can.stands stands) refuses)
 
   -- so it is the verifier
-  of_verifier : CanServe rules from now bytes → RefusesToServe rules from now bytes why → why ≡ refusal.Verifier
-  of_verifier can (inl faulty) = absurd (reads_well now bytes from can.given can.used why can.stands faulty)
+  of_verifier : CanServe rules from newest now bytes → RefusesToServe rules from newest now bytes why
+      → why ≡ refusal.Verifier
+  of_verifier can (inl faulty) = absurd (reads_well newest now bytes from can.given can.used why can.stands faulty)
   of_verifier can (inr (given, used, stands, refuses)) = starts given used stands refuses can
 
 pub not_refused : SuchAreNotRefused
-not_refused rules from now bytes why can refuses = of_verifier rules from now bytes why can refuses
+not_refused rules from newest now bytes why can refuses = of_verifier rules from newest now bytes why can refuses

@@ -5,6 +5,7 @@ use Rattle.dir_values.specs.declared.digest.Fingerprint.{Fingerprint}
 use Rattle.dir_values.specs.Rosters.{IsRoster}
 use Rattle.key_port.specs.Answers.{Rules}
 use Rattle.authority_certs.specs.Checks.{IsCertified}
+use Rattle.count_terms.specs.declared.newest.Newest.{Newest}
 use Rattle.daemon_words.specs.declared.command.Measures.{Measures}
 use Rattle.flag_rules.specs.Rules.{RuleAlike}
 use Rattle.flag_rules.specs.declared.operator.OperatorRule.{OperatorRule}
@@ -63,9 +64,10 @@ can_begin rules now given used bytes schedule pool valid_after has same times ne
     }
 
 -- the state in which an authority starts is a start
-pub is_start : (roster : List Fingerprint) (own : Fingerprint) (schedule : Schedule) (now : ℕ) (state : State)
-    → IsRoster roster → IsSchedule schedule → Starts roster own schedule now (Ok state) → IsStart state
-is_start roster own schedule now state members times starts = rw starts.1.2 (record {
+pub is_start : (roster : List Fingerprint) (own : Fingerprint) (newest : Newest) (schedule : Schedule) (now : ℕ)
+    (state : State)
+    → IsRoster roster → IsSchedule schedule → Starts roster own newest schedule now (Ok state) → IsStart state
+is_start roster own newest schedule now state members times starts = rw starts.1.2 (record {
   members = members;
   member = starts.0;
   times = times;
@@ -97,11 +99,12 @@ is_opened rules now bytes count given used schedule start pool rulings board pas
     }
 
 -- board and passes are ready
-pub is_ready : (rules : Rules) (from : Measures) (now : ℕ) (bytes : List ℕ) (count : ℕ) (given : StationFacts)
+pub is_ready : (rules : Rules) (from : Measures) (newest : Newest) (now : ℕ) (bytes : List ℕ) (count : ℕ)
+    (given : StationFacts)
     (used : ℕ) (rulings : List OperatorRule) (board : Locks) (passes : List Parts)
-    → IsReadIn from now bytes given used → IsOpened rules now given used bytes count rulings board passes
-    → IsReady rules from now bytes count given rulings board passes
-is_ready rules from now bytes count given used rulings board passes reads opened =
+    → IsReadIn from newest now bytes given used → IsOpened rules now given used bytes count rulings board passes
+    → IsReady rules from newest now bytes count given rulings board passes
+is_ready rules from newest now bytes count given used rulings board passes reads opened =
     record {
       starts = record {
         used = used;

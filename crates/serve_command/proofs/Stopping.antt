@@ -1,6 +1,7 @@
 -- Why serving does not begin, from why a call below stopped.
 use Rattle.std.proofs.Common.{◌≡◌, ℕ, List, None, Err, refl, inl, inr}
 use Rattle.key_port.specs.Answers.{Rules}
+use Rattle.count_terms.specs.declared.newest.Newest.{Newest}
 use Rattle.daemon_words.specs.declared.command.Measures.{Measures}
 use Rattle.daemon_words.specs.declared.stop.Stop.{Stop}
 use Rattle.daemon_words.specs.declared.stop.Stop.TheVariants as stop
@@ -54,13 +55,14 @@ at_descriptor (stop.Refused pools.Verifier) told = refl
 
 -- ---- the input
 
-module _ (rules : Rules) (from : Measures) (now : ℕ) (bytes : List ℕ) where
-  pub no_station : (why : Stop ServeRefusal) → StopsFor (IsFaultyIn from now bytes) why
-      → StopsFor (RefusesToServe rules from now bytes) why
+module _ (rules : Rules) (from : Measures) (newest : Newest) (now : ℕ) (bytes : List ℕ) where
+  pub no_station : (why : Stop ServeRefusal) → StopsFor (IsFaultyIn from newest now bytes) why
+      → StopsFor (RefusesToServe rules from newest now bytes) why
   no_station stop.Memory is = tt
   no_station (stop.Refused why) is = inl is
 
-  pub no_start : (given : StationFacts) (used : ℕ) (why : Stop ServeRefusal) → StandsIn from now bytes given used
-      → StopsFor (RefusesStation rules now given used bytes) why → StopsFor (RefusesToServe rules from now bytes) why
+  pub no_start : (given : StationFacts) (used : ℕ) (why : Stop ServeRefusal) → StandsIn from newest now bytes given used
+      → StopsFor (RefusesStation rules now given used bytes) why
+      → StopsFor (RefusesToServe rules from newest now bytes) why
   no_start given used stop.Memory stands is = tt
   no_start given used (stop.Refused why) stands is = inr (given, used, stands, is)

@@ -3,6 +3,7 @@ use Rattle.std.specs.Prelude.{◌≡◌, ◌≤◌, ℕ, List, All, length}
 use Rattle.key_port.specs.Answers.{Rules}
 use Rattle.flag_rules.specs.Rules.{AreApart, RuleAlike}
 use Rattle.flag_rules.specs.declared.operator.OperatorRule.{OperatorRule}
+use Rattle.count_terms.specs.declared.newest.Newest.{Newest}
 use Rattle.daemon_words.specs.declared.command.Measures.{Measures}
 use Rattle.daemon_words.specs.declared.stop.Stop.{Stop}
 use Rattle.daemon_words.specs.declared.stop.Stop.TheVariants as stop
@@ -22,8 +23,9 @@ StopsFor Refuses stop.Memory = Unit {0}
 StopsFor Refuses (stop.Refused why) = Refuses why
 
 -- What was read is what a station is given, and stands within the input; no two of its rules are of one relay.
-pub record IsReadIn (from : Measures) (now : ℕ) (bytes : List ℕ) (given : StationFacts) (used : ℕ) : Type 0 where
-  pub stands : StandsIn from now bytes given used
+pub record IsReadIn (from : Measures) (newest : Newest) (now : ℕ) (bytes : List ℕ) (given : StationFacts)
+    (used : ℕ) : Type 0 where
+  pub stands : StandsIn from newest now bytes given used
   pub within : used ≤ length bytes
   pub apart : AreApart given.rules
 
@@ -54,9 +56,9 @@ starting given board = record { given = given; start = board.station.start; pool
 
 -- Station, rulings, board and passes are of an authority that starts as the input has it, and all passes of the board are
 -- there.
-pub record IsReady (rules : Rules) (from : Measures) (now : ℕ) (bytes : List ℕ) (count : ℕ) (given : StationFacts)
-    (rulings : List OperatorRule) (board : Locks) (passes : List Parts) : Type 0 where
-  pub starts : StartsAs rules from now bytes (starting given board)
+pub record IsReady (rules : Rules) (from : Measures) (newest : Newest) (now : ℕ) (bytes : List ℕ) (count : ℕ)
+    (given : StationFacts) (rulings : List OperatorRule) (board : Locks) (passes : List Parts) : Type 0 where
+  pub starts : StartsAs rules from newest now bytes (starting given board)
   pub alike : RuleAlike given.rules rulings
   pub is_board : IsBoardOf (starting given board) count board passes
   pub at : All (IsAt board) passes

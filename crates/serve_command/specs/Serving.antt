@@ -3,6 +3,7 @@ use Rattle.std.specs.Prelude.{◌≡◌, ◌<◌, ◌≤◌, ℕ, Bool, List, �
 use Rattle.dir_bytes.specs.Causes.{Counts, Rose}
 use Rattle.key_port.specs.Answers.{Relation, Rules}
 use Rattle.key_port.specs.Signing.{SignerSteps}
+use Rattle.count_terms.specs.declared.newest.Newest.{Newest}
 use Rattle.daemon_words.specs.declared.command.Measures.{Measures}
 use Rattle.daemon_words.specs.declared.stop.Stop.{Stop}
 use Rattle.daemon_words.specs.declared.stop.Stop.TheVariants as stop
@@ -34,13 +35,13 @@ pub record IsBoardOf (its : Starting) (count : ℕ) (board : Locks) (passes : Li
   pub length_is : length passes ≡ count
 
 module _ {N C G : Type 0} (rules : Rules) (gives : Relation) (steps : SignerSteps N) (last : C → ℕ) (faults : G → ℕ)
-    (closed : G → Bool) (from : Measures) (now : ℕ) (bytes : List ℕ) (gates gates' : List G)
+    (closed : G → Bool) (from : Measures) (newest : Newest) (now : ℕ) (bytes : List ℕ) (gates gates' : List G)
     (old new : Option (List ℕ)) (before after : ℕ) where
   -- An authority started as the input has it, and served under the rules of its station's operator, with a board of its
   -- own and a pass for each gate.
   pub record HasServed (served : Served) : Type 0 where
     pub its : Starting
-    pub starts : StartsAs rules from now bytes its
+    pub starts : StartsAs rules from newest now bytes its
     pub rulings : List OperatorRule
     pub alike : RuleAlike its.given.rules rulings
     pub board : Locks
@@ -52,7 +53,7 @@ module _ {N C G : Type 0} (rules : Rules) (gives : Relation) (steps : SignerStep
   -- what is answered: how an authority served; or why none started; or there was no memory
   abbrev pub ServeAnswers : Result Served (Stop ServeRefusal) → Type 0
   ServeAnswers (Ok served) = HasServed served
-  ServeAnswers (Err (stop.Refused why)) = RefusesToServe rules from now bytes why
+  ServeAnswers (Err (stop.Refused why)) = RefusesToServe rules from newest now bytes why
   ServeAnswers (Err stop.Memory) = Unit {0}
 
 -- ---- what is asked

@@ -7,6 +7,7 @@ use Rattle.authority_certs.specs.declared.cert.Cert.{Cert}
 use Rattle.authority_certs.specs.declared.checking.CertAnswer.{CertAnswer}
 use Rattle.authority_certs.specs.declared.checking.CertAnswer.TheVariants as answer
 use Rattle.bandwidth_file.specs.declared.file.BandFile.{BandFile}
+use Rattle.count_terms.specs.declared.newest.Newest.{Newest}
 use Rattle.daemon_words.specs.declared.command.Measures.{Measures}
 use Rattle.daemon_words.specs.declared.command.Measures.TheVariants as measures
 use Rattle.frame_terms.specs.declared.fault.FrameFault.{FrameFault}
@@ -33,16 +34,17 @@ use Rattle.serve_command.specs.declared.refusal.ServeRefusal.{ServeRefusal}
 
 -- What a station is given stands behind a bandwidth file that is not too old at this moment, with the file's
 -- bandwidths, up to this place.
-pub record StandsBehind (now : ℕ) (bytes : List ℕ) (given : StationFacts) (used : ℕ) : Type 0 where
+pub record StandsBehind (newest : Newest) (now : ℕ) (bytes : List ℕ) (given : StationFacts) (used : ℕ) : Type 0 where
   pub file : BandFile
   pub start : ℕ
   pub begins : BeginsWithFile bytes now file start
-  pub stands : station_behind file start bytes ≡ Ok (given, used)
+  pub stands : station_behind newest file start bytes ≡ Ok (given, used)
 
--- what a station is given stands in the input up to this place, by where its bandwidths come from
-abbrev pub StandsIn : Measures → ℕ → List ℕ → StationFacts → ℕ → Type 0
-StandsIn measures.Station now bytes given used = station_of bytes ≡ Ok (given, used)
-StandsIn measures.File now bytes given used = StandsBehind now bytes given used
+-- what a station that knows this newest method is given stands in the input up to this place, by where its bandwidths
+-- come from
+abbrev pub StandsIn : Measures → Newest → ℕ → List ℕ → StationFacts → ℕ → Type 0
+StandsIn measures.Station newest now bytes given used = station_of newest bytes ≡ Ok (given, used)
+StandsIn measures.File newest now bytes given used = StandsBehind newest now bytes given used
 
 -- ---- what an authority starts with
 
@@ -59,7 +61,7 @@ pub record CanBegin (rules : Rules) (now : ℕ) (given : StationFacts) (used : �
 pub record IsStartOf (given : StationFacts) (now : ℕ) (state : State) : Type 0 where
   pub roster : List Fingerprint
   pub members : roster_in given ≡ Ok roster
-  pub starts : Starts roster given.identity (schedule_in given) now (Ok state)
+  pub starts : Starts roster given.identity given.newest (schedule_in given) now (Ok state)
 
 -- what an authority starts with: what its station is given, its state, and the pool of its descriptors
 pub record Starting : Type 0 where
@@ -67,10 +69,11 @@ pub record Starting : Type 0 where
   pub start : State
   pub pool : Pooled
 
--- It is what the input gives at this moment.
-pub record StartsAs (rules : Rules) (from : Measures) (now : ℕ) (bytes : List ℕ) (its : Starting) : Type 0 where
+-- It is what the input gives at this moment, where this is the newest method that is known.
+pub record StartsAs (rules : Rules) (from : Measures) (newest : Newest) (now : ℕ) (bytes : List ℕ)
+    (its : Starting) : Type 0 where
   pub used : ℕ
-  pub stands : StandsIn from now bytes its.given used
+  pub stands : StandsIn from newest now bytes its.given used
   pub begins : CanBegin rules now its.given used bytes its.pool
   pub start_is : IsStartOf its.given now its.start
   pub is_start : IsStart its.start
@@ -79,13 +82,13 @@ pub record StartsAs (rules : Rules) (from : Measures) (now : ℕ) (bytes : List 
 
 -- the input does not begin with what a station is given; or, where a bandwidth file has to stand in front, not with
 -- one that counts at the moment, or not with both
-abbrev pub IsFaultyIn : Measures → ℕ → List ℕ → ServeRefusal → Type 0
-IsFaultyIn measures.Station now bytes why =
-    (fault : FrameFault) × (why ≡ by_fault fault) × (station_of bytes ≡ Err (read.Frame fault))
-IsFaultyIn measures.File now bytes why =
+abbrev pub IsFaultyIn : Measures → Newest → ℕ → List ℕ → ServeRefusal → Type 0
+IsFaultyIn measures.Station newest now bytes why =
+    (fault : FrameFault) × (why ≡ by_fault fault) × (station_of newest bytes ≡ Err (read.Frame fault))
+IsFaultyIn measures.File newest now bytes why =
     ((own : BandwidthRefusal) × (why ≡ by_file own) × RefusesFile bytes now own)
     ⊎ ((file : BandFile) × (start : ℕ) × BeginsWithFile bytes now file start
-    × ((fault : FrameFault) × (why ≡ by_fault fault) × IsFaultyBehind file start bytes fault))
+    × ((fault : FrameFault) × (why ≡ by_fault fault) × IsFaultyBehind newest file start bytes fault))
 
 -- The certificate does not hold then, or the verifier failed when it was asked, and this is told of it.
 pub record RefusesCertificate (rules : Rules) (at : ℕ) (certificate : Cert) (why : ServeRefusal) : Type 0 where
@@ -108,8 +111,8 @@ RefusesStation rules now given used bytes why =
     × RefusesCertificate rules its.valid_after given.certificate why)
 
 -- why an input starts no authority at a moment: it does not begin with what a station is given; or that starts none
-abbrev pub RefusesToServe : Rules → Measures → ℕ → List ℕ → ServeRefusal → Type 0
-RefusesToServe rules from now bytes why =
-    IsFaultyIn from now bytes why
-    ⊎ ((given : StationFacts) × (used : ℕ) × StandsIn from now bytes given used
+abbrev pub RefusesToServe : Rules → Measures → Newest → ℕ → List ℕ → ServeRefusal → Type 0
+RefusesToServe rules from newest now bytes why =
+    IsFaultyIn from newest now bytes why
+    ⊎ ((given : StationFacts) × (used : ℕ) × StandsIn from newest now bytes given used
     × RefusesStation rules now given used bytes why)

@@ -11,6 +11,7 @@ use crate::refusal::ServeRefusal;
 use crate::starting::start;
 use crate::station::station_in;
 use bytes::Bytes;
+use count_terms::Newest;
 use daemon_words::{Measures, Stop};
 use flag_rules::OperatorList;
 use key_port::Verifier;
@@ -59,7 +60,7 @@ fn open_board<V: Verifier>(
     Ok((operator, board, passes))
 }
 
-/// What so many workers serve with, as an input has it at the moment `now`.
+/// What so many workers serve with, as an input has it at the moment `now`, where this is the newest method that is known.
 ///
 /// # Errors
 /// `Refused` by the first that applies: those of `station_in`, and then those of `open_board`. `Memory` is want of
@@ -67,6 +68,7 @@ fn open_board<V: Verifier>(
 pub(crate) fn prepare<V: Verifier>(
     alloc: Global,
     measures: Measures,
+    newest: Newest,
     bytes: &Bytes,
     now: u64,
     workers: u32,
@@ -74,15 +76,15 @@ pub(crate) fn prepare<V: Verifier>(
 ) -> Result<Ready<V>, Stop<ServeRefusal>>
     requires short { length bytes.now < 2 ^ 61 }
     requires some { 0 < workers }
-    ensures ready { IfOk result (λ ready. IsReady (rules V.may_accept V.may_refuse) measures now bytes.now workers
+    ensures ready { IfOk result (λ ready. IsReady (rules V.may_accept V.may_refuse) measures newest now bytes.now workers
         ready.station ready.operator ready.board ready.passes.items) }
     ensures stops { IfErr result (λ why.
-        StopsFor (RefusesToServe (rules V.may_accept V.may_refuse) measures now bytes.now) why) }
+        StopsFor (RefusesToServe (rules V.may_accept V.may_refuse) measures newest now bytes.now) why) }
     ensures fault { result ≡ Err (Stop.Refused ServeRefusal.Verifier)
         → Rose (V.faults verifier.old) (V.faults verifier.new) }
     ensures told { V.faults verifier.old < V.faults verifier.new → result ≡ Err (Stop.Refused ServeRefusal.Verifier) }
 {
-    let (station, used) = station_in(alloc, measures, now, bytes)?;
+    let (station, used) = station_in(alloc, measures, newest, now, bytes)?;
     let (operator, board, passes) = open_board(
         alloc, bytes, &station, used, now, workers, verifier,
     )?;

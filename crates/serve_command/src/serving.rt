@@ -91,7 +91,7 @@ fn serve_at<
     requires short { length bytes.now < 2 ^ 61 }
     requires workers { HasWorkers outside.old }
     ensures answer { ServeAnswers (rules V.may_accept V.may_refuse) N.may_give N.steps C.last G.faults G.closed
-        wanted.now.bandwidths now bytes.now outside.old.gates.items outside.new.gates.items (K.written outside.old.sink)
+        wanted.now.bandwidths wanted.now.newest now bytes.now outside.old.gates.items outside.new.gates.items (K.written outside.old.sink)
         (K.written outside.new.sink) (K.faults outside.old.sink) (K.faults outside.new.sink) result }
     ensures refused { IfErr result (λ why. ServesNone V.faults outside.old outside.new why) }
     ensures clocks { IfErr result (λ why. outside.new.clocks.items ≡ outside.old.clocks.items) }
@@ -104,6 +104,7 @@ fn serve_at<
     let ready = prepare(
         alloc,
         wanted.bandwidths,
+        wanted.newest,
         bytes,
         now,
         workers,
@@ -142,7 +143,7 @@ pub fn serve_station<
     requires workers { HasWorkers outside.old }
     ensures answer { AsksClock C.asks C.last outside.old.clocks.items outside.new.clocks.items
         (λ now. ServeAnswers (rules V.may_accept V.may_refuse) N.may_give N.steps C.last G.faults G.closed
-        wanted.now.bandwidths now bytes.now
+        wanted.now.bandwidths wanted.now.newest now bytes.now
         outside.old.gates.items outside.new.gates.items (K.written outside.old.sink) (K.written outside.new.sink)
         (K.faults outside.old.sink) (K.faults outside.new.sink)) result }
     ensures refused { IfErr result (λ why. ServesNone V.faults outside.old outside.new why) }

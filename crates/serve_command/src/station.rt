@@ -6,6 +6,7 @@ ghost use Rattle.serve_command.specs.Starting.{IsFaultyIn};
 use crate::refusal::ServeRefusal;
 use crate::told::{of_fault, of_file};
 use bytes::Bytes;
+use count_terms::Newest;
 use daemon_words::{Measures, Stop};
 use station_commands::{file_of, station_behind, station_of};
 use station_input::StationFacts;
@@ -15,26 +16,27 @@ use std::alloc::Global;
 /// What a station is given behind the bandwidth file with which an input begins, and the place behind it.
 fn behind_file(
     alloc: Global,
+    newest: Newest,
     now: u64,
     bytes: &Bytes,
 ) -> Result<(StationFacts, usize), Stop<ServeRefusal>>
     requires { length bytes.now < 2 ^ 61 }
-    ensures read { IfOk result (λ read. IsReadIn Measures.File now bytes.now read.0 read.1) }
-    ensures stops { IfErr result (λ why. StopsFor (IsFaultyIn Measures.File now bytes.now) why) }
+    ensures read { IfOk result (λ read. IsReadIn Measures.File newest now bytes.now read.0 read.1) }
+    ensures stops { IfErr result (λ why. StopsFor (IsFaultyIn Measures.File newest now bytes.now) why) }
     ensures unasked { result ≢ Err (Stop.Refused ServeRefusal.Verifier) }
 {
     let front = match file_of(alloc, bytes, now) {
         Ok(front) => front,
         Err(why) => return Err(of_file(why)),
     };
-    match station_behind(alloc, bytes, &front) {
+    match station_behind(alloc, newest, bytes, &front) {
         Ok((station, used)) => Ok((station, used)),
         Err(why) => Err(of_fault(why)),
     }
 }
 
-/// What the station of an input is given at the moment `now`, by where its bandwidths come from, and the place behind
-/// it.
+/// What the station of an input is given at the moment `now`, by where its bandwidths come from and the newest method that it
+/// knows, and the place behind it.
 ///
 /// # Errors
 /// `Refused` by the first that applies: where a bandwidth file has to stand in front, its first fault, or that it is
@@ -42,20 +44,21 @@ fn behind_file(
 pub(crate) fn station_in(
     alloc: Global,
     measures: Measures,
+    newest: Newest,
     now: u64,
     bytes: &Bytes,
 ) -> Result<(StationFacts, usize), Stop<ServeRefusal>>
     requires { length bytes.now < 2 ^ 61 }
-    ensures read { IfOk result (λ read. IsReadIn measures now bytes.now read.0 read.1) }
-    ensures stops { IfErr result (λ why. StopsFor (IsFaultyIn measures now bytes.now) why) }
+    ensures read { IfOk result (λ read. IsReadIn measures newest now bytes.now read.0 read.1) }
+    ensures stops { IfErr result (λ why. StopsFor (IsFaultyIn measures newest now bytes.now) why) }
     ensures unasked { result ≢ Err (Stop.Refused ServeRefusal.Verifier) }
 {
     relays_are_named_once();
     match measures {
-        Measures::Station => match station_of(alloc, bytes) {
+        Measures::Station => match station_of(alloc, newest, bytes) {
             Ok((station, used)) => Ok((station, used)),
             Err(why) => Err(of_fault(why)),
         },
-        Measures::File => behind_file(alloc, now, bytes),
+        Measures::File => behind_file(alloc, newest, now, bytes),
     }
 }

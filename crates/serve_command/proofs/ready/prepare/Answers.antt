@@ -11,7 +11,8 @@ pub returns-in_err-station-clause-stops : goal.returns-in_err-station-clause-sto
 returns-in_err-station-clause-stops g c =
     let p = err_from_is_err_and c.from_residual.result c.from_residual.ensures.1 in
     rw (p.1, p.2)
-    (no_station (verifier_rules g.V.Verifier.may_accept g.V.Verifier.may_refuse) c.args.measures c.args.now
+    (no_station (verifier_rules g.V.Verifier.may_accept g.V.Verifier.may_refuse) c.args.measures c.args.newest
+    c.args.now
     c.args.bytes.now c.in_err-station.field-0.0 c.in_err-station.ensures.stops)
 
 pub returns-in_err-operator-clause-stops : goal.returns-in_err-operator-clause-stops
@@ -19,7 +20,7 @@ returns-in_err-operator-clause-stops g c =
     let p = err_from_is_err_and c.from_residual-in_err-operator.result
     c.from_residual-in_err-operator.ensures.1 in
     rw (p.1, p.2)
-    (no_start (verifier_rules g.V.Verifier.may_accept g.V.Verifier.may_refuse) c.args.measures c.args.now
+    (no_start (verifier_rules g.V.Verifier.may_accept g.V.Verifier.may_refuse) c.args.measures c.args.newest c.args.now
     c.args.bytes.now c.in_ok-station.station c.in_ok-station.used c.in_err-operator.field-0.0
     c.in_ok-station.ensures.read.stands c.in_err-operator.ensures.stops)
 
@@ -36,6 +37,6 @@ returns-clause-told g c = λ rose. absurd (cc (c.in_ok-operator.ensures.told ros
 
 pub returns-clause-ready : goal.returns-clause-ready
 returns-clause-ready g c =
-    is_ready (verifier_rules g.V.Verifier.may_accept g.V.Verifier.may_refuse) c.args.measures c.args.now
+    is_ready (verifier_rules g.V.Verifier.may_accept g.V.Verifier.may_refuse) c.args.measures c.args.newest c.args.now
     c.args.bytes.now c.args.workers c.in_ok-station.station c.in_ok-station.used
     c.in_ok-operator.operator c.in_ok-operator.board c.in_ok-operator.passes.items c.in_ok-station.ensures.read c.in_ok-operator.ensures.opened

@@ -13,7 +13,8 @@ returns-in_err-ready-clause-answer g c =
     let p = err_from_is_err_and c.from_residual.result c.from_residual.ensures.1 in
     rw (p.1, p.2)
     (none_started (verifier_rules g.V.Verifier.may_accept g.V.Verifier.may_refuse) c.args.wanted.now.bandwidths
-    c.args.now c.args.bytes.now g.N.Signer.may_give g.N.Signer.steps g.C.Clock.last g.G.Gate.faults g.G.Gate.closed
+    c.args.wanted.now.newest c.args.now c.args.bytes.now g.N.Signer.may_give g.N.Signer.steps g.C.Clock.last
+    g.G.Gate.faults g.G.Gate.closed
     outside.gates.items outside.gates.items written written faults faults c.in_err-ready.field-0.0 c.in_err-ready.ensures.stops)
 
 pub returns-in_err-ready-clause-refused : goal.returns-in_err-ready-clause-refused
@@ -37,7 +38,8 @@ returns-clause-answer g c =
     let outside = c.args.outside.now in
     let new = c.serve_ready.new.outside in
     has_served (verifier_rules g.V.Verifier.may_accept g.V.Verifier.may_refuse) c.args.wanted.now.bandwidths
-    c.args.now c.args.bytes.now g.N.Signer.may_give g.N.Signer.steps g.C.Clock.last g.G.Gate.faults g.G.Gate.closed
+    c.args.wanted.now.newest c.args.now c.args.bytes.now g.N.Signer.may_give g.N.Signer.steps g.C.Clock.last
+    g.G.Gate.faults g.G.Gate.closed
     outside.gates.items new.gates.items (g.K.Sink.written outside.sink) (g.K.Sink.written new.sink)
     (g.K.Sink.faults outside.sink) (g.K.Sink.faults new.sink) _ c.in_ok-ready.ready.station
     c.in_ok-ready.ready.operator c.in_ok-ready.ready.board c.in_ok-ready.ready.passes.items c.serve_ready.result

@@ -11,7 +11,9 @@ returns-clause-answer g c =
     asked_clock g.C.Clock.asks g.C.Clock.last outside.clocks.items c.index_mut.result.now c.now-now.new.self
     new.clocks.items c.now-now.result
     (λ now. ServeAnswers (verifier_rules g.V.Verifier.may_accept g.V.Verifier.may_refuse) g.N.Signer.may_give
-    g.N.Signer.steps g.C.Clock.last g.G.Gate.faults g.G.Gate.closed c.args.wanted.now.bandwidths now c.args.bytes.now outside.gates.items new.gates.items
+    g.N.Signer.steps g.C.Clock.last g.G.Gate.faults g.G.Gate.closed c.args.wanted.now.bandwidths
+    c.args.wanted.now.newest now
+    c.args.bytes.now outside.gates.items new.gates.items
     (g.K.Sink.written outside.sink) (g.K.Sink.written new.sink) (g.K.Sink.faults outside.sink)
     (g.K.Sink.faults new.sink))
     c.serve_at.result (search rules) c.index_mut.ensures.value c.now-now.ensures.asks (sym c.now-now.ensures.last)

@@ -8,14 +8,14 @@ use Rattle.serve_command.proofs.station.station_in.Goals as goal
 
 pub returns-in-Ok-clause-read : goal.returns-in-Ok-clause-read
 returns-in-Ok-clause-read c =
-    subst (λ (m : Measures). IsReadIn m c.args.now c.args.bytes.now c.in-Ok.station c.in-Ok.used)
+    subst (λ (m : Measures). IsReadIn m c.args.newest c.args.now c.args.bytes.now c.in-Ok.station c.in-Ok.used)
     (sym c.in-Station.is)
-    (read_there c.args.now c.args.bytes.now c.in-Ok.station c.in-Ok.used
+    (read_there c.args.newest c.args.now c.args.bytes.now c.in-Ok.station c.in-Ok.used
     c.relays_are_named_once.ensures c.in-Ok.ensures)
 
 pub returns-in-Err-clause-stops : goal.returns-in-Err-clause-stops
 returns-in-Err-clause-stops c =
     rw c.of_fault.ensures
-    (subst (λ (m : Measures). StopsFor (IsFaultyIn m c.args.now c.args.bytes.now)
+    (subst (λ (m : Measures). StopsFor (IsFaultyIn m c.args.newest c.args.now c.args.bytes.now)
     (of_fault c.in-Err.why)) (sym c.in-Station.is)
-    (not_there c.args.now c.args.bytes.now c.in-Err.why c.in-Err.ensures))
+    (not_there c.args.newest c.args.now c.args.bytes.now c.in-Err.why c.in-Err.ensures))
