@@ -5,12 +5,12 @@ use Rattle.std.specs.Global.{Vec}
 use Rattle.dir_bytes.specs.Causes.{Counts, Rose}
 use Rattle.daemon_words.specs.declared.command.Command.{Command}
 use Rattle.daemon_words.specs.declared.command.Command.TheVariants as command
-use Rattle.daemon_words.specs.declared.command.Measures.{Measures}
+use Rattle.daemon_words.specs.declared.making.MakeVote.{MakeVote}
 use Rattle.daemon_words.specs.Stops.{Answered}
 use Rattle.daemon_words.specs.declared.stop.Stop.{Stop}
 use Rattle.daemon_words.specs.declared.stop.Stop.TheVariants as stop
 use Rattle.exit_status.specs.declared.status.Refusal.{Refusal}
-use Rattle.authority_daemon.specs.Commands.{Answers, IsEarly, May, MakeVoteBy}
+use Rattle.authority_daemon.specs.Commands.{Answers, IsEarly, IsOfStation, May, MakeVoteBy}
 use Rattle.authority_daemon.specs.Inside.{OfRefusal}
 use Rattle.authority_daemon.specs.Runs.{first_count}
 use Rattle.authority_daemon.specs.Moments.{TellsFaults}
@@ -59,16 +59,26 @@ module _ {X : Type 0} where
       λ unchecked. all_stay items x later some first
       (asks (subst (λ (k : Command). OfRefusal (IsEarly k) why) is unchecked))
 
+-- what `make-vote` refuses before is of the station
+pub vote_unasked : (wanted : MakeVote) (c : Command) (result : Result (Vec ℕ) (Stop Refusal)) (Stays : Type 0)
+    → c ≡ command.MakeVote wanted → IfErr result (λ why. OfRefusal IsOfStation why → Stays)
+    → IfErr result (λ why. OfRefusal (IsEarly c) why → Stays)
+vote_unasked wanted c (Ok text) Stays is asks = tt
+vote_unasked wanted c (Err (stop.Refused why)) Stays is asks =
+    λ early. asks (subst (λ (k : Command). IsEarly k why) is early)
+vote_unasked wanted c (Err stop.Memory) Stays is asks = λ early. asks early
+
 module _ {N : Type 0} (its : May N) where
   -- what `make-vote` answers at the moment that the clock gave
-  pub vote_answered : (bandwidths : Measures) (c : Command) (given now : ℕ) (bytes : List ℕ) (old new : N)
-      (result : Result (Vec ℕ) (Stop Refusal)) → c ≡ command.MakeVote bandwidths → now ≡ given
-      → Answered (MakeVoteBy its bandwidths given bytes old new) result
+  pub vote_answered : (wanted : MakeVote) (c : Command) (given now : ℕ) (bytes : List ℕ) (old new : N)
+      (result : Result (Vec ℕ) (Stop Refusal)) → c ≡ command.MakeVote wanted → now ≡ given
+      → Answered (MakeVoteBy its wanted.bandwidths wanted.newest given bytes old new) result
       → Answered (Answers its c now bytes old new) result
-  vote_answered bandwidths c given now bytes old new (Ok text) is same told =
+  vote_answered wanted c given now bytes old new (Ok text) is same told =
       subst (λ (k : Command). Answers its k now bytes old new (Ok text.items)) (sym is)
-      (subst (λ (n : ℕ). MakeVoteBy its bandwidths n bytes old new (Ok text.items)) (sym same) told)
-  vote_answered bandwidths c given now bytes old new (Err (stop.Refused why)) is same told =
+      (subst (λ (n : ℕ). MakeVoteBy its wanted.bandwidths wanted.newest n bytes old new (Ok text.items))
+      (sym same) told)
+  vote_answered wanted c given now bytes old new (Err (stop.Refused why)) is same told =
       subst (λ (k : Command). Answers its k now bytes old new (Err why)) (sym is)
-      (subst (λ (n : ℕ). MakeVoteBy its bandwidths n bytes old new (Err why)) (sym same) told)
-  vote_answered bandwidths c given now bytes old new (Err stop.Memory) is same told = tt
+      (subst (λ (n : ℕ). MakeVoteBy its wanted.bandwidths wanted.newest n bytes old new (Err why)) (sym same) told)
+  vote_answered wanted c given now bytes old new (Err stop.Memory) is same told = tt

@@ -23,7 +23,7 @@ module _ {S C V N G L : Type 0} (its : May N) (tells : Telling C G) (old new : M
   runs (command.Compute wanted) writes is = is
   runs (command.Check named) writes is = is
   runs (command.Show named) writes is = is
-  runs (command.MakeVote bandwidths) writes is = is
+  runs (command.MakeVote wanted) writes is = is
   runs (command.Rehearse wanted) writes is = is
   runs (command.Report wanted) writes is = is
   runs (command.Serve wanted) writes is = absurd (cc writes)
@@ -35,8 +35,8 @@ module _ {S C V N G L : Type 0} (its : May N) (tells : Telling C G) (old new : M
   run_completes (Some (command.Compute wanted)) is = completes its (Some (command.Compute wanted)) old new s is
   run_completes (Some (command.Check named)) is = completes its (Some (command.Check named)) old new s is
   run_completes (Some (command.Show named)) is = completes its (Some (command.Show named)) old new s is
-  run_completes (Some (command.MakeVote bandwidths)) is =
-      completes its (Some (command.MakeVote bandwidths)) old new s is
+  run_completes (Some (command.MakeVote wanted)) is =
+      completes its (Some (command.MakeVote wanted)) old new s is
   run_completes (Some (command.Rehearse wanted)) is = completes its (Some (command.Rehearse wanted)) old new s is
   run_completes (Some (command.Report wanted)) is = completes its (Some (command.Report wanted)) old new s is
   run_completes (Some (command.Serve wanted)) is =

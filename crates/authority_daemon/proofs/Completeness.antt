@@ -1,8 +1,10 @@
 -- An input that has to be answered is not refused.
 use Rattle.std.proofs.Common.{◌≡◌, ◌∙◌, ◌⊎◌, ℕ, List, Option, ap, subst, refl, arith, Err, inl, inr}
+use Rattle.count_terms.specs.declared.newest.Newest.{Newest}
 use Rattle.dir_bytes.specs.Causes.{Rose}
 use Rattle.daemon_words.specs.declared.command.Command.{Command}
 use Rattle.daemon_words.specs.declared.command.Command.TheVariants as command
+use Rattle.daemon_words.specs.declared.command.Measures.{Measures}
 use Rattle.daemon_words.specs.declared.command.Measures.TheVariants as measures
 use Rattle.exit_status.specs.declared.status.Refusal.{Refusal}
 use Rattle.exit_status.specs.declared.status.Refusal.TheVariants as refusal
@@ -16,7 +18,7 @@ use Rattle.station_commands.specs.declared.refusal.MakeVoteRefusal.{MakeVoteRefu
 use Rattle.exit_status.specs.Told.{by_compute, by_file_vote, by_make_vote, by_report}
 use Rattle.station_commands.proofs.FilesNotRefused as file
 use Rattle.report_command.proofs.NotRefused as report
-use Rattle.authority_daemon.specs.Commands.{Answers, Answerable, May}
+use Rattle.authority_daemon.specs.Commands.{Answers, Answerable, CanMakeVoteBy, MakeVoteBy, May}
 use Rattle.authority_daemon.specs.Runs.{Ends, KeepsLimit, Told}
 use Rattle.authority_daemon.specs.Moments.{Moment}
 use Rattle.authority_daemon.specs.World.{AnswersWhatItMust, IsRun}
@@ -30,6 +32,17 @@ of_vote : (own : MakeVoteRefusal) (why : Refusal) → why ≡ by_make_vote own �
 of_vote own why told (inl same) = inl (told ∙ ap by_make_vote same)
 of_vote own why told (inr same) = inr (told ∙ ap by_make_vote same)
 
+-- of `make-vote`, by where measured bandwidths come from
+made_not_refused : {N : Type 0} (its : May N) (from : Measures) (newest : Newest) (now : ℕ) (bytes : List ℕ)
+    (old new : N)
+    (why : Refusal) → CanMakeVoteBy its.rules from newest now bytes
+    → MakeVoteBy its from newest now bytes old new (Err why) → IsOfKeys why
+made_not_refused its measures.Station newest now bytes old new why can (own, told, answer) =
+    of_vote own why told (stations.not_refused its.gives its.steps its.rules newest now bytes old new own can answer)
+made_not_refused its measures.File newest now bytes old new why can (own, told, answer) =
+    let keys = file.files_not_refused its.gives its.steps its.rules newest now bytes old new own can answer in
+    of_vote keys.0 why (told ∙ ap by_file_vote keys.1) keys.2
+
 -- a line for each command
 pub not_refused : {N : Type 0} (its : May N) (c : Command) (now : ℕ) (bytes : List ℕ) (old new : N) (why : Refusal)
     → Answerable its.rules c now bytes → Answers its c now bytes old new (Err why) → IsOfKeys why
@@ -39,11 +52,8 @@ not_refused its (command.Check named) now bytes old new why can (own, told, answ
     absurd (document.check_not_refused named bytes own can answer)
 not_refused its (command.Show named) now bytes old new why can (own, told, answer) =
     absurd (document.show_not_refused named bytes own can answer)
-not_refused its (command.MakeVote measures.Station) now bytes old new why can (own, told, answer) =
-    of_vote own why told (stations.not_refused its.gives its.steps its.rules now bytes old new own can answer)
-not_refused its (command.MakeVote measures.File) now bytes old new why can (own, told, answer) =
-    let keys = file.files_not_refused its.gives its.steps its.rules now bytes old new own can answer in
-    of_vote keys.0 why (told ∙ ap by_file_vote keys.1) keys.2
+not_refused its (command.MakeVote wanted) now bytes old new why can answer =
+    made_not_refused its wanted.bandwidths wanted.newest now bytes old new why can answer
 not_refused its (command.Rehearse wanted) now bytes old new why can answer = absurd answer
 not_refused its (command.Report wanted) now bytes old new why can (own, told, answer) =
     inl (told ∙ ap by_report (report.not_refused its.rules wanted bytes own can answer))

@@ -36,7 +36,7 @@ pub gathered : (c : Command) → is_gathered c ≡ true → reads_input c ≡ tr
 gathered (command.Compute wanted) is = absurd (cc is)
 gathered (command.Check named) is = is
 gathered (command.Show named) is = is
-gathered (command.MakeVote bandwidths) is = is
+gathered (command.MakeVote wanted) is = is
 gathered (command.Rehearse wanted) is = is
 gathered (command.Report wanted) is = is
 gathered (command.Serve wanted) is = is

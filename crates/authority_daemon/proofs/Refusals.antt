@@ -1,7 +1,6 @@
 -- What is answered, told as the program's.
 use Rattle.std.proofs.Common.{◌≡◌, refl, ap}
 use Rattle.daemon_words.specs.declared.command.Command.TheVariants as command
-use Rattle.daemon_words.specs.declared.command.Measures.{Measures}
 use Rattle.daemon_words.specs.declared.report.Report.{Report}
 use Rattle.daemon_words.specs.declared.stop.Stop.TheVariants as stop
 use Rattle.document_commands.specs.declared.refusal.SubjectRefusal.{SubjectRefusal}
@@ -20,7 +19,7 @@ use Rattle.serve_command.specs.declared.refusal.ServeRefusal.{ServeRefusal}
 use Rattle.serve_command.specs.declared.refusal.ServeRefusal.TheVariants as serve
 use Rattle.exit_status.specs.Told.{by_file_vote, by_make_vote, by_report, by_serve, by_subject}
 use Rattle.exit_status.specs.declared.status.Refusal.TheVariants as refusal
-use Rattle.authority_daemon.specs.Commands.{IsBeforeSigner, IsEarly}
+use Rattle.authority_daemon.specs.Commands.{IsBeforeSigner, IsEarly, IsOfStation}
 
 -- ---- whose fault is told
 
@@ -93,17 +92,15 @@ early_report wanted (report.Report (none.Period begin)) early = early
 early_report wanted (report.Report none.Flavour) early = early
 early_report wanted report.Verifier early = early
 
-pub early_vote : (from : Measures) (own : MakeVoteRefusal) → IsEarly (command.MakeVote from) (by_make_vote own)
-    → station.IsOfStation (stop.Refused own)
-early_vote from (vote.Station why) early = early
-early_vote from vote.MadeVote early = early
-early_vote from vote.Verifier early = early
-early_vote from vote.Signer early = early
+pub early_vote : (own : MakeVoteRefusal) → IsOfStation (by_make_vote own) → station.IsOfStation (stop.Refused own)
+early_vote (vote.Station why) early = early
+early_vote vote.MadeVote early = early
+early_vote vote.Verifier early = early
+early_vote vote.Signer early = early
 
-pub early_file : (from : Measures) (own : FileVoteRefusal) → IsEarly (command.MakeVote from) (by_file_vote own)
-    → behind.IsOfStation (stop.Refused own)
-early_file from (file.File why) early = tt
-early_file from (file.Vote why) early = early_vote from why early
+pub early_file : (own : FileVoteRefusal) → IsOfStation (by_file_vote own) → behind.IsOfStation (stop.Refused own)
+early_file (file.File why) early = tt
+early_file (file.Vote why) early = early_vote why early
 
 pub unsigned_vote : (own : MakeVoteRefusal) → IsBeforeSigner (by_make_vote own)
     → station.IsBeforeSigner (stop.Refused own)

@@ -217,7 +217,8 @@ module _ {S C V N G L : Type 0} (its : May N) (tells : Telling C G) (wanted : Se
     -- What was answered to the bytes as they were handed on.
     abbrev Answers : ℕ → Result Served (Stop ServeRefusal) → Type 0
     Answers now result = ServeAnswers its.rules its.gives its.steps tells.last tells.faults tells.closed
-        wanted.bandwidths now input old.gates new.gates old.written new.written old.write_faults new.write_faults result
+        wanted.bandwidths wanted.newest now input old.gates new.gates old.written new.written old.write_faults
+        new.write_faults result
 
     -- it served
     pub has_served : (how : Served) (s : Status) → s ≡ status_of how
@@ -230,7 +231,8 @@ module _ {S C V N G L : Type 0} (its : May N) (tells : Telling C G) (wanted : Se
           clock = once.clock;
           counts = once.counts;
           is = subst (λ (b : List ℕ). HasServed its.rules its.gives its.steps tells.last tells.faults tells.closed
-              wanted.bandwidths (tells.last once.clock) b old.gates new.gates old.written new.written old.write_faults new.write_faults
+              wanted.bandwidths wanted.newest (tells.last once.clock) b old.gates new.gates old.written new.written
+              old.write_faults new.write_faults
               how) same once.is;
         }))
 
@@ -239,9 +241,9 @@ module _ {S C V N G L : Type 0} (its : May N) (tells : Telling C G) (wanted : Se
         → AsksClock tells.asks tells.last old.clocks clocks' Answers (Err (stop.Refused own))
         → AtOnce tells old.clocks (IsRefusedAt its tells wanted old new bytes.items (by_serve own))
     refused_at own once =
-        let refuses : RefusesToServe its.rules wanted.bandwidths (tells.last once.clock) bytes.items own =
-        subst (λ (b : List ℕ). RefusesToServe its.rules wanted.bandwidths (tells.last once.clock) b own) same
-        once.is in
+        let refuses : RefusesToServe its.rules wanted.bandwidths wanted.newest (tells.last once.clock) bytes.items own =
+        subst (λ (b : List ℕ). RefusesToServe its.rules wanted.bandwidths wanted.newest (tells.last once.clock) b own)
+        same once.is in
         record {
           first = once.first;
           others = once.others;
@@ -254,7 +256,8 @@ module _ {S C V N G L : Type 0} (its : May N) (tells : Telling C G) (wanted : Se
             refuses = refuses;
             unable =
                 λ can. ap by_serve
-                (not_refused its.rules wanted.bandwidths (tells.last once.clock) bytes.items own can refuses);
+                (not_refused its.rules wanted.bandwidths wanted.newest
+                (tells.last once.clock) bytes.items own can refuses);
           };
         }
 

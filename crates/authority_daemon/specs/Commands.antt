@@ -1,5 +1,6 @@
 -- What each command answers to an input.
 use Rattle.std.specs.Prelude.{◌≡◌, Bool, true, false, ℕ, List, Option, Some, None, Result, Ok, Err}
+use Rattle.count_terms.specs.declared.newest.Newest.{Newest}
 use Rattle.key_port.specs.Answers.{Relation, Rules, rules}
 use Rattle.key_port.specs.Signing.{SignerSteps}
 use Rattle.daemon_words.specs.declared.command.Command.{Command}
@@ -35,12 +36,12 @@ abbrev pub RehearseAnswers : Rehearse → Result (List ℕ) Refusal → Type 0
 RehearseAnswers wanted (Ok text) = text ≡ summary_of wanted.seed wanted.relays wanted.authorities
 RehearseAnswers wanted (Err why) = ⊥
 
--- what `make-vote` answers, by where measured bandwidths come from
-abbrev pub MakeVoteBy : {N : Type 0} → May N → Measures → ℕ → List ℕ → N → N → Result (List ℕ) Refusal → Type 0
-MakeVoteBy its measures.Station now bytes old new answer =
-    AnsweredAs by_make_vote (λ own. MakeVoteAnswers its.rules its.gives its.steps now bytes own old new) answer
-MakeVoteBy its measures.File now bytes old new answer =
-    AnsweredAs by_file_vote (λ own. FileVoteAnswers its.rules its.gives its.steps now bytes own old new) answer
+-- what `make-vote` answers, by where measured bandwidths come from, and by the newest method that is known
+abbrev pub MakeVoteBy : {N : Type 0} → May N → Measures → Newest → ℕ → List ℕ → N → N → Result (List ℕ) Refusal → Type 0
+MakeVoteBy its measures.Station newest now bytes old new answer =
+    AnsweredAs by_make_vote (λ own. MakeVoteAnswers its.rules its.gives its.steps newest now bytes own old new) answer
+MakeVoteBy its measures.File newest now bytes old new answer =
+    AnsweredAs by_file_vote (λ own. FileVoteAnswers its.rules its.gives its.steps newest now bytes own old new) answer
 
 -- what a command answers to an input, at the moment that the clock gave, and what became of the signer: a line for each
 -- command
@@ -49,7 +50,8 @@ Answers its (command.Compute wanted) now bytes old new answer =
     AnsweredAs by_compute (ComputeAnswers its.rules wanted bytes) answer
 Answers its (command.Check named) now bytes old new answer = AnsweredAs by_subject (CheckAnswers named bytes) answer
 Answers its (command.Show named) now bytes old new answer = AnsweredAs by_subject (ShowAnswers named bytes) answer
-Answers its (command.MakeVote bandwidths) now bytes old new answer = MakeVoteBy its bandwidths now bytes old new answer
+Answers its (command.MakeVote wanted) now bytes old new answer =
+    MakeVoteBy its wanted.bandwidths wanted.newest now bytes old new answer
 Answers its (command.Rehearse wanted) now bytes old new answer = RehearseAnswers wanted answer
 Answers its (command.Report wanted) now bytes old new answer =
     AnsweredAs by_report (ReportAnswers its.rules wanted bytes) answer
@@ -65,7 +67,7 @@ abbrev pub verifies : Command → Bool
 verifies (command.Compute wanted) = true
 verifies (command.Check named) = false
 verifies (command.Show named) = false
-verifies (command.MakeVote bandwidths) = true
+verifies (command.MakeVote wanted) = true
 verifies (command.Rehearse wanted) = false
 verifies (command.Report wanted) = true
 verifies (command.Serve wanted) = true
@@ -80,7 +82,7 @@ abbrev pub signs : Command → Bool
 signs (command.Compute wanted) = false
 signs (command.Check kind) = false
 signs (command.Show kind) = false
-signs (command.MakeVote bandwidths) = true
+signs (command.MakeVote wanted) = true
 signs (command.Rehearse wanted) = false
 signs (command.Report wanted) = false
 signs (command.Serve wanted) = true
@@ -95,7 +97,7 @@ abbrev pub asks_clock : Command → Bool
 asks_clock (command.Compute wanted) = false
 asks_clock (command.Check kind) = false
 asks_clock (command.Show kind) = false
-asks_clock (command.MakeVote bandwidths) = true
+asks_clock (command.MakeVote wanted) = true
 asks_clock (command.Rehearse wanted) = false
 asks_clock (command.Report wanted) = false
 asks_clock (command.Serve wanted) = true
@@ -123,7 +125,7 @@ abbrev pub IsEarly : Command → Refusal → Type 0
 IsEarly (command.Compute wanted) why = ⊥
 IsEarly (command.Check named) why = Unit {0}
 IsEarly (command.Show named) why = Unit {0}
-IsEarly (command.MakeVote bandwidths) why = IsOfStation why
+IsEarly (command.MakeVote wanted) why = IsOfStation why
 IsEarly (command.Rehearse wanted) why = Unit {0}
 IsEarly (command.Report wanted) why = IsOfDocuments why
 IsEarly (command.Serve wanted) why = ⊥
@@ -135,13 +137,18 @@ IsBeforeSigner refusal.Gate = ⊥
 IsBeforeSigner refusal.MadeVote = ⊥
 IsBeforeSigner _ = Unit {0}
 
+-- the inputs that `make-vote` has to answer with a vote at a moment, by where measured bandwidths come from, and by the
+-- newest method that is known
+abbrev pub CanMakeVoteBy : Rules → Measures → Newest → ℕ → List ℕ → Type 0
+CanMakeVoteBy rules measures.Station newest now bytes = CanMakeVote rules newest now bytes
+CanMakeVoteBy rules measures.File newest now bytes = CanMakeVoteWithFile rules newest now bytes
+
 -- the inputs that a command has to answer with a text at a moment: a line for each command
 abbrev pub Answerable : Rules → Command → ℕ → List ℕ → Type 0
 Answerable rules (command.Compute wanted) now bytes = CanCompute rules wanted bytes
 Answerable rules (command.Check named) now bytes = IsSubject named bytes
 Answerable rules (command.Show named) now bytes = IsSubject named bytes
-Answerable rules (command.MakeVote measures.Station) now bytes = CanMakeVote rules now bytes
-Answerable rules (command.MakeVote measures.File) now bytes = CanMakeVoteWithFile rules now bytes
+Answerable rules (command.MakeVote wanted) now bytes = CanMakeVoteBy rules wanted.bandwidths wanted.newest now bytes
 Answerable rules (command.Rehearse wanted) now bytes = Unit {0}
 Answerable rules (command.Report wanted) now bytes = CanReport rules wanted bytes
 Answerable rules (command.Serve wanted) now bytes = ⊥

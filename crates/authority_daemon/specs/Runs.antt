@@ -34,7 +34,7 @@ abbrev pub reads_input : Command → Bool
 reads_input (command.Compute wanted) = true
 reads_input (command.Check named) = true
 reads_input (command.Show named) = true
-reads_input (command.MakeVote bandwidths) = true
+reads_input (command.MakeVote wanted) = true
 reads_input (command.Rehearse wanted) = false
 reads_input (command.Report wanted) = true
 reads_input (command.Serve wanted) = true

@@ -50,14 +50,15 @@ module _ {S C V N G L : Type 0} (its : May N) (tells : Telling C G) (wanted : Se
   abbrev pub EndsServing : List ℕ → Served → Type 0
   EndsServing bytes how =
       AtOnce tells old.clocks (λ now. HasServed its.rules its.gives its.steps tells.last tells.faults tells.closed
-      wanted.bandwidths now bytes old.gates new.gates old.written new.written old.write_faults new.write_faults how)
+      wanted.bandwidths wanted.newest now bytes old.gates new.gates old.written new.written old.write_faults
+      new.write_faults how)
 
   -- The input is refused at that moment; and where an authority can serve of it then, only since the verifier failed.
   pub record IsRefusedAt (bytes : List ℕ) (why : Refusal) (now : ℕ) : Type 0 where
     pub own : ServeRefusal
     pub told : why ≡ by_serve own
-    pub refuses : RefusesToServe its.rules wanted.bandwidths now bytes own
-    pub unable : CanServe its.rules wanted.bandwidths now bytes → why ≡ refusal.Verifier
+    pub refuses : RefusesToServe its.rules wanted.bandwidths wanted.newest now bytes own
+    pub unable : CanServe its.rules wanted.bandwidths wanted.newest now bytes → why ≡ refusal.Verifier
 
   -- how a run ends whose input was read: the authority served, and its report was written, whole or a front of it, or
   -- a gate failed, with that report or none; or the input is refused

@@ -6,10 +6,11 @@ ghost use Rattle.daemon_words.specs.Stops.{Answered, AnsweredAs};
 ghost use Rattle.document_commands.specs.Answers.{CheckAnswers, ShowAnswers};
 ghost use Rattle.report_command.specs.Answers.{ReportAnswers};
 ghost use Rattle.exit_status.specs.Told.{by_report, by_subject};
-ghost use Rattle.authority_daemon.specs.Commands.{IsBeforeSigner, IsEarly, MakeVoteBy, may};
+ghost use Rattle.authority_daemon.specs.Commands.{IsBeforeSigner, IsEarly, IsOfStation, MakeVoteBy, may};
 ghost use Rattle.authority_daemon.specs.Inside.{AsksNoKeys, OfRefusal};
 
 use bytes::Bytes;
+use count_terms::Newest;
 use daemon_words::{Command, Measures, Report, Stop, Subject};
 use dir_bytes::Clock;
 use exit_status::{Refusal, by_file_vote, by_make_vote, by_report, by_subject};
@@ -69,10 +70,11 @@ pub(crate) fn health<V: Verifier>(
     }
 }
 
-/// The vote that `make-vote` makes of an input, by where measured bandwidths come from.
+/// The vote that `make-vote` makes of an input, by where measured bandwidths come from, and by the newest method that is known.
 pub(crate) fn vote<C: Clock, V: Verifier, N: Signer>(
     alloc: Global,
     bandwidths: Measures,
+    newest: Newest,
     bytes: &Bytes,
     clock: &mut C,
     verifier: &mut V,
@@ -80,22 +82,22 @@ pub(crate) fn vote<C: Clock, V: Verifier, N: Signer>(
 ) -> Result<Vec<u8>, Stop<Refusal>>
     requires { length bytes.now < 2 ^ 61 }
     ensures answer { Answered (MakeVoteBy (may V.may_accept V.may_refuse N.may_give N.steps) bandwidths
-        (C.last clock.new) bytes.now signer.old signer.new) result }
+        newest (C.last clock.new) bytes.now signer.old signer.new) result }
     ensures clock { Counts (C.asks clock.old) (C.asks clock.new) }
     ensures verifier_fault { result ≡ Err (Stop.Refused Refusal.Verifier) → Rose (V.faults verifier.old) (V.faults verifier.new) }
     ensures verifier_told { V.faults verifier.old < V.faults verifier.new → result ≡ Err (Stop.Refused Refusal.Verifier) }
     ensures signer_fault { result ≡ Err (Stop.Refused Refusal.Signer) → Rose (N.faults signer.old) (N.faults signer.new) }
     ensures signer_told { N.faults signer.old < N.faults signer.new → result ≡ Err (Stop.Refused Refusal.Signer) }
-    ensures unasked { IfErr result (λ why. OfRefusal (IsEarly (Command.MakeVote bandwidths)) why → verifier.new ≡ verifier.old) }
+    ensures unasked { IfErr result (λ why. OfRefusal IsOfStation why → verifier.new ≡ verifier.old) }
     ensures unsigned { IfErr result (λ why. OfRefusal IsBeforeSigner why → signer.new ≡ signer.old) }
 {
     match bandwidths {
-        Measures::Station => match make_vote(alloc, bytes, clock, verifier, signer) {
+        Measures::Station => match make_vote(alloc, newest, bytes, clock, verifier, signer) {
             Ok(text) => Ok(text),
             Err(Stop::Refused(why)) => Err(Stop::Refused(by_make_vote(why))),
             Err(Stop::Memory) => Err(Stop::Memory),
         },
-        Measures::File => match make_vote_with_file(alloc, bytes, clock, verifier, signer) {
+        Measures::File => match make_vote_with_file(alloc, newest, bytes, clock, verifier, signer) {
             Ok(text) => Ok(text),
             Err(Stop::Refused(why)) => Err(Stop::Refused(by_file_vote(why))),
             Err(Stop::Memory) => Err(Stop::Memory),

@@ -141,9 +141,10 @@ fn answer_to<
     match command {
         Command::Check(subject) => check(alloc, *subject, bytes),
         Command::Show(subject) => show(alloc, *subject, bytes),
-        Command::MakeVote(bandwidths) => vote(
+        Command::MakeVote(wanted) => vote(
             alloc,
-            *bandwidths,
+            wanted.bandwidths,
+            wanted.newest,
             bytes,
             &mut outside.clocks[0],
             &mut outside.verifiers[0],

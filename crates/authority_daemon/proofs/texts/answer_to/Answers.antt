@@ -1,7 +1,7 @@
-use Rattle.std.proofs.Common.{◌<◌, length, rules}
-use Rattle.daemon_words.specs.declared.command.Command.TheVariants as command
+use Rattle.std.proofs.Common.{◌<◌, length, refl, rules}
 use Rattle.authority_daemon.specs.Commands.{asks_clock, may}
 use Rattle.authority_daemon.proofs.Asking.{behind_stay, counted, first_is, none_asked, tells, vote_answered}
+use Rattle.authority_daemon.proofs.Asking.{vote_unasked}
 use Rattle.authority_daemon.proofs.Ending.{on_true}
 use Rattle.authority_daemon.proofs.texts.answer_to.Goals as goal
 
@@ -12,7 +12,7 @@ returns-in-MakeVote-clause-answer g c =
     record {
       answer =
           vote_answered (may g.V.Verifier.may_accept g.V.Verifier.may_refuse g.N.Signer.may_give g.N.Signer.steps)
-          c.in-MakeVote.bandwidths c.args.command.now (g.C.Clock.last c.vote.new.clock) _ c.args.bytes.now _ _ c.vote.result
+          _ c.args.command.now (g.C.Clock.last c.vote.new.clock) _ c.args.bytes.now _ _ c.vote.result
           c.in-MakeVote.is
           (first_is g.C.Clock.last c.args.outside.now.clocks.items c.vote.new.clock clocks)
           c.vote.ensures.answer;
@@ -24,9 +24,10 @@ returns-in-MakeVote-clause-answer g c =
       others = behind_stay c.args.outside.now.verifiers.items c.vote.new.verifier;
       unasked = search rules;
       unchecked =
-          none_asked (command.MakeVote c.in-MakeVote.bandwidths) c.args.command.now c.args.outside.now.verifiers.items c.index_mut-in-MakeVote.result.now
-          c.vote.new.verifier c.vote.result c.in-MakeVote.is verifiers
-          c.index_mut-in-MakeVote.ensures.value c.vote.ensures.unasked;
+          none_asked c.args.command.now c.args.command.now c.args.outside.now.verifiers.items
+          c.index_mut-in-MakeVote.result.now c.vote.new.verifier c.vote.result refl verifiers
+          c.index_mut-in-MakeVote.ensures.value
+          (vote_unasked _ c.args.command.now c.vote.result _ c.in-MakeVote.is c.vote.ensures.unasked);
       timed =
           λ answered. on_true (asks_clock c.args.command.now) _
           (counted g.C.Clock.asks c.args.outside.now.clocks.items c.index_mut.result.now
