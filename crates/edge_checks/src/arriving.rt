@@ -6,6 +6,7 @@ ghost use Rattle.key_port.specs.TestScheme as scheme;
 
 use crate::arriving_votes::{CONSENSUS, VOTES};
 use compute_command::compute_from;
+use count_terms::Newest;
 use daemon_words::{Compute, Flavours};
 use dir_bytes::{ReadAnswer, Source};
 use dir_values::{Fingerprint, Roster};
@@ -98,6 +99,7 @@ fn wanted(alloc: Global) -> Result<Compute, Fail> {
         roster,
         valid_after: PERIOD,
         flavours: Flavours::Ns,
+        newest: Newest::Method33,
     })
 }
 

@@ -2,6 +2,7 @@
 ghost use Rattle.std.specs.Prelude.{All, IfOk};
 ghost use Rattle.serve_board.specs.Boards.{IsAt};
 
+use count_terms::Newest;
 use dir_bytes::Memory;
 use dir_values::{Fingerprint, Roster};
 use key_port::TestKeys;
@@ -28,7 +29,7 @@ fn board_of(alloc: Global) -> Result<(Board<TestKeys>, Vec<Pass<TestKeys>>), Fai
     let all = [own, Fingerprint([2; 20]), Fingerprint([3; 20])];
     let roster = Roster::new(all.to_vec(alloc)?)?;
     let config = Config::new(3600, 300, 300)?;
-    let Ok(station) = Station::start(alloc, roster, own, config, START) else {
+    let Ok(station) = Station::start(alloc, roster, own, Newest::Method33, config, START) else {
         return Err(Fail::new("no station"));
     };
     Ok(Board::new(alloc, station, Pool::new(alloc)?, 2)?)
