@@ -1,8 +1,7 @@
 -- When a descriptor holds (dir-spec, "Server descriptor format"; cert-spec).
-use Rattle.std.specs.Prelude.{◌≡◌, ◌⊎◌, ℕ, ◌*◌, nat_le, Bool, true, false, ◌&&◌, ◌||◌, List}
+use Rattle.std.specs.Prelude.{◌≡◌, ◌⊎◌, ℕ, Bool, true, false, ◌&&◌, ◌||◌, List}
 use Rattle.std.specs.declared.option.Option.{Option}
 use Rattle.std.specs.declared.option.Option.TheVariants.{Some, None}
-use Rattle.std.specs.Str.{bytes_eq}
 use Rattle.dir_values.specs.Digests.{same_identity}
 use Rattle.dir_values.specs.declared.digest.Fingerprint.{Fingerprint}
 use Rattle.descriptor_frame.specs.declared.certificate.EdCert.{EdCert}
@@ -14,6 +13,8 @@ use Rattle.descriptor_doc.specs.declared.checking.DescriptorRefusal.{DescriptorR
 use Rattle.descriptor_doc.specs.declared.checking.DescriptorRefusal.TheVariants as refusal
 use Rattle.descriptor_doc.specs.declared.descriptor.Descriptor.{Descriptor}
 use Rattle.descriptor_doc.specs.declared.descriptor.EdSignature.{EdSignature}
+use Rattle.descriptor_doc.specs.Certified.{AsksCertificate, certifies, has_expired, is_signer}
+use Rattle.descriptor_doc.specs.Families.{AreOfFamilies, AsksFamilies, are_families_refused}
 use Rattle.descriptor_doc.specs.Reading.{IsRead}
 
 -- ---- who signed it
@@ -28,11 +29,6 @@ abbrev pub both_or_neither : Option EdCert → Option EdSignature → Bool
 both_or_neither None None = true
 both_or_neither (Some certificate) (Some signature) = true
 both_or_neither _ _ = false
-
--- whether a certificate's signer is this key
-abbrev pub is_signer : List ℕ → Option EdCert → Bool
-is_signer key None = false
-is_signer key (Some certificate) = bytes_eq certificate.signer key
 
 -- whether the master key, where there is one, is the certificate's signer
 abbrev pub is_master : Option (List ℕ) → Option EdCert → Bool
@@ -51,14 +47,6 @@ names_itself d =
 abbrev pub signs : Relation → Descriptor → Bool
 signs has d = has kind.Signing d.signing_key d.digest.0 d.router_signature
 
--- whether a certificate's hours have passed when a descriptor was published
-abbrev pub has_expired : ℕ → EdCert → Bool
-has_expired published certificate = nat_le (certificate.expires_hours * 3600) published
-
--- whether a relation has the signer's signature of a certificate
-abbrev pub certifies : Relation → EdCert → Bool
-certifies has certificate = has kind.Ed25519 certificate.signer certificate.covered certificate.signature
-
 -- whether a relation has the certified key's signature of a descriptor
 abbrev pub ed_signs : Relation → EdCert → EdSignature → Bool
 ed_signs has certificate signature = has kind.Ed25519 certificate.key signature.covered.0 signature.signature
@@ -75,11 +63,13 @@ abbrev pub IsEdSigned : Rules → ℕ → Option EdCert → Option EdSignature �
 IsEdSigned rules published (Some certificate) (Some signature) = AreEdSigned rules published certificate signature
 IsEdSigned rules published _ _ = Unit {0}
 
--- The descriptor holds: it names the identities that it has, and all its signatures may be accepted.
+-- The descriptor holds: it names the identities that it has, and all its signatures and those of its families may be
+-- accepted.
 pub record IsVerified (rules : Rules) (d : Descriptor) : Type 0 where
   pub names_itself : names_itself d ≡ true
   pub signed : signs rules.may_accept d ≡ true
   pub ed_signed : IsEdSigned rules d.published d.identity_ed25519 d.router_sig_ed25519
+  pub families : AreOfFamilies rules d.published d.identity_ed25519 d.family_certs
 
 -- what is kept of a descriptor that was checked: it was read, and it holds
 pub record IsChecked (rules : Rules) (d : Descriptor) : Type 0 where
@@ -114,13 +104,27 @@ AnswersEdIf rules published certificate signature answer.No =
     is_ed_refused rules published certificate signature ≡ true
 AnswersEdIf rules published certificate signature answer.Fault = Unit {0}
 
+-- The Ed25519 signatures may be refused; or they hold, and the families may be refused.
+abbrev pub IsEdRefused : Rules → Descriptor → Type 0
+IsEdRefused rules d =
+    (is_ed_refused rules d.published d.identity_ed25519 d.router_sig_ed25519 ≡ true)
+    ⊎ (IsEdSigned rules d.published d.identity_ed25519 d.router_sig_ed25519
+    × (are_families_refused rules d.published d.identity_ed25519 d.family_certs ≡ true))
+
+-- what a verifier answers of the Ed25519 signatures and the families of a descriptor
+abbrev pub AnswersBehind : Rules → Descriptor → VerifyAnswer → Type 0
+AnswersBehind rules d answer.Yes =
+    IsEdSigned rules d.published d.identity_ed25519 d.router_sig_ed25519
+    × AreOfFamilies rules d.published d.identity_ed25519 d.family_certs
+AnswersBehind rules d answer.No = IsEdRefused rules d
+AnswersBehind rules d answer.Fault = Unit {0}
+
 -- the first clause fails that a refusal names. Where the verifier failed it was asked.
 abbrev pub RefusedBy : Rules → Descriptor → DescriptorRefusal → Type 0
 RefusedBy rules d refusal.IdentityMismatch = names_itself d ≡ false
 RefusedBy rules d refusal.BadSignature = (names_itself d ≡ true) × (signs rules.may_refuse d ≡ true)
 RefusedBy rules d refusal.BadEdSignature =
-    (names_itself d ≡ true) × (signs rules.may_accept d ≡ true)
-    × (is_ed_refused rules d.published d.identity_ed25519 d.router_sig_ed25519 ≡ true)
+    (names_itself d ≡ true) × (signs rules.may_accept d ≡ true) × IsEdRefused rules d
 RefusedBy rules d refusal.VerifierFault = names_itself d ≡ true
 
 -- ---- what the verifier is asked
@@ -128,11 +132,6 @@ RefusedBy rules d refusal.VerifierFault = names_itself d ≡ true
 -- the verifier is asked of the signature of the descriptor's digest by its signing key, and answers so
 abbrev pub AsksSignature : {V : Type 0} → Steps V → Descriptor → V → VerifyAnswer → V → Type 0
 AsksSignature steps d old result new = steps old kind.Signing d.signing_key d.digest.0 d.router_signature result new
-
--- it is asked of the signer's signature of a certificate, and answers so
-abbrev pub AsksCertificate : {V : Type 0} → Steps V → EdCert → V → VerifyAnswer → V → Type 0
-AsksCertificate steps certificate old result new =
-    steps old kind.Ed25519 certificate.signer certificate.covered certificate.signature result new
 
 -- it accepts that one, is asked of the certified key's signature of a descriptor, and answers so
 abbrev pub AsksBothEd : {V : Type 0} → Steps V → EdCert → EdSignature → V → VerifyAnswer → V → Type 0
@@ -160,14 +159,29 @@ AsksEdIf steps published (Some certificate) (Some signature) old result new =
     AsksEd steps published certificate signature old result new
 AsksEdIf steps published _ _ old result new = new ≡ old
 
--- it accepts the descriptor's signature, and then answers so of those of Ed25519
+-- it accepts the Ed25519 signatures that there are, and then answers so of the families
+abbrev pub AsksEdAndFamilies : {V : Type 0} → Steps V → Descriptor → V → VerifyAnswer → V → Type 0
+AsksEdAndFamilies {V} steps d old result new =
+    (between : V) × AsksEdIf steps d.published d.identity_ed25519 d.router_sig_ed25519 old answer.Yes between
+    × AsksFamilies steps d.published d.identity_ed25519 d.family_certs between result new
+
+-- it is asked of both in turn, up to the first that it does not accept, and answers so
+abbrev pub AsksBehind : {V : Type 0} → Steps V → Descriptor → V → VerifyAnswer → V → Type 0
+AsksBehind steps d old answer.Yes new = AsksEdAndFamilies steps d old answer.Yes new
+AsksBehind steps d old answer.No new =
+    AsksEdIf steps d.published d.identity_ed25519 d.router_sig_ed25519 old answer.No new
+    ⊎ AsksEdAndFamilies steps d old answer.No new
+AsksBehind steps d old answer.Fault new =
+    AsksEdIf steps d.published d.identity_ed25519 d.router_sig_ed25519 old answer.Fault new
+    ⊎ AsksEdAndFamilies steps d old answer.Fault new
+
+-- it accepts the descriptor's signature, and then answers so of those of Ed25519 and of its families
 abbrev pub AsksAll : {V : Type 0} → Steps V → Descriptor → V → VerifyAnswer → V → Type 0
 AsksAll {V} steps d old result new =
-    (between : V) × AsksSignature steps d old answer.Yes between
-    × AsksEdIf steps d.published d.identity_ed25519 d.router_sig_ed25519 between result new
+    (between : V) × AsksSignature steps d old answer.Yes between × AsksBehind steps d between result new
 
 -- All that it is asked of a descriptor that is refused: of one that names another identity nothing; else of the descriptor's
--- signature, and where it accepted that of those of Ed25519.
+-- signature, and where it accepted that of those of Ed25519 and of its families.
 abbrev pub AsksOfRefused : {V : Type 0} → Steps V → Descriptor → DescriptorRefusal → V → V → Type 0
 AsksOfRefused steps d refusal.IdentityMismatch old new = new ≡ old
 AsksOfRefused steps d refusal.BadSignature old new = AsksSignature steps d old answer.No new

@@ -1,5 +1,5 @@
 -- What a descriptor says (dir-spec, "Server descriptor format").
-use Rattle.std.specs.Prelude.{ℕ, ◌+◌, ◌==◌, Bool, List, ◌++◌, length, take, map, slice_range, codes}
+use Rattle.std.specs.Prelude.{ℕ, ◌+◌, ◌==◌, Bool, List, [], ◌++◌, length, take, map, slice_range, codes}
 use Rattle.std.specs.Prelude.{Option, Some, None, option_and_then}
 use Rattle.std.specs.List.{position_or_len}
 use Rattle.std.specs.Option.{option_map}
@@ -83,7 +83,7 @@ abbrev pub ed_signature_in : List ℕ → Head → List ℕ → EdSignature
 ed_signature_in bytes head signature =
     record { signature = signature; covered = record { 0 = ed_digest bytes head } }
 
--- what the descriptor says of which this was kept, in these bytes
+-- what the descriptor says of which this was kept, in these bytes; of its families nothing is read yet
 abbrev pub descriptor_in : List ℕ → Kept → Descriptor
 descriptor_in bytes kept = record {
   router = router_in bytes kept.head.router;
@@ -110,4 +110,5 @@ descriptor_in bytes kept = record {
   identity = record { 0 = sha1 (bytes_in bytes kept.head.signing_key) };
   digest = record { 0 = sha1 (signed_part bytes kept.head) };
   text = whole_part bytes kept.head;
+  family_certs = Some [];
 }

@@ -1,5 +1,7 @@
 -- The descriptor that bytes begin with, or their first fault (dir-spec, "Server descriptor format").
-use Rattle.std.specs.Prelude.{◌≡◌, ℕ, ◌+◌, ◌-◌, ◌≤◌, List, drop, length, take, unwrap_or, Result, Ok, Err}
+use Rattle.std.specs.Prelude.{◌≡◌, ℕ, ◌+◌, ◌-◌, ◌≤◌, List, drop, length, take, Option, unwrap_or, Result, Ok, Err}
+use Rattle.count_terms.specs.declared.newest.Newest.{Newest}
+use Rattle.count_terms.specs.declared.newest.Newest.TheVariants.{Method33, Method34, Method35}
 use Rattle.item_terms.specs.Items.{items_of}
 use Rattle.frame_terms.specs.declared.fault.ReadRefusal.{ReadRefusal}
 use Rattle.frame_terms.specs.Documents.{document_of, finish}
@@ -7,10 +9,12 @@ use Rattle.frame_terms.specs.Refusals.{Fails}
 use Rattle.blank_lines.specs.Behind.{refusal_behind}
 use Rattle.blank_lines.specs.Blanks.{after_blanks}
 use Rattle.descriptor_frame.specs.Tables.{descriptor_tables}
+use Rattle.descriptor_frame.specs.declared.certificate.EdCert.{EdCert}
 use Rattle.descriptor_doc.specs.declared.descriptor.Descriptor.{Descriptor}
 use Rattle.descriptor_doc.specs.declared.kept.Kept.{Kept}
 use Rattle.descriptor_doc.specs.Heads.{none_kept, kept_with}
 use Rattle.descriptor_doc.specs.Descriptors.{descriptor_in}
+use Rattle.descriptor_doc.specs.FamilyCerts.{family_certs_of}
 
 -- how many bytes a descriptor may have, with the blank lines before it
 abbrev pub max_descriptor : ℕ
@@ -48,8 +52,36 @@ abbrev pub ReadsDescriptor : List ℕ → Result (Descriptor × ℕ) ReadRefusal
 ReadsDescriptor bytes (Ok (descriptor, used)) = (descriptor_of bytes ≡ Ok (descriptor, used)) × (used ≤ length bytes)
 ReadsDescriptor bytes (Err refusal) = Fails refusal (descriptor_of bytes)
 
--- the descriptor was read: some bytes begin with it
+-- ---- by what an authority knows
+
+-- the family certificates that a descriptor's text says; none at all, where one of its items `family-cert` says none
+abbrev pub family_certs_in : List ℕ → Option (List EdCert)
+family_certs_in text = family_certs_of (items_of max_descriptor (take max_descriptor text)).items
+
+-- the descriptor as an authority reads it whose newest method is this: from method 35 on with its family certificates
+abbrev pub as_read : Newest → Descriptor → Descriptor
+as_read Method33 d = d
+as_read Method34 d = d
+as_read Method35 d = record d { family_certs = family_certs_in d.text }
+
+-- the same of what was read
+abbrev pub read_under : Newest → Result (Descriptor × ℕ) ReadRefusal → Result (Descriptor × ℕ) ReadRefusal
+read_under newest (Ok (d, used)) = Ok (as_read newest d, used)
+read_under newest (Err refusal) = Err refusal
+
+-- the descriptor that the bytes begin with, as such an authority reads it, and the place after it; or the first fault
+abbrev pub descriptor_under : Newest → List ℕ → Result (Descriptor × ℕ) ReadRefusal
+descriptor_under newest bytes = read_under newest (descriptor_of bytes)
+
+-- what reading so answers: that descriptor, which is within the bytes; or the first fault, or want of memory
+abbrev pub ReadsUnder : Newest → List ℕ → Result (Descriptor × ℕ) ReadRefusal → Type 0
+ReadsUnder newest bytes (Ok (descriptor, used)) =
+    (descriptor_under newest bytes ≡ Ok (descriptor, used)) × (used ≤ length bytes)
+ReadsUnder newest bytes (Err refusal) = Fails refusal (descriptor_under newest bytes)
+
+-- the descriptor was read: some bytes begin with it, as an authority with some newest method reads it
 pub record IsRead (descriptor : Descriptor) : Type 0 where
+  pub newest : Newest
   pub input : List ℕ
   pub used : ℕ
-  pub read : descriptor_of input ≡ Ok (descriptor, used)
+  pub read : descriptor_under newest input ≡ Ok (descriptor, used)

@@ -1,15 +1,18 @@
 // When a descriptor holds.
 ghost use Rattle.std.specs.Prelude.{◌≡◌, ◌≤◌, ◌<◌, Err, IfOk, IfErr};
 ghost use Rattle.dir_bytes.specs.Causes.{Rose};
-ghost use Rattle.key_port.specs.Answers.{rules};
+ghost use Rattle.key_port.specs.Answers.{CountsAnswers, rules};
 ghost use Rattle.key_port.specs.declared.verifier.VerifyAnswer.TheVariants as verified;
+ghost use Rattle.descriptor_doc.specs.Certified as certified;
 ghost use Rattle.descriptor_doc.specs.Checks as checks;
 ghost use Rattle.descriptor_doc.specs.Checks.{AsksAll, AsksOfRefused, IsVerified, RefusedBy};
+ghost use Rattle.descriptor_doc.specs.Families as kin;
 ghost use Rattle.descriptor_doc.specs.Reading.{IsRead};
 
 use crate::checked::CheckedDescriptor;
 use crate::descriptor::{Descriptor, EdSignature};
 use descriptor_frame::EdCert;
+use dir_bytes::Seq;
 use dir_values::Fingerprint;
 use key_port::{KeyKind, Verifier, VerifyAnswer};
 
@@ -22,7 +25,7 @@ pub enum DescriptorRefusal {
     /// The signing key's signature was refused.
     BadSignature,
     /// The Ed25519 certificate had expired when the descriptor was published, or its signature or the Ed25519 signature of
-    /// the descriptor was refused.
+    /// the descriptor was refused; or a family certificate does not hold.
     BadEdSignature,
     /// The verifier failed, and nothing is known.
     VerifierFault,
@@ -50,7 +53,7 @@ fn both_or_neither(certificate: &Option<EdCert>, signature: &Option<EdSignature>
 
 /// Whether a certificate's signer is this key.
 fn is_signer(key: &[u8; 32], certificate: &Option<EdCert>) -> bool
-    ensures { result ≡ checks.is_signer key.now certificate.now }
+    ensures { result ≡ certified.is_signer key.now certificate.now }
 {
     match certificate {
         None => false,
@@ -79,7 +82,7 @@ fn names_itself(descriptor: &Descriptor) -> bool
 
 /// Whether a certificate's hours have passed at a moment.
 fn has_expired(published: u64, certificate: &EdCert) -> bool
-    ensures { result ≡ checks.has_expired published certificate.now }
+    ensures { result ≡ certified.has_expired published certificate.now }
 {
     certificate.expires_hours as u64 * 3600 <= published
 }
@@ -92,9 +95,7 @@ fn verify_ed<V: Verifier>(
     verifier: &mut V,
 ) -> VerifyAnswer
     ensures answer { checks.AnswersEd (rules V.may_accept V.may_refuse) published certificate.now signature.now result }
-    ensures fault { result ≡ VerifyAnswer.Fault → Rose (V.faults verifier.old) (V.faults verifier.new) }
-    ensures faults { V.faults verifier.old ≤ V.faults verifier.new }
-    ensures told { V.faults verifier.old < V.faults verifier.new → result ≡ VerifyAnswer.Fault }
+    ensures cause { CountsAnswers (V.faults verifier.old) (V.faults verifier.new) result }
     ensures asked { checks.AsksEd V.steps published certificate.now signature.now verifier.old result verifier.new }
 {
     if has_expired(published, certificate) {
@@ -119,9 +120,7 @@ fn verify_ed<V: Verifier>(
 /// What the verifier says of the Ed25519 signatures that there are.
 fn verify_ed_if<V: Verifier>(descriptor: &Descriptor, verifier: &mut V) -> VerifyAnswer
     ensures answer { checks.AnswersEdIf (rules V.may_accept V.may_refuse) descriptor.now.published descriptor.now.identity_ed25519 descriptor.now.router_sig_ed25519 result }
-    ensures fault { result ≡ VerifyAnswer.Fault → Rose (V.faults verifier.old) (V.faults verifier.new) }
-    ensures faults { V.faults verifier.old ≤ V.faults verifier.new }
-    ensures told { V.faults verifier.old < V.faults verifier.new → result ≡ VerifyAnswer.Fault }
+    ensures cause { CountsAnswers (V.faults verifier.old) (V.faults verifier.new) result }
     ensures asked { checks.AsksEdIf V.steps descriptor.now.published descriptor.now.identity_ed25519 descriptor.now.router_sig_ed25519 verifier.old result verifier.new }
 {
     match (&descriptor.identity_ed25519, &descriptor.router_sig_ed25519) {
@@ -129,6 +128,87 @@ fn verify_ed_if<V: Verifier>(descriptor: &Descriptor, verifier: &mut V) -> Verif
             verify_ed(descriptor.published, certificate, signature, verifier)
         }
         _ => VerifyAnswer::Yes,
+    }
+}
+
+/// Whether a family certificate is of this Ed25519 identity, and had not expired at a moment.
+fn is_of_family(published: u64, certificate: &Option<EdCert>, family: &EdCert) -> bool
+    ensures { result ≡ kin.is_of_family published certificate.now family.now }
+{
+    is_signer(&family.key, certificate) && !has_expired(published, family)
+}
+
+/// What the verifier says of the family key's signature, if the family certificate is of this identity and has not expired.
+fn verify_family<V: Verifier>(
+    published: u64,
+    certificate: &Option<EdCert>,
+    family: &EdCert,
+    verifier: &mut V,
+) -> VerifyAnswer
+    ensures answer { kin.AnswersFamily (rules V.may_accept V.may_refuse) published certificate.now family.now result }
+    ensures cause { CountsAnswers (V.faults verifier.old) (V.faults verifier.new) result }
+    ensures asked { kin.AsksFamily V.steps published certificate.now family.now verifier.old result verifier.new }
+{
+    if !is_of_family(published, certificate, family) {
+        return VerifyAnswer::No;
+    }
+    let covered = family.covered.as_bytes();
+    verifier.verify(KeyKind::Ed25519, &family.signer, covered, &family.signature)
+}
+
+/// What the verifier says of some family certificates, in their order, up to the first that does not hold.
+fn verify_each<V: Verifier>(
+    published: u64,
+    certificate: &Option<EdCert>,
+    families: &[EdCert],
+    verifier: &mut V,
+) -> VerifyAnswer
+    ensures answer { kin.AnswersEach (rules V.may_accept V.may_refuse) published certificate.now families.now result }
+    ensures cause { CountsAnswers (V.faults verifier.old) (V.faults verifier.new) result }
+    ensures asked { kin.AsksEach V.steps published certificate.now families.now verifier.old result verifier.new }
+{
+    'families: for family in families {
+        match verify_family(published, certificate, family, verifier) {
+            VerifyAnswer::Yes => (),
+            VerifyAnswer::No => return VerifyAnswer::No,
+            VerifyAnswer::Fault => return VerifyAnswer::Fault,
+        }
+    }
+    VerifyAnswer::Yes
+}
+
+/// What the verifier says of the family certificates that are said; no, where an item says none that has to.
+fn verify_families<V: Verifier>(
+    published: u64,
+    certificate: &Option<EdCert>,
+    families: &Option<Seq<EdCert>>,
+    verifier: &mut V,
+) -> VerifyAnswer
+    ensures answer { kin.AnswersFamilies (rules V.may_accept V.may_refuse) published certificate.now families.now result }
+    ensures cause { CountsAnswers (V.faults verifier.old) (V.faults verifier.new) result }
+    ensures asked { kin.AsksFamilies V.steps published certificate.now families.now verifier.old result verifier.new }
+{
+    match families {
+        Some(families) => verify_each(published, certificate, families.as_slice(), verifier),
+        None => VerifyAnswer::No,
+    }
+}
+
+/// What the verifier says of the Ed25519 signatures that there are, and where it accepts them of the families.
+fn verify_behind<V: Verifier>(descriptor: &Descriptor, verifier: &mut V) -> VerifyAnswer
+    ensures answer { checks.AnswersBehind (rules V.may_accept V.may_refuse) descriptor.now result }
+    ensures cause { CountsAnswers (V.faults verifier.old) (V.faults verifier.new) result }
+    ensures asked { checks.AsksBehind V.steps descriptor.now verifier.old result verifier.new }
+{
+    match verify_ed_if(descriptor, verifier) {
+        VerifyAnswer::Yes => verify_families(
+            descriptor.published,
+            &descriptor.identity_ed25519,
+            &descriptor.family_certs,
+            verifier,
+        ),
+        VerifyAnswer::No => VerifyAnswer::No,
+        VerifyAnswer::Fault => VerifyAnswer::Fault,
     }
 }
 
@@ -158,7 +238,7 @@ fn refusal_of<V: Verifier>(
         VerifyAnswer::No => return Err(DescriptorRefusal::BadSignature),
         VerifyAnswer::Fault => return Err(DescriptorRefusal::VerifierFault),
     }
-    match verify_ed_if(descriptor, verifier) {
+    match verify_behind(descriptor, verifier) {
         VerifyAnswer::Yes => Ok(()),
         VerifyAnswer::No => Err(DescriptorRefusal::BadEdSignature),
         VerifyAnswer::Fault => Err(DescriptorRefusal::VerifierFault),
@@ -166,15 +246,17 @@ fn refusal_of<V: Verifier>(
 }
 
 /// The descriptor, which was read, as one that was checked, if it holds (dir-spec, "Server descriptor format"): its digest's
-/// signature by its signing key, asked as `Signing`; and, of Ed25519, the certificate's by its signer and the descriptor's by
-/// the certified key. Takes no memory.
+/// signature by its signing key, asked as `Signing`; of Ed25519, the certificate's by its signer and the descriptor's by the
+/// certified key; and each of its family certificates, which has to be of its Ed25519 identity, by the family key. Takes no
+/// memory.
 ///
 /// # Errors
 /// The first that applies: `IdentityMismatch` where it names another identity than it has, for which the verifier is not asked;
 /// `BadSignature` where its signature was refused; `BadEdSignature` where its Ed25519 certificate had expired when it was
-/// published, or one of both Ed25519 signatures was refused; `VerifierFault` only where the verifier's count of faults rose, and
-/// wherever it is greater. The verifier is asked in this order, of none behind the first that it does not accept, and of nothing
-/// else.
+/// published, or one of both Ed25519 signatures was refused, or behind them where one of its items `family-cert` says no family
+/// certificate, or one of another identity, or one that had expired then or whose signature was refused; `VerifierFault` only
+/// where the verifier's count of faults rose, and wherever it is greater. The verifier is asked in this order, of none behind
+/// the first that it does not accept, and of nothing else.
 pub fn check<V: Verifier>(
     descriptor: Descriptor,
     verifier: &mut V,

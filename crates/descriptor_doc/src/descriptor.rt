@@ -82,4 +82,7 @@ pub struct Descriptor {
     pub digest: Digest1,
     /// The bytes that were read, from the first item through the last object, shared with the input.
     pub text: Bytes,
+    /// The certificates by which family keys name the relay, as the items `family-cert` of the text say them, in their order;
+    /// None where one of these items says none. They are read from consensus method 35 on: else there are none.
+    pub family_certs: Option<Seq<EdCert>>,
 }

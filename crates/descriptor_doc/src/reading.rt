@@ -2,13 +2,15 @@
 ghost use Rattle.std.specs.Prelude.{◌≡◌, ◌≤◌, ◌<◌, ◌^◌, IfOk, length, slice_range};
 ghost use Rattle.descriptor_doc.specs.Descriptors.{descriptor_in};
 ghost use Rattle.descriptor_doc.specs.Reading as reading;
-ghost use Rattle.descriptor_doc.specs.Reading.{KeepsDescriptor, ReadsDescriptor, max_descriptor};
+ghost use Rattle.descriptor_doc.specs.Reading.{KeepsDescriptor, ReadsDescriptor, ReadsUnder, max_descriptor};
 
 use crate::descriptor::Descriptor;
+use crate::families::as_read;
 use crate::kept::{Kept, nothing_kept};
 use crate::values::{descriptor_of, shared_between};
 use blank_lines::{after_blanks, refusal_behind};
 use bytes::Bytes;
+use count_terms::Newest;
 use descriptor_frame::DescriptorFrame;
 use dir_bytes::Memory;
 use dirdoc_grammar::Items;
@@ -68,7 +70,8 @@ fn own_descriptor(
 }
 
 /// The descriptor that the bytes begin with, behind blank lines if there are some, and how many bytes that are: it ends with
-/// the object of its `router-signature`. It shares the bytes, of which its text is a part.
+/// the object of its `router-signature`. It shares the bytes, of which its text is a part. Of the relay's families nothing is
+/// read.
 ///
 /// # Errors
 /// `Frame` is the first fault of the descriptor: what is wrong and at which byte. `Memory` is want of memory.
@@ -88,6 +91,29 @@ pub fn read(alloc: Global, bytes: &Bytes) -> Result<(Descriptor, usize), ReadRef
     let used = front as u64 + end;
     match own_descriptor(alloc, bytes, front as u64, used, kept) {
         Ok(descriptor) => Ok((descriptor, used as usize)),
+        Err(_) => Err(ReadRefusal::Memory),
+    }
+}
+
+/// The descriptor that the bytes begin with, as `read` reads it, by an authority whose newest method is this: from method 35 on
+/// with the family certificates of the relay.
+///
+/// # Errors
+/// As those of `read`.
+pub fn read_under(
+    alloc: Global,
+    newest: Newest,
+    bytes: &Bytes,
+) -> Result<(Descriptor, usize), ReadRefusal>
+    requires { length bytes.now < 2 ^ 62 }
+    ensures { ReadsUnder newest bytes.now result }
+{
+    let (descriptor, used) = match read(alloc, bytes) {
+        Ok(read) => read,
+        Err(refusal) => return Err(refusal),
+    };
+    match as_read(alloc, newest, descriptor) {
+        Ok(descriptor) => Ok((descriptor, used)),
         Err(_) => Err(ReadRefusal::Memory),
     }
 }

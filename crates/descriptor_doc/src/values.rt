@@ -252,5 +252,6 @@ pub(crate) fn descriptor_of(alloc: Global, bytes: &Bytes, kept: Kept) -> Result<
         identity,
         digest: Digest1(Sha1::digest(between(text, head.begin, head.signed_end))),
         text: shared_between(bytes, head.begin, head.end)?,
+        family_certs: Some(Seq::new(Vec::new(alloc))),
     })
 }

@@ -53,6 +53,10 @@ least_len = 104
 abbrev pub begins_well : List ℕ → Bool
 begins_well bytes = nat_le least_len (length bytes) && (slice_index bytes 0 == 1) && (slice_index bytes 1 == 4)
 
+-- whether the bytes are enough, and begin with version 1 and type 12, an identity key that a family key signs
+abbrev pub begins_family : List ℕ → Bool
+begins_family bytes = nat_le least_len (length bytes) && (slice_index bytes 0 == 1) && (slice_index bytes 1 == 12)
+
 -- the hours since 1970 after which it does not hold: four bytes, the highest one first
 abbrev pub expiry_of : List ℕ → ℕ
 expiry_of bytes =
@@ -78,19 +82,28 @@ extensions_of bytes = drop 40 (covered_part bytes)
 abbrev pub signer_of : List ℕ → Option (List ℕ)
 signer_of bytes = signer_in (slice_index bytes 39) None (extensions_of bytes)
 
--- the certificate of a signer, if it has one
-abbrev pub with_signer : List ℕ → Option (List ℕ) → Option EdCert
-with_signer bytes None = None
-with_signer bytes (Some signer) = Some (record {
+-- the certificate of a signer
+abbrev pub signed_by : List ℕ → List ℕ → EdCert
+signed_by bytes signer = record {
   expires_hours = expiry_of bytes;
   key_kind = slice_index bytes 6;
   key = key_of bytes;
   signer = signer;
   signature = signature_of bytes;
   covered = covered_part bytes;
-})
+}
+
+-- the same, if it has one
+abbrev pub with_signer : List ℕ → Option (List ℕ) → Option EdCert
+with_signer bytes None = None
+with_signer bytes (Some signer) = Some (signed_by bytes signer)
 
 -- the certificate that bytes are: version, type, expiry, kind of key, key, number of extensions, the extensions,
 -- signature
 abbrev pub certificate_of : List ℕ → Option EdCert
 certificate_of bytes = if begins_well bytes then with_signer bytes (signer_of bytes) else None
+
+-- the certificate that bytes are by which a family key signs the identity key of one of its relays: the same but for its
+-- type; its signer is the family key, and the certified key the relay's identity
+abbrev pub family_certificate_of : List ℕ → Option EdCert
+family_certificate_of bytes = if begins_family bytes then with_signer bytes (signer_of bytes) else None

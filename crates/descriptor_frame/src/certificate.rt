@@ -1,15 +1,15 @@
 // A certificate of an Ed25519 key.
-ghost use Rattle.std.specs.Prelude.{◌≡◌, ◌≤◌, is_some, length};
+ghost use Rattle.std.specs.Prelude.{◌≡◌, ◌≤◌, IfOk, is_some, length};
 ghost use Rattle.dir_values.specs.Refusals.{Reads, or_bad_value};
 ghost use Rattle.descriptor_frame.specs.Certificates as certificates;
 
 use crate::extensions::signer_in;
-use dir_bytes::Text;
+use dir_bytes::{Memory, Text};
 use dir_values::ValueRefusal;
 use std::alloc::Global;
 
 /// A certificate by which a relay's Ed25519 identity key signs the key that it works with (cert-spec, "Document formats",
-/// type 4).
+/// type 4), or by which a family key signs the identity key of one of its relays (type 12).
 #[derive(Debug, Drop)]
 pub struct EdCert {
     /// The hours since 1970-01-01 00:00:00 UTC after which it does not hold.
@@ -42,15 +42,43 @@ impl EdCert {
         let Some(signer) = signer_of(bytes) else {
             return Err(ValueRefusal::BadValue { place: 0 });
         };
-        Ok(EdCert {
-            expires_hours: expiry_of(bytes),
-            key_kind: bytes[6],
-            key: key_of(bytes),
-            signer,
-            signature: signature_of(bytes),
-            covered: Text::copy_of(alloc, covered_part(bytes))?,
-        })
+        Ok(signed_by(alloc, bytes, signer)?)
     }
+
+    /// The certificate that the bytes are by which a family key signs a relay's identity key, where they are one: the same as
+    /// that of a signing key, but of type 12. Its signer is the family key.
+    ///
+    /// # Errors
+    /// `Memory` is want of memory.
+    pub fn read_family(alloc: Global, bytes: &[u8]) -> Result<Option<EdCert>, Memory>
+        ensures { IfOk result (λ cert. cert ≡ certificates.family_certificate_of bytes.now) }
+    {
+        if !begins_family(bytes) {
+            return Ok(None);
+        }
+        match signer_of(bytes) {
+            Some(signer) => Ok(Some(signed_by(alloc, bytes, signer)?)),
+            None => Ok(None),
+        }
+    }
+}
+
+/// The certificate that bytes are, whose signer is known.
+///
+/// # Errors
+/// `Memory` is want of memory.
+fn signed_by(alloc: Global, bytes: &[u8], signer: [u8; 32]) -> Result<EdCert, Memory>
+    requires { certificates.least_len ≤ length bytes.now }
+    ensures { IfOk result (λ cert. cert ≡ certificates.signed_by bytes.now signer) }
+{
+    Ok(EdCert {
+        expires_hours: expiry_of(bytes),
+        key_kind: bytes[6],
+        key: key_of(bytes),
+        signer,
+        signature: signature_of(bytes),
+        covered: Text::copy_of(alloc, covered_part(bytes))?,
+    })
 }
 
 /// Whether the bytes are a certificate. Takes no memory.
@@ -65,6 +93,13 @@ fn begins_well(bytes: &[u8]) -> bool
     ensures { result ≡ certificates.begins_well bytes.now }
 {
     bytes.len() >= 104 && bytes[0] == 1 && bytes[1] == 4
+}
+
+/// Whether the bytes are enough, and begin with version 1 and type 12.
+fn begins_family(bytes: &[u8]) -> bool
+    ensures { result ≡ certificates.begins_family bytes.now }
+{
+    bytes.len() >= 104 && bytes[0] == 1 && bytes[1] == 12
 }
 
 /// The hours since 1970 after which a certificate does not hold.
