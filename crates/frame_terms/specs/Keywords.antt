@@ -81,6 +81,7 @@ text_of the.Authority = codes "authority"
 text_of the.Rule = codes "rule"
 text_of the.Measured = codes "measured"
 text_of the.EndStation = codes "end-station"
+text_of the.FamilyIds = codes "family-ids"
 
 -- its number in the enum
 abbrev pub number_of : Keyword → ℕ
@@ -158,6 +159,7 @@ number_of the.Authority = 70
 number_of the.Rule = 71
 number_of the.Measured = 72
 number_of the.EndStation = 73
+number_of the.FamilyIds = 74
 
 -- all of them
 abbrev pub known : List Keyword
@@ -177,7 +179,8 @@ known =
     the.Hibernating ∷ the.OnionKey ∷ the.SigningKey ∷ the.NtorOnionKey ∷ the.Accept ∷ the.Reject ∷ the.Ipv6Policy ∷
     the.Family ∷ the.OrAddress ∷ the.TunnelledDirServer ∷ the.Proto ∷ the.RouterSigEd25519 ∷ the.RouterSignature ∷
     the.P6 ∷
-    the.Station ∷ the.Own ∷ the.Schedule ∷ the.Authority ∷ the.Rule ∷ the.Measured ∷ the.EndStation ∷ []
+    the.Station ∷ the.Own ∷ the.Schedule ∷ the.Authority ∷ the.Rule ∷ the.Measured ∷ the.EndStation ∷
+    the.FamilyIds ∷ []
 
 -- the first keyword of a list that has this text
 abbrev pub among : List ℕ → List Keyword → Option Keyword

@@ -152,4 +152,6 @@ pub enum Keyword {
     Measured,
     /// `end-station`
     EndStation,
+    /// `family-ids`
+    FamilyIds,
 }

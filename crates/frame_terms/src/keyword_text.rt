@@ -84,6 +84,7 @@ impl Keyword {
             Keyword::Rule => b"rule",
             Keyword::Measured => b"measured",
             Keyword::EndStation => b"end-station",
+            Keyword::FamilyIds => b"family-ids",
         }
     }
 
@@ -166,6 +167,7 @@ impl Keyword {
             Keyword::Rule => 71,
             Keyword::Measured => 72,
             Keyword::EndStation => 73,
+            Keyword::FamilyIds => 74,
         }
     }
 

@@ -38,11 +38,12 @@ const D_WORDS: [Keyword; 11] = [
 
 const E_WORDS: [Keyword; 1] = [Keyword::EndStation];
 
-const F_WORDS: [Keyword; 4] = [
+const F_WORDS: [Keyword; 5] = [
     Keyword::FreshUntil,
     Keyword::FlagThresholds,
     Keyword::Fingerprint,
     Keyword::Family,
+    Keyword::FamilyIds,
 ];
 
 const H_WORDS: [Keyword; 1] = [Keyword::Hibernating];
