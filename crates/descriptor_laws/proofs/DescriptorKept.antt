@@ -1,5 +1,5 @@
 -- What is kept of a server descriptor that was written says what the descriptor says, with what is computed from its text.
-use Rattle.std.proofs.Common.{◌≡◌, ℕ, ◌+◌, List, ◌++◌, length, Option, Some, None, refl, ap, ◌∙◌}
+use Rattle.std.proofs.Common.{◌≡◌, ℕ, ◌+◌, List, [], ◌++◌, length, Option, Some, None, refl, ap, ◌∙◌}
 use Rattle.std.proofs.Common.{arith, length-append}
 use Rattle.std.specs.Prelude.{IfSome, option_map}
 use Rattle.sha1.specs.Sha1.{sha1}
@@ -114,4 +114,5 @@ module _ (d : Descriptor) (are : SaysInRange d) (rest : List ℕ)
         identity = record { 0 = sha1 (signing i) };
         digest = record { 0 = sha1 (signed_is d are rest stand i) };
         text = whole_is d are rest stand i;
+        family_certs = Some [];
       }

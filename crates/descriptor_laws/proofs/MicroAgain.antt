@@ -40,7 +40,8 @@ abbrev others_of : Micro → List NewItem
 others_of micro =
     ntor_key_items micro.ntor_onion_key
     ++ (family_items micro.family
-    ++ (item_if the.P micro.p ++ (item_if the.P6 micro.p6 ++ id_items micro.id)))
+    ++ (item_if the.FamilyIds micro.family_ids
+    ++ (item_if the.P micro.p ++ (item_if the.P6 micro.p6 ++ id_items micro.id))))
 
 -- no object follows where no dash does
 closed : (items : List NewItem) (rest : List ℕ) → begins_dash rest ≡ false → (is_open items && begins_dash rest)
@@ -104,15 +105,17 @@ no_dash_others micro micros =
     let id = id_items micro.id in
     let p6 = item_if the.P6 micro.p6 in
     let p = item_if the.P micro.p in
+    let ids = item_if the.FamilyIds micro.family_ids in
     let family = family_items micro.family in
     let last : begins_dash (items_text id ++ rest) ≡ false =
     subst (λ (l : List NewItem). begins_dash (items_text l ++ rest) ≡ false) (append-nil id)
     (no_dash_if the.Id (option_map id_text micro.id) [] rest (λ t a b. refl) (no_dash micros)) in
-    no_dash_if the.NtorOnionKey (option_map base64_text micro.ntor_onion_key) (family ++ (p ++ (p6 ++ id))) rest
+    no_dash_if the.NtorOnionKey (option_map base64_text micro.ntor_onion_key) (family ++ (ids ++ (p ++ (p6 ++ id)))) rest
     (λ t a b. refl)
-    (no_dash_if the.Family (option_map family_text micro.family) (p ++ (p6 ++ id)) rest (λ t a b. refl)
+    (no_dash_if the.Family (option_map family_text micro.family) (ids ++ (p ++ (p6 ++ id))) rest (λ t a b. refl)
+    (no_dash_if the.FamilyIds micro.family_ids (p ++ (p6 ++ id)) rest (λ t a b. refl)
     (no_dash_if the.P micro.p (p6 ++ id) rest (λ t a b. refl)
-    (no_dash_if the.P6 micro.p6 id rest (λ t a b. refl) last)))
+    (no_dash_if the.P6 micro.p6 id rest (λ t a b. refl) last))))
 
 -- the next first item ends it
 begins_the_next : IsAgain micro_tables tt first_row again.Document

@@ -58,6 +58,7 @@ abbrev pub fields : List (Field Micro MicroKind Saying)
 fields =
     at_most the.NtorOnionKey kind.Key a_key (λ micro. micro.ntor_onion_key)
     ∷ at_most the.Family kind.Rest (λ l. text (family_text l)) (λ micro. micro.family)
+    ∷ at_most the.FamilyIds kind.Rest text (λ micro. micro.family_ids)
     ∷ at_most the.P kind.Rest text (λ micro. micro.p)
     ∷ at_most the.P6 kind.Rest text (λ micro. micro.p6)
     ∷ at_most the.Id kind.Id an_id (λ micro. micro.id)
@@ -100,6 +101,7 @@ facts_of all = record {
   onion_key = option_and_then onion_got (first_said all the.OnionKey);
   ntor_onion_key = option_and_then key_got (first_said all the.NtorOnionKey);
   family = option_map words_of (option_and_then text_got (first_said all the.Family));
+  family_ids = option_and_then text_got (first_said all the.FamilyIds);
   p = option_and_then text_got (first_said all the.P);
   p6 = option_and_then text_got (first_said all the.P6);
   id = option_and_then id_got (first_said all the.Id);
@@ -166,6 +168,8 @@ module _ (bytes : List ℕ) where
     ntor_onion_key = looked_up (said bytes) key_in (option_and_then key_got) key_same taken the.NtorOnionKey i;
     family = looked_up (said bytes) (λ o. option_map (words_in bytes) (text_if o))
         (λ o. option_map words_of (option_and_then text_got o)) words_same taken the.Family i;
+    family_ids = looked_up (said bytes) (λ o. option_map (part bytes) (text_if o))
+        (option_and_then text_got) text_same taken the.FamilyIds i;
     p = looked_up (said bytes) (λ o. option_map (part bytes) (text_if o))
         (option_and_then text_got) text_same taken the.P i;
     p6 = looked_up (said bytes) (λ o. option_map (part bytes) (text_if o))
@@ -206,11 +210,13 @@ facts_again micro are =
       family = (ap (λ o. option_map words_of (option_and_then text_got o))
           (first_is all the.Family ∙ ap first_of found.1.1.0)
           ∙ family_back micro.family are.family) i;
-      p = (ap (option_and_then text_got) (first_is all the.P ∙ ap first_of found.1.1.1.0)
+      family_ids = (ap (option_and_then text_got) (first_is all the.FamilyIds ∙ ap first_of found.1.1.1.0)
+          ∙ got_back text text_got micro.family_ids (λ a. refl)) i;
+      p = (ap (option_and_then text_got) (first_is all the.P ∙ ap first_of found.1.1.1.1.0)
           ∙ got_back text text_got micro.p (λ a. refl)) i;
-      p6 = (ap (option_and_then text_got) (first_is all the.P6 ∙ ap first_of found.1.1.1.1.0)
+      p6 = (ap (option_and_then text_got) (first_is all the.P6 ∙ ap first_of found.1.1.1.1.1.0)
           ∙ got_back text text_got micro.p6 (λ a. refl)) i;
-      id = (ap (option_and_then id_got) (first_is all the.Id ∙ ap first_of found.1.1.1.1.1.0)
+      id = (ap (option_and_then id_got) (first_is all the.Id ∙ ap first_of found.1.1.1.1.1.1.0)
           ∙ got_back an_id id_got micro.id (λ a. refl)) i;
     }
 
@@ -238,10 +244,11 @@ same_items micro = λ i.
     onion_item micro.onion_key i
     ∷ (if_items the.NtorOnionKey kind.Key a_key base64_text micro.ntor_onion_key (λ a. refl) i
     ++ (if_items the.Family kind.Rest (λ l. text (family_text l)) family_text micro.family (λ a. refl) i
+    ++ (text_items the.FamilyIds micro.family_ids i
     ++ (text_items the.P micro.p i
     ++ (text_items the.P6 micro.p6 i
     ++ (ap (λ (l : List NewItem). l ++ []) (if_items the.Id kind.Id an_id id_text micro.id (λ a. refl))
-    ∙ append-nil (id_items micro.id)) i))))
+    ∙ append-nil (id_items micro.id)) i)))))
 
 -- ---- what may be written
 
@@ -267,6 +274,8 @@ spoken_so micro are =
     (both (perhaps the.NtorOnionKey kind.Key a_key (AreBytes 32) micro.ntor_onion_key are.ntor_onion_key (λ a is. is))
     (both (perhaps the.Family kind.Rest (λ l. text (family_text l)) (λ l. Unit {0}) micro.family
     (any_text micro.family) (λ a is. tt))
+    (both (perhaps the.FamilyIds kind.Rest text (λ t. Unit {0}) micro.family_ids (any_text micro.family_ids)
+    (λ a is. tt))
     (both (perhaps the.P kind.Rest text (λ t. Unit {0}) micro.p (any_text micro.p) (λ a is. tt))
     (both (perhaps the.P6 kind.Rest text (λ t. Unit {0}) micro.p6 (any_text micro.p6) (λ a is. tt))
-    (both (perhaps the.Id kind.Id an_id IsIdInRange micro.id are.id (λ a is. is)) tt)))))
+    (both (perhaps the.Id kind.Id an_id IsIdInRange micro.id are.id (λ a is. is)) tt))))))

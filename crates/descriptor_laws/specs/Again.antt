@@ -1,5 +1,5 @@
 -- A server descriptor that was written is read again (dir-spec, "Server descriptor format").
-use Rattle.std.specs.Prelude.{◌≡◌, ℕ, List, [], ◌∷◌, ◌++◌, length, option_map, Ok}
+use Rattle.std.specs.Prelude.{◌≡◌, ℕ, List, [], ◌∷◌, ◌++◌, length, option_map, Some, Ok}
 use Rattle.sha1.specs.Sha1.{sha1}
 use Rattle.sha2.specs.Sha256.{sha256}
 use Rattle.item_terms.specs.Bytes.{space}
@@ -36,13 +36,15 @@ abbrev pub signature_as_written : Descriptor → EdSignature → EdSignature
 signature_as_written d signature =
     record { signature = signature.signature; covered = record { 0 = sha256 (ed_prefix ++ ed_signed_text d) } }
 
--- the descriptor as it is read of its text: it says the same, with what is computed from that text
+-- the descriptor as it is read of its text: it says the same, with what is computed from that text; of its families nothing
+-- is written, or read
 abbrev pub as_written : Descriptor → Descriptor
 as_written d = record d {
   router_sig_ed25519 = option_map (signature_as_written d) d.router_sig_ed25519;
   identity = record { 0 = sha1 d.signing_key };
   digest = record { 0 = sha1 (signed_text d) };
   text = descriptor_text d;
+  family_certs = Some [];
 }
 
 -- A descriptor that was written is read again, whatever follows: what is read says the same, has the identity, the digests

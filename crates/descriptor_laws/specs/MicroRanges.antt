@@ -16,7 +16,7 @@ IsIdInRange (Ed25519 key) = AreBytes 32 key
 IsIdInRange (Rsa1024 identity) = AreTwenty identity.0
 
 -- each of the microdescriptor's values is one that can be read; the names of its family are words, of which there may
--- be none, and its summaries of ports are any texts
+-- be none, and what it says of families and its summaries of ports are any texts
 pub record SaysInRange (micro : Micro) : Type 0 where
   pub ntor_onion_key : IfSome micro.ntor_onion_key (AreBytes 32)
   pub family : IfSome micro.family (λ relays. All (λ relay. is_argument relay ≡ true) relays)

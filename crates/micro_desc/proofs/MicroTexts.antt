@@ -13,19 +13,23 @@ pub parts : (micro : Micro)
     ≡ item_text (onion_key_item micro.onion_key)
     ++ (items_text (ntor_key_items micro.ntor_onion_key)
     ++ (items_text (family_items micro.family)
+    ++ (items_text (item_if the.FamilyIds micro.family_ids)
     ++ (items_text (item_if the.P micro.p)
     ++ (items_text (item_if the.P6 micro.p6)
-    ++ items_text (id_items micro.id)))))
+    ++ items_text (id_items micro.id))))))
 parts micro =
     let key = ntor_key_items micro.ntor_onion_key in
     let family = family_items micro.family in
+    let ids = item_if the.FamilyIds micro.family_ids in
     let p = item_if the.P micro.p in
     let p6 = item_if the.P6 micro.p6 in
     let id = id_items micro.id in
     ap (λ (l : List ℕ). item_text (onion_key_item micro.onion_key) ++ l)
-    (sections key (family ++ (p ++ (p6 ++ id)))
+    (sections key (family ++ (ids ++ (p ++ (p6 ++ id))))
     ∙ ap (λ (l : List ℕ). items_text key ++ l)
-    (sections family (p ++ (p6 ++ id))
+    (sections family (ids ++ (p ++ (p6 ++ id)))
     ∙ ap (λ (l : List ℕ). items_text family ++ l)
+    (sections ids (p ++ (p6 ++ id))
+    ∙ ap (λ (l : List ℕ). items_text ids ++ l)
     (sections p (p6 ++ id)
-    ∙ ap (λ (l : List ℕ). items_text p ++ l) (sections p6 id))))
+    ∙ ap (λ (l : List ℕ). items_text p ++ l) (sections p6 id)))))

@@ -47,6 +47,7 @@ head_of taken = record {
   onion_key = onion_key_in (item_at taken the.OnionKey);
   ntor_onion_key = key_in (item_at taken the.NtorOnionKey);
   family = text_if (item_at taken the.Family);
+  family_ids = text_if (item_at taken the.FamilyIds);
   p = text_if (item_at taken the.P);
   p6 = text_if (item_at taken the.P6);
   id = id_in (item_at taken the.Id);

@@ -12,6 +12,7 @@ micro_in bytes head = record {
   onion_key = option_map (bytes_in bytes) head.onion_key;
   ntor_onion_key = head.ntor_onion_key;
   family = option_map (words_in bytes) head.family;
+  family_ids = option_map (part bytes) head.family_ids;
   p = option_map (part bytes) head.p;
   p6 = option_map (part bytes) head.p6;
   id = head.id;

@@ -20,6 +20,7 @@ rows =
     row the.OnionKey One kind.OnionKey
     ∷ row the.NtorOnionKey Optional kind.Key
     ∷ row the.Family Optional kind.Rest
+    ∷ row the.FamilyIds Optional kind.Rest
     ∷ row the.P Optional kind.Rest
     ∷ row the.P6 Optional kind.Rest
     ∷ row the.Id Optional kind.Id

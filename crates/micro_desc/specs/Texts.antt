@@ -41,9 +41,10 @@ micro_items micro =
     onion_key_item micro.onion_key
     ∷ (ntor_key_items micro.ntor_onion_key
     ++ (family_items micro.family
+    ++ (item_if the.FamilyIds micro.family_ids
     ++ (item_if the.P micro.p
     ++ (item_if the.P6 micro.p6
-    ++ id_items micro.id))))
+    ++ id_items micro.id)))))
 
 -- the text of a microdescriptor that says this
 abbrev pub micro_text : Micro → List ℕ

@@ -28,10 +28,11 @@ macro_rules! row {
     };
 }
 
-const ROWS: [Row<MicroKind>; 6] = [
+const ROWS: [Row<MicroKind>; 7] = [
     row!(OnionKey, One, OnionKey),
     row!(NtorOnionKey, Optional, Key),
     row!(Family, Optional, Rest),
+    row!(FamilyIds, Optional, Rest),
     row!(P, Optional, Rest),
     row!(P6, Optional, Rest),
     row!(Id, Optional, Id),

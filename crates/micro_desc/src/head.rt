@@ -21,6 +21,8 @@ pub struct MicroHead {
     pub ntor_onion_key: Option<[u8; 32]>,
     /// Its family.
     pub family: Option<Span>,
+    /// The families of which it has certificates.
+    pub family_ids: Option<Span>,
     /// The summary of its exit policy.
     pub p: Option<Span>,
     /// The summary of its exit policy for IPv6.
@@ -67,6 +69,7 @@ pub fn head_of(taken: &[Taken<Value<MicroValue>>]) -> MicroHead
         onion_key: onion_key_at(taken),
         ntor_onion_key: key_at(taken),
         family: text_if(taken, Keyword::Family),
+        family_ids: text_if(taken, Keyword::FamilyIds),
         p: text_if(taken, Keyword::P),
         p6: text_if(taken, Keyword::P6),
         id: id_at(taken),
@@ -85,6 +88,7 @@ pub fn micro_at(alloc: Global, bytes: &[u8], head: &MicroHead) -> Result<Micro, 
         onion_key: decode_if(alloc, bytes, head.onion_key)?,
         ntor_onion_key: head.ntor_onion_key,
         family: words_if(alloc, bytes, head.family)?,
+        family_ids: copy_part_if(alloc, bytes, head.family_ids)?,
         p: copy_part_if(alloc, bytes, head.p)?,
         p6: copy_part_if(alloc, bytes, head.p6)?,
         id: head.id,

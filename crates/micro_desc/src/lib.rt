@@ -2,6 +2,7 @@
 //! "Computing microdescriptors").
 #![tactic(auto)]
 
+mod families;
 mod frame;
 mod head;
 mod lines;
@@ -13,7 +14,7 @@ mod writing;
 
 pub use frame::MicroFrame;
 pub use head::{MicroHead, head_of, micro_at};
-pub use making::make;
+pub use making::{make, make_with_families};
 pub use micro::Micro;
 pub use reading::read;
 pub use said::{MicroId, MicroKind, MicroValue};

@@ -2,6 +2,7 @@
 ghost use Rattle.std.specs.Prelude.{◌≡◌, IfOk, option_and_then};
 ghost use Rattle.micro_desc.specs.Makings as makings;
 
+use crate::families::ids_of;
 use crate::micro::Micro;
 use crate::said::MicroId;
 use descriptor_doc::{Descriptor, EdCert};
@@ -96,10 +97,10 @@ fn made_id(certificate: &Option<EdCert>, identity: Fingerprint) -> MicroId
     }
 }
 
-/// The microdescriptor of a relay with this server descriptor and this summary of its exit policy (dir-spec, "Computing
-/// microdescriptors"): the descriptor's onion keys; its family in canonical form, where a name is left; the summary and the
-/// descriptor's summary for IPv6, each unless it rejects all ports; and the signer of its Ed25519 certificate, or else its RSA
-/// identity.
+/// The microdescriptor of a relay with this server descriptor and this summary of its exit policy, by the consensus methods
+/// before 35 (dir-spec, "Computing microdescriptors"): the descriptor's onion keys; its family in canonical form, where a name
+/// is left; the summary and the descriptor's summary for IPv6, each unless it rejects all ports; and the signer of its Ed25519
+/// certificate, or else its RSA identity.
 ///
 /// # Errors
 /// `Memory` is want of memory.
@@ -110,8 +111,29 @@ pub fn make(alloc: Global, descriptor: &Descriptor, summary: &PortSummary) -> Re
         onion_key: copy_if(alloc, &descriptor.onion_key)?,
         ntor_onion_key: descriptor.ntor_onion_key,
         family: family_if(alloc, &descriptor.family)?,
+        family_ids: None,
         p: summary_if(alloc, summary)?,
         p6: ipv6_summary(alloc, &descriptor.ipv6_policy)?,
         id: Some(made_id(&descriptor.identity_ed25519, descriptor.identity)),
     })
+}
+
+/// The same by method 35, where it is another: with the line `family-ids`, where the relay's family certificates name a family.
+/// That these hold is for whoever checks a descriptor.
+///
+/// # Errors
+/// `Memory` is want of memory.
+pub fn make_with_families(
+    alloc: Global,
+    descriptor: &Descriptor,
+    summary: &PortSummary,
+) -> Result<Option<Micro>, Memory>
+    ensures { IfOk result (λ micro. micro ≡ makings.micro_with_families descriptor.now summary.now) }
+{
+    let Some(ids) = ids_of(alloc, &descriptor.family_certs)? else {
+        return Ok(None);
+    };
+    let mut micro = make(alloc, descriptor, summary)?;
+    micro.family_ids = Some(ids);
+    Ok(Some(micro))
 }

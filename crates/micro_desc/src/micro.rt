@@ -12,6 +12,9 @@ pub struct Micro {
     pub ntor_onion_key: Option<[u8; 32]>,
     /// The relays of its family, in the order in which they stand.
     pub family: Option<Seq<Text>>,
+    /// The families of which its Ed25519 identity has certificates, from method 35 on: the rest of the line, which is read no
+    /// further.
+    pub family_ids: Option<Text>,
     /// The summary of its exit policy, as it stands: the rest of the line, which is read no further.
     pub p: Option<Text>,
     /// That for IPv6, in the same way.

@@ -96,7 +96,8 @@ fn push_id(out: &mut Vec<u8>, alloc: Global, id: &Option<MicroId>) -> Result<(),
 }
 
 /// The canonical text of a microdescriptor that says this: its items in the order of dir-spec's table, with single spaces, the
-/// names of the family in their order, `p` and `p6` as they stand, keys in base64 without `=`, an object in lines of 64.
+/// names of the family in their order, `family-ids`, `p` and `p6` as they stand, keys in base64 without `=`, an object in lines
+/// of 64.
 ///
 /// # Errors
 /// `Memory` is want of memory.
@@ -107,6 +108,7 @@ pub fn write(alloc: Global, micro: &Micro) -> Result<Vec<u8>, Memory>
     push_onion_key(&mut out, &micro.onion_key)?;
     push_ntor_key(&mut out, alloc, &micro.ntor_onion_key)?;
     push_family(&mut out, alloc, &micro.family)?;
+    push_if(&mut out, Keyword::FamilyIds, &micro.family_ids)?;
     push_if(&mut out, Keyword::P, &micro.p)?;
     push_if(&mut out, Keyword::P6, &micro.p6)?;
     push_id(&mut out, alloc, &micro.id)?;
