@@ -6,8 +6,9 @@ use Rattle.std.specs.Prelude.{◌==◌, ◌/◌, if◌then◌else◌}
 use Rattle.std.specs.List.{find}
 use Rattle.std.specs.Str.{bytes_eq}
 use Rattle.std.proofs.lemmas.Bool.{and_from, false≢true}
-use Rattle.std.proofs.lemmas.List.Elements.{All-cons, All-filter, All-head, All-map, All-nil, All-tail}
+use Rattle.std.proofs.lemmas.List.Elements.{All-cons, All-filter, All-head, All-map, All-nil, All-tail, All-weaker}
 use Rattle.std.proofs.lemmas.List.Sums.{AllPass-from_list_all}
+use Rattle.count_terms.specs.declared.newest.Newest.{Newest}
 use Rattle.item_terms.specs.Bytes.{comma, hyphen, space}
 use Rattle.item_terms.specs.Words.{words_of}
 use Rattle.dir_values.specs.Digests.{identity_below}
@@ -35,17 +36,18 @@ use Rattle.flag_rules.specs.declared.ruling.Ruling.{Ruling}
 use Rattle.station_input.specs.declared.frame_said.MeasuredRelay.{MeasuredRelay}
 use Rattle.maker_laws.specs.Ranges.{IsMeasuredInRange}
 use Rattle.vote_pool.specs.Pools.{DescriptorsAscend}
-use Rattle.vote_pool.specs.Summaries.{micro_text_of}
+use Rattle.vote_pool.specs.Summaries.{family_digest_of, micro_digest_of}
 use Rattle.vote_laws.specs.Again.{AreEntryFlags, IsEntryInRange, IsMicroInRange}
-use Rattle.vote_maker.specs.Entries.{micro_of_text, opinion_of, version_of_platform}
+use Rattle.vote_terms.specs.declared.entry.MicroFacts.{MicroFacts}
+use Rattle.vote_maker.specs.Entries.{micros_of, opinion_of, version_of_platform}
 use Rattle.vote_maker.specs.Entries.{version_of_words}
 use Rattle.vote_maker.specs.Listings.{JudgedRelay, entry_of_judged, judged_relays}
 use Rattle.vote_maker.specs.Relays.{is_of, known_of, known_relays, most_kilobytes}
 use Rattle.vote_maker.specs.Relays.{unmeasured}
 use Rattle.range_laws.proofs.EntryTexts.{HasRests}
 use Rattle.range_laws.proofs.ReadNames.{IsName, each_of_set}
+use Rattle.maker_laws.proofs.MicroLines.{IsFine, relay_micros}
 use Rattle.maker_laws.proofs.RestWords.{rest_words}
-use Rattle.maker_laws.proofs.ThirtyTwo.{thirty_two}
 
 -- ---- what is known of relays
 
@@ -157,31 +159,24 @@ addresses_ranged [] all = All-nil IsAddressInRange
 addresses_ranged (text ∷ rest) all =
     All-cons IsAddressInRange text [] (All-head IsShortAddress text rest all).address (All-nil IsAddressInRange)
 
-micro_ranged : (text : List ℕ) → IsMicroInRange (micro_of_text text)
-micro_ranged text = record {
-  methods = record {
-    some = omega arith;
-    each = All-cons Is32 32 (33 ∷ []) (omega arith) (All-cons Is32 33 [] (omega arith) (All-nil Is32));
-  };
-  digest = thirty_two text;
-}
-
 opinion_ranged : (certificate : Option EdCert) → IfSome certificate (λ c. AreThirtyTwo c.signer)
     → IsOpinionInRange (opinion_of certificate)
 opinion_ranged None is = tt
 opinion_ranged (Some certificate) is = is
 
-pub entry_ranged : (one : JudgedRelay) → IsJudgedInRange one → IsEntryInRange (entry_of_judged one)
-entry_ranged one is =
+pub entry_ranged : (newest : Newest) (one : JudgedRelay) → IsJudgedInRange one
+    → IsEntryInRange (entry_of_judged newest one)
+entry_ranged newest one is =
     let d = is.descriptor in
+    let its = one.descriptor in
     record {
       relay = d.router;
       published = d.published;
       addresses = addresses_ranged one.descriptor.or_addresses d.or_addresses;
       flags = flags_ranged one.flags;
       bandwidths = record { bandwidth = is.known.bandwidth; measured = is.known.measured };
-      micros = All-cons IsMicroInRange (micro_of_text (micro_text_of one.descriptor)) []
-          (micro_ranged (micro_text_of one.descriptor)) (All-nil IsMicroInRange);
+      micros = All-weaker IsFine IsMicroInRange (λ (line : MicroFacts) is. is.range)
+          (micros_of newest (micro_digest_of its) (family_digest_of its)) (relay_micros newest its);
       ed = opinion_ranged one.descriptor.identity_ed25519 d.signer;
     }
 
@@ -267,8 +262,8 @@ policy_rest accept (range ∷ rest) =
     (first_some range (entries_text comma rest)
     (both_dark (range_text range) (entries_text comma rest) (range_dark range) (ranges_dark rest))))
 
-pub entry_rests : (one : JudgedRelay) → IsJudgedInRange one → HasRests (entry_of_judged one)
-entry_rests one is =
+pub entry_rests : (newest : Newest) (one : JudgedRelay) → IsJudgedInRange one → HasRests (entry_of_judged newest one)
+entry_rests newest one is =
     let ports = summary_of one.descriptor.policy in
     record {
       version = platform_rest one.descriptor.platform is.descriptor.platform;

@@ -18,6 +18,7 @@ pub mod Telling
 pub mod FileTelling
 pub mod RestWords
 pub mod ThirtyTwo
+pub mod MicroLines
 pub mod ObjectFits
 pub mod RulingLaws
 pub mod EntryRanges
@@ -27,6 +28,7 @@ pub mod MadeLimits
 pub mod ShortTexts
 pub mod ShortEntries
 pub mod ShortPreamble
+pub mod ReadDescriptors
 pub mod MadeRead
 pub mod RowRanges
 pub mod FileRanges

@@ -17,6 +17,7 @@ use Rattle.flag_rules.specs.Rulings.{is_reject}
 use Rattle.flag_rules.specs.declared.flags.Flags.{Flags}
 use Rattle.flag_rules.specs.declared.relay.RuledRelay.{RuledRelay}
 use Rattle.vote_pool.specs.Pools.{DescriptorsAscend, most_relays}
+use Rattle.count_terms.specs.declared.newest.Newest.{Newest}
 use Rattle.vote_terms.specs.declared.entry.EntryFacts.{EntryFacts}
 use Rattle.vote_laws.specs.Again.{AreEntriesInRange, DifferInKey, IsEntryInRange}
 use Rattle.vote_maker.specs.Entries.{opinion_of}
@@ -48,7 +49,7 @@ key_same (Some c) (Some d) key first second =
     let other : d.signer ≡ key = cc in
     (bytes_eq-Decides c.signer d.signer).1 (one ∙ sym other)
 
-module _ (relays : List JudgedRelay) where
+module _ (newest : Newest) (relays : List JudgedRelay) where
   abbrev Has : JudgedRelay → Type 0
   Has one = has_entry relays one ≡ true
 
@@ -63,7 +64,7 @@ module _ (relays : List JudgedRelay) where
       none_any (λ (other : JudgedRelay). goes_before other one) relays none k d lt
 
   two_apart : (a b : JudgedRelay) → IsBelow a b → Yields a → Has a → Has b
-      → DifferInKey (entry_of_judged a) (entry_of_judged b)
+      → DifferInKey (entry_of_judged newest a) (entry_of_judged newest b)
   two_apart a b below yields has_a has_b key first second =
       let kept = (and_parts (not (is_reject a.ruled.ruling)) _ has_a).0 in
       let same = key_same a.descriptor.identity_ed25519 b.descriptor.identity_ed25519 key first second in
@@ -71,7 +72,7 @@ module _ (relays : List JudgedRelay) where
       false≢true (sym (yields b has_b) ∙ before)
 
   abbrev IsApart : JudgedRelay → JudgedRelay → Type 0
-  IsApart a b = DifferInKey (entry_of_judged a) (entry_of_judged b)
+  IsApart a b = DifferInKey (entry_of_judged newest a) (entry_of_judged newest b)
 
   all_apart : (list : List JudgedRelay) → AllPairs IsBelow list → All Yields list → All Has list
       → AllPairs IsApart list
@@ -106,10 +107,10 @@ few_pass {X} p (x ∷ xs) = by (p x) (few_pass p xs)
     by false more = omega (arith, more)
 
 -- the entries of relays of a pool
-pub entries_ranged : (ds : List Descriptor) (ruled : List RuledRelay) (flags : List Flags) → DescriptorsAscend ds
+pub entries_ranged : (newest : Newest) (ds : List Descriptor) (ruled : List RuledRelay) (flags : List Flags) → DescriptorsAscend ds
     → length ds ≤ most_relays → All IsJudgedInRange (judged_relays ds ruled flags)
-    → AreEntriesInRange (made_entries (judged_relays ds ruled flags))
-entries_ranged ds ruled flags up few all =
+    → AreEntriesInRange (made_entries newest (judged_relays ds ruled flags))
+entries_ranged newest ds ruled flags up few all =
     let relays = judged_relays ds ruled flags in
     let listed = listed_relays relays in
     let below = judged_ascend ds ruled flags up in
@@ -119,20 +120,20 @@ entries_ranged ds ruled flags up few all =
         few,
         judged_few ds ruled flags,
         few_pass (has_entry relays) relays,
-        count_map entry_of_judged listed,
+        count_map (entry_of_judged newest) listed,
       );
-      each = All-map IsEntryInRange entry_of_judged listed
-          (λ k d lt. entry_ranged (get_or listed k d)
+      each = All-map IsEntryInRange (entry_of_judged newest) listed
+          (λ k d lt. entry_ranged newest (get_or listed k d)
           (All-filter (has_entry relays) IsJudgedInRange relays all k d lt));
       ascending = all_pairs_map (λ (a b : EntryFacts). identity_below a.identity b.identity
-          ≡ true) entry_of_judged listed
+          ≡ true) (entry_of_judged newest) listed
           (AllPairs-filter IsBelow (has_entry relays) relays below);
-      keys = all_pairs_map DifferInKey entry_of_judged listed (listed_apart relays below);
+      keys = all_pairs_map DifferInKey (entry_of_judged newest) listed (listed_apart newest relays below);
     }
 
 -- the rests of their lines
-pub entries_rests : (relays : List JudgedRelay) → All IsJudgedInRange relays → All HasRests (made_entries relays)
-entries_rests relays all =
+pub entries_rests : (newest : Newest) (relays : List JudgedRelay) → All IsJudgedInRange relays → All HasRests (made_entries newest relays)
+entries_rests newest relays all =
     let listed = listed_relays relays in
-    All-map HasRests entry_of_judged listed
-    (λ k d lt. entry_rests (get_or listed k d) (All-filter (has_entry relays) IsJudgedInRange relays all k d lt))
+    All-map HasRests (entry_of_judged newest) listed
+    (λ k d lt. entry_rests newest (get_or listed k d) (All-filter (has_entry relays) IsJudgedInRange relays all k d lt))

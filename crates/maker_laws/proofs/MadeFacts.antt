@@ -1,5 +1,5 @@
 -- What is made of what is in range says what can be read, and its items may be written.
-use Rattle.std.proofs.Common.{◌≡◌, ℕ, ◌≤◌, List, [], ◌∷◌, ◌++◌, refl, subst}
+use Rattle.std.proofs.Common.{◌≡◌, ℕ, List, [], ◌∷◌, ◌++◌, refl, subst}
 use Rattle.std.proofs.Common.{arith}
 use Rattle.std.specs.Prelude.{All}
 use Rattle.std.proofs.lemmas.List.Elements.{All-append, All-cons, All-head, All-nil, All-tail}
@@ -9,6 +9,7 @@ use Rattle.dir_values.specs.FlagSets.{is_name}
 use Rattle.dir_values.proofs.Flags.{Ascend-as_set}
 use Rattle.grammar_laws.specs.Written.{IsItem}
 use Rattle.authority_certs.specs.Texts.{cert_items}
+use Rattle.count_terms.specs.declared.newest.Newest.{Newest}
 use Rattle.computed_laws.proofs.Digests.{twenty}
 use Rattle.descriptor_laws.specs.ReadRanges.{IsDescriptorInRange}
 use Rattle.flag_rules.specs.Flags.{flags_of}
@@ -30,16 +31,14 @@ use Rattle.maker_laws.specs.Given.{IsBasis}
 use Rattle.maker_laws.specs.ReadAsMade.{IsMadeInRangeButForLimits, IsSigning, signed_facts}
 use Rattle.maker_laws.proofs.EntryRanges.{IsJudgedInRange, judged_ranged}
 use Rattle.maker_laws.proofs.MadeEntries.{entries_ranged, entries_rests}
+use Rattle.maker_laws.proofs.MicroLines.{methods_few, methods_in_range}
 
 -- ---- what is the same in every made vote
 
-abbrev Is32 : ℕ → Type 0
-Is32 n = n ≤ 4294967295
-
-methods_ranged : AreMethods made_methods
-methods_ranged = record {
-  count = omega arith;
-  each = All-cons Is32 32 (33 ∷ []) (omega arith) (All-cons Is32 33 [] (omega arith) (All-nil Is32));
+methods_ranged : (newest : Newest) → AreMethods (made_methods newest)
+methods_ranged newest = record {
+  count = omega (arith, methods_few newest);
+  each = (methods_in_range newest).each;
 }
 
 are_set : as_set made_flags ≡ made_flags
@@ -97,10 +96,10 @@ module _ (its : Basis) (rulings : List Ruling) (signature : List ℕ) (basis : I
   judged = judged_ranged its.station.measured its.descriptors rulings flags station.measured descriptors
 
   entries : AreEntriesInRange facts.entries
-  entries = entries_ranged its.descriptors ruled flags basis.ascend basis.few judged
+  entries = entries_ranged its.station.newest its.descriptors ruled flags basis.ascend basis.few judged
 
   rests : All HasRests facts.entries
-  rests = entries_rests (judged_relays its.descriptors ruled flags) judged
+  rests = entries_rests its.station.newest (judged_relays its.descriptors ruled flags) judged
 
   signed : IsSignatureInRange facts.signature
   signed = record {
@@ -115,7 +114,7 @@ module _ (its : Basis) (rulings : List Ruling) (signature : List ℕ) (basis : I
       let short = basis.schedule.short in
       let delays = basis.schedule.delays in
       record {
-        methods = methods_ranged;
+        methods = methods_ranged its.station.newest;
         published = basis.moment;
         valid_after = omega (arith, until);
         fresh_until = omega (arith, until);
@@ -138,7 +137,7 @@ module _ (its : Basis) (rulings : List Ruling) (signature : List ℕ) (basis : I
 
   says : SaysWhole facts
   says = record {
-    methods = methods_ranged;
+    methods = methods_ranged its.station.newest;
     known_flags = flags_ranged;
     flag_thresholds = tt;
     lists = station.lists;

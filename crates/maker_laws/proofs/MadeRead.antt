@@ -16,7 +16,6 @@ use Rattle.dirdoc_grammar.specs.Writing.{NewItem}
 use Rattle.frame_terms.specs.declared.keyword.Keyword.{Keyword}
 use Rattle.frame_terms.specs.declared.keyword.Keyword.TheVariants as the
 use Rattle.frame_values.specs.Items.{bare, item_if}
-use Rattle.descriptor_doc.specs.declared.descriptor.Descriptor.{Descriptor}
 use Rattle.descriptor_laws.specs.ReadRanges.{DescriptorsReadAreInRange, IsDescriptorInRange}
 use Rattle.flag_rules.specs.Flags.{flags_of}
 use Rattle.flag_rules.specs.Relays.{ruled_relays}
@@ -44,6 +43,7 @@ use Rattle.maker_laws.specs.ReadAsMade.{MadeAreInRange, MadeVotesReadAsMade, sig
 use Rattle.maker_laws.proofs.EntryRanges.{judged_ranged}
 use Rattle.maker_laws.proofs.MadeFacts.{made_ranged}
 use Rattle.maker_laws.proofs.MadeLimits.{HasNone, made_in_range}
+use Rattle.maker_laws.proofs.ReadDescriptors.{descriptor_ranged}
 use Rattle.maker_laws.proofs.ShortEntries.{made_short}
 use Rattle.maker_laws.proofs.ShortPreamble.{before_short}
 
@@ -80,9 +80,6 @@ stations_read newest input station used bytes read = record {
   same = refl;
   measured = (station_in_range newest input station used bytes read).measured;
 }
-
-descriptor_ranged : DescriptorsReadAreInRange → (d : Descriptor) → IsDescriptor d → IsDescriptorInRange d
-descriptor_ranged law d is = law is.input d is.used is.bytes is.read
 
 descriptors_ranged : DescriptorsReadAreInRange → (its : Basis) → IsBasis its → All IsDescriptorInRange its.descriptors
 descriptors_ranged law its basis =
@@ -212,5 +209,6 @@ read_as_made law front its rulings signature rest few basis signing fits =
     (flags_of its.moment ruled) station.measured descriptors in
     made_again front facts its.station.certificate_bytes rest few (certificate_given its basis)
     (made_in_range facts its.station.certificate_bytes signing.short may fits
-    (before_short its rulings signature may.values (made_lines its rulings signature basis)) (made_short relays judged)
+    (before_short its rulings signature may.values (made_lines its rulings signature basis))
+    (made_short its.station.newest relays judged)
     (before_none facts) (entries_none facts.entries).each)

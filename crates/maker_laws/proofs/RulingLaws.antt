@@ -92,7 +92,7 @@ pub rejected_have_none : RejectedRelaysHaveNoEntry
 rejected_have_none its rulings place d ruling up at_place ruled rejected =
     let fs : List Flags = flags_of its.moment (ruled_relays (relays_in its) rulings) in
     let all : List JudgedRelay = judged_relays its.descriptors (ruled_relays (relays_in its) rulings) fs in
-    all_made entry_of_judged (λ (entry : EntryFacts). same_identity entry.identity d.identity ≡ false)
+    all_made (entry_of_judged its.station.newest) (λ (entry : EntryFacts). same_identity entry.identity d.identity ≡ false)
     (filter (has_entry all) all)
     (all_passing (has_entry all) (λ (one : JudgedRelay). same_identity one.descriptor.identity d.identity ≡ false) all
     (λ k e lt has. false_from_ne_true (same_identity (get_or all k e).descriptor.identity d.identity) (λ same.

@@ -3,6 +3,7 @@ use Rattle.std.proofs.Common.{ℕ, List, [], ◌∷◌, ◌++◌}
 use Rattle.std.proofs.Common.{map, Option, Some, None, arith}
 use Rattle.std.specs.Prelude.{All, IfSome, option_map, take}
 use Rattle.std.proofs.lemmas.List.Elements.{All-append, All-cons, All-filter, All-head, All-nil, All-tail}
+use Rattle.count_terms.specs.declared.newest.Newest.{Newest}
 use Rattle.dir_values.specs.FlagSets.{set_text}
 use Rattle.dirdoc_grammar.specs.Writing.{NewItem}
 use Rattle.frame_terms.specs.declared.keyword.Keyword.{Keyword}
@@ -11,15 +12,15 @@ use Rattle.frame_values.specs.Items.{bare, item_if}
 use Rattle.exit_summary.proofs.SummaryLaws as summary
 use Rattle.relay_entries.specs.Texts.{bandwidths_text, ed_text}
 use Rattle.descriptor_laws.specs.ReadRanges.{IsShortAddress}
-use Rattle.vote_pool.specs.Summaries.{micro_text_of}
+use Rattle.vote_terms.specs.declared.entry.MicroFacts.{MicroFacts}
 use Rattle.vote_text.specs.Entries.{entries_items, entry_items, items_each, line_of}
-use Rattle.vote_text.specs.Entries.{micro_line}
-use Rattle.vote_maker.specs.Entries.{micro_of_text}
+use Rattle.vote_text.specs.Entries.{micro_items, micro_line}
 use Rattle.vote_maker.specs.Listings.{JudgedRelay, entry_of_judged, has_entry, listed_relays, made_entries}
 use Rattle.maker_laws.specs.Lines.{HasShortLine}
 use Rattle.maker_laws.proofs.EntryRanges.{IsJudgedInRange, entry_ranged}
 use Rattle.maker_laws.proofs.MadeLimits.{line_short}
-use Rattle.maker_laws.proofs.ShortTexts.{IsMillion, bandwidths_short, key_short, micro_short, names_short}
+use Rattle.maker_laws.proofs.MicroLines.{IsFine, relay_micros}
+use Rattle.maker_laws.proofs.ShortTexts.{IsMillion, bandwidths_short, key_short, names_short}
 use Rattle.maker_laws.proofs.ShortTexts.{platform_short, relay_short, rest_short}
 
 -- ---- its items
@@ -50,15 +51,21 @@ infixl 10 ◌&◌
 pub ◌&◌ : {front back : List NewItem} → AreShortLines front → AreShortLines back → AreShortLines (front ++ back)
 ◌&◌ {front} {back} first second = record { each = All-append HasShortLine front back first.each second.each }
 
-policy_short : (one : JudgedRelay) → IfSome (entry_of_judged one).policy IsMillion
-policy_short one = omega (arith, summary.short one.descriptor.policy)
+micros_short : (lines : List MicroFacts) → All IsFine lines → AreShortLines (micro_items lines)
+micros_short [] all = no_lines
+micros_short (line ∷ lines) all =
+    one_line the.M (micro_line line) (omega (arith, (All-head IsFine line lines all).short))
+    & micros_short lines (All-tail IsFine line lines all)
 
-entry_short : (one : JudgedRelay) → IsJudgedInRange one → AreShortLines (entry_items (entry_of_judged one))
-entry_short one is =
-    let entry = entry_of_judged one in
-    let in_range = entry_ranged one is in
+policy_short : (newest : Newest) (one : JudgedRelay) → IfSome (entry_of_judged newest one).policy IsMillion
+policy_short newest one = omega (arith, summary.short one.descriptor.policy)
+
+entry_short : (newest : Newest) (one : JudgedRelay) → IsJudgedInRange one
+    → AreShortLines (entry_items (entry_of_judged newest one))
+entry_short newest one is =
+    let entry = entry_of_judged newest one in
+    let in_range = entry_ranged newest one is in
     let d = is.descriptor in
-    let micro = micro_of_text (micro_text_of one.descriptor) in
     one_line the.R (line_of entry) (relay_short entry in_range.relay)
     & addresses_short one.descriptor.or_addresses d.or_addresses
     & one_line the.S (set_text entry.flags) (names_short one.flags)
@@ -66,19 +73,19 @@ entry_short one is =
     & line_if the.Pr entry.protocols (rest_short one.descriptor.proto d.proto)
     & line_if the.W (option_map bandwidths_text entry.bandwidths)
     (bandwidths_short entry.bandwidths in_range.bandwidths)
-    & line_if the.P entry.policy (policy_short one)
-    & one_line the.M (micro_line micro) (micro_short (micro_text_of one.descriptor))
+    & line_if the.P entry.policy (policy_short newest one)
+    & micros_short entry.micros (relay_micros newest one.descriptor)
     & line_if the.Id (ed_text entry.ed) (key_short entry.ed in_range.ed)
 
-entries_short : (relays : List JudgedRelay) → All IsJudgedInRange relays
-    → AreShortLines (entries_items (map entry_of_judged relays))
-entries_short [] all = no_lines
-entries_short (one ∷ relays) all =
-    entry_short one (All-head IsJudgedInRange one relays all)
-    & entries_short relays (All-tail IsJudgedInRange one relays all)
+entries_short : (newest : Newest) (relays : List JudgedRelay) → All IsJudgedInRange relays
+    → AreShortLines (entries_items (map (entry_of_judged newest) relays))
+entries_short newest [] all = no_lines
+entries_short newest (one ∷ relays) all =
+    entry_short newest one (All-head IsJudgedInRange one relays all)
+    & entries_short newest relays (All-tail IsJudgedInRange one relays all)
 
 -- the lines of made entries
-pub made_short : (relays : List JudgedRelay) → All IsJudgedInRange relays
-    → All HasShortLine (entries_items (made_entries relays))
-made_short relays all =
-    (entries_short (listed_relays relays) (All-filter (has_entry relays) IsJudgedInRange relays all)).each
+pub made_short : (newest : Newest) (relays : List JudgedRelay) → All IsJudgedInRange relays
+    → All HasShortLine (entries_items (made_entries newest relays))
+made_short newest relays all =
+    (entries_short newest (listed_relays relays) (All-filter (has_entry relays) IsJudgedInRange relays all)).each

@@ -26,7 +26,7 @@ use Rattle.vote_maker.specs.Made.{Basis, made_flags}
 use Rattle.maker_laws.specs.Lines.{HasShortLine, HasShortLines}
 use Rattle.maker_laws.specs.ReadAsMade.{signed_facts}
 use Rattle.maker_laws.proofs.ShortEntries.{AreShortLines, no_lines, one_line, ◌&◌}
-use Rattle.maker_laws.proofs.ShortTexts.{methods_short}
+use Rattle.maker_laws.proofs.MicroLines.{methods_short}
 
 two_short : (a b : ℕ) → a ≤ 4294967295 → b ≤ 4294967295 → length (decimal a ++ space ∷ decimal b) ≤ 1000000
 two_short a b first second =
@@ -45,7 +45,8 @@ module _ (its : Basis) (rulings : List Ruling) (signature : List ℕ) where
   kinds =
       one_line the.NetworkStatusVersion (codes "3") (omega arith)
       & one_line the.VoteStatus (codes "vote") (omega arith)
-      & one_line the.ConsensusMethods (numbers_text made_methods) (omega (arith, methods_short space))
+      & one_line the.ConsensusMethods (numbers_text (made_methods its.station.newest))
+      (omega (arith, methods_short its.station.newest space))
 
   one_time : (keyword : Keyword) (moment : ℕ) → AreShortLines (timed keyword moment ∷ [])
   one_time keyword moment =

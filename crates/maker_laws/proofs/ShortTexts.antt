@@ -11,7 +11,7 @@ use Rattle.std.proofs.lemmas.Fmt.{length-decimal-le, length-decimal-le_succ}
 use Rattle.std.proofs.lemmas.List.Elements.{All-cons, All-filter, All-head, All-map, All-nil, All-tail}
 use Rattle.std.proofs.lemmas.List.Elements.{All-weaker}
 use Rattle.std.proofs.lemmas.List.Sums.{AllPass-from_list_all}
-use Rattle.item_terms.specs.Bytes.{comma, space}
+use Rattle.item_terms.specs.Bytes.{space}
 use Rattle.item_terms.specs.Words.{ends_or_blank, is_blank, onto_word, words_of}
 use Rattle.dir_bytes.specs.FieldTexts.{address_text, base64_text, clock_text, date_text}
 use Rattle.dir_bytes.proofs.Days.{length-moment_text}
@@ -20,7 +20,7 @@ use Rattle.dir_values.specs.FlagSets.{as_set, set_text}
 use Rattle.frame_values.specs.Parts.{moment_of}
 use Rattle.group_laws.specs.Ranges.{AreBandwidthsInRange, AreThirtyTwo, IsOpinionInRange, IsRelayInRange}
 use Rattle.group_laws.proofs.WrittenRelays.{relay_shape, words_of_relay}
-use Rattle.relay_entries.specs.Texts.{bandwidths_text, ed_text, methods_text, number_word}
+use Rattle.relay_entries.specs.Texts.{bandwidths_text, ed_text, number_word}
 use Rattle.relay_entries.specs.declared.said.Bandwidths.{Bandwidths}
 use Rattle.relay_entries.specs.declared.said.EdOpinion.{EdOpinion}
 use Rattle.relay_entries.specs.declared.said.EdOpinion.TheVariants as opinion
@@ -29,12 +29,10 @@ use Rattle.flag_rules.specs.Names.{name_table, names_of}
 use Rattle.flag_rules.specs.declared.flags.Flags.{Flags}
 use Rattle.vote_terms.specs.declared.entry.EntryFacts.{EntryFacts}
 use Rattle.vote_text.specs.Entries.{line_of}
-use Rattle.vote_text.specs.Entries.{micro_line}
-use Rattle.vote_maker.specs.Entries.{made_methods, micro_of_text, version_of_platform, version_of_words}
+use Rattle.vote_maker.specs.Entries.{version_of_platform, version_of_words}
 use Rattle.range_laws.proofs.KeptEntries.{count_map}
 use Rattle.range_laws.proofs.ReadNames.{count_of_set, each_of_set}
 use Rattle.maker_laws.proofs.MadeEntries.{few_pass}
-use Rattle.maker_laws.proofs.ThirtyTwo.{thirty_two}
 
 -- ---- texts of several
 
@@ -252,24 +250,3 @@ key_short (opinion.Key bytes) are =
     omega (arith, thirty_two_short bytes are, length-append (codes "ed25519 ") (base64_text bytes))
 key_short opinion.None are = omega arith
 key_short opinion.Absent are = tt
-
--- the methods of a made vote with a byte between them
-pub methods_short : (byte : ℕ) → length (join_with_byte byte (map decimal made_methods)) ≤ 202
-methods_short byte =
-    let P : List ℕ → Type 0 = IsAtMost 100 in
-    let one : P (decimal 32) = omega (arith, length-decimal-le_succ 32 (omega arith)) in
-    let two : P (decimal 33) = omega (arith, length-decimal-le_succ 33 (omega arith)) in
-    let all = All-cons P (decimal 32) (decimal 33 ∷ []) one (All-cons P (decimal 33) [] two (All-nil P)) in
-    omega (arith, join_short 100 byte (map decimal made_methods) all)
-
-pub micro_short : (text : List ℕ) → length (micro_line (micro_of_text text)) ≤ 1000000
-micro_short text =
-    let line = micro_of_text text in
-    let digest = base64_text line.digest.0 in
-    omega (
-      arith,
-      thirty_two_short line.digest.0 (thirty_two text),
-      methods_short comma,
-      length-append (methods_text made_methods) (codes " sha256=" ++ digest),
-      length-append (codes " sha256=") digest,
-    )

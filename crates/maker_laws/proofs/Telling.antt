@@ -1,6 +1,7 @@
 -- What was measured of the relay of each entry.
 use Rattle.std.proofs.Common.{◌≡◌, ℕ, List, [], ◌∷◌, All, refl, ap, ◌∙◌}
 use Rattle.std.proofs.lemmas.List.Elements.{All-nil, All-cons, All-filter, All-map, All-weaker}
+use Rattle.count_terms.specs.declared.newest.Newest.{Newest}
 use Rattle.dir_values.specs.declared.digest.Fingerprint.{Fingerprint}
 use Rattle.descriptor_doc.specs.declared.descriptor.Descriptor.{Descriptor}
 use Rattle.flag_rules.specs.Flags.{flags_of}
@@ -30,19 +31,20 @@ known measured (d ∷ ds) (r ∷ rs) (f ∷ fs) =
     (judged_relays ds (ruled_relays (known_relays measured ds) rs) fs) refl (known measured ds rs fs)
 
 -- the entry of a relay tells what was measured of it
-tells : (file : List (Fingerprint × ℕ)) (before after : List MeasuredRelay) → AreToldBy file before after
-    → (one : JudgedRelay) → IsKnownBy after one → IsToldBy file (entry_of_judged one)
-tells file before after told one is =
+tells : (newest : Newest) (file : List (Fingerprint × ℕ)) (before after : List MeasuredRelay) → AreToldBy file before after
+    → (one : JudgedRelay) → IsKnownBy after one → IsToldBy file (entry_of_judged newest one)
+tells newest file before after told one is =
     ap (λ (facts : RelayFacts). facts.measured.kb) is
     ∙ ap (λ (measured : Measured). measured.kb) (told one.descriptor.identity)
 
 pub entries_told : EntriesAreTold
 entries_told file before its rulings told =
     let after = its.station.measured in
+    let newest = its.station.newest in
     let ruled = ruled_relays (known_relays after its.descriptors) rulings in
     let all = judged_relays its.descriptors ruled (flags_of its.moment ruled) in
-    All-map (IsToldBy file) entry_of_judged (listed_relays all)
-    (All-weaker (IsKnownBy after) (λ (one : JudgedRelay). IsToldBy file (entry_of_judged one))
-    (tells file before after told) (listed_relays all)
+    All-map (IsToldBy file) (entry_of_judged newest) (listed_relays all)
+    (All-weaker (IsKnownBy after) (λ (one : JudgedRelay). IsToldBy file (entry_of_judged newest one))
+    (tells newest file before after told) (listed_relays all)
     (All-filter (has_entry all) (IsKnownBy after) all
     (known after its.descriptors rulings (flags_of its.moment ruled))))

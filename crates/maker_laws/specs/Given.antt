@@ -3,7 +3,7 @@ use Rattle.std.specs.Prelude.{◌≡◌, ℕ, ◌≤◌, List, length, All, Ok}
 use Rattle.base64.specs.GeneralPurpose.{IsBytes}
 use Rattle.dir_bytes.specs.Causes.{last_moment}
 use Rattle.count_terms.specs.declared.newest.Newest.{Newest}
-use Rattle.descriptor_doc.specs.Reading.{descriptor_of}
+use Rattle.descriptor_doc.specs.Reading.{descriptor_under}
 use Rattle.descriptor_doc.specs.declared.descriptor.Descriptor.{Descriptor}
 use Rattle.station_input.specs.Reading.{station_of}
 use Rattle.station_input.specs.declared.facts.StationFacts.{StationFacts}
@@ -30,12 +30,13 @@ abbrev pub StationsReadAreStations : Type 0
 StationsReadAreStations = (newest : Newest) (input : List ℕ) (station : StationFacts) (used : ℕ) → IsBytes input
     → station_of newest input ≡ Ok (station, used) → IsStation station
 
--- What a descriptor says was read of an input, which it begins.
+-- What a descriptor says was read of an input, which it begins, by an authority with some newest method.
 pub record IsDescriptor (d : Descriptor) : Type 0 where
+  pub newest : Newest
   pub input : List ℕ
   pub bytes : IsBytes input
   pub used : ℕ
-  pub read : descriptor_of input ≡ Ok (d, used)
+  pub read : descriptor_under newest input ≡ Ok (d, used)
 
 -- The station is such a one and has a schedule; the descriptors are those of a pool, each of which was read; the
 -- moment of the vote, and that until which the consensus is to be valid, are moments.

@@ -12,6 +12,7 @@ use Rattle.std.proofs.lemmas.Bool.{true≢false, false_from_ne_true}
 use Rattle.std.proofs.lemmas.Cmp.{nat_list_cmp_total}
 use Rattle.std.proofs.lemmas.List.Elements.{All-head, All-tail, All-cons, All-append}
 use Rattle.std.proofs.lemmas.List.Folds.{list_any-append, list_any_none}
+use Rattle.count_terms.specs.declared.newest.Newest.{Newest}
 use Rattle.dir_values.proofs.Orders.{below-trans, apart, AllPairs-head, AllPairs-tail}
 use Rattle.dir_values.specs.Digests.{bytes_below, identity_below}
 use Rattle.descriptor_frame.specs.declared.certificate.EdCert.{EdCert}
@@ -196,11 +197,11 @@ listed_is keys before rest one are below_it above =
 
 -- ---- one after the other
 
-if_listed : (p : JudgedRelay → Bool) (one : JudgedRelay) (rest : List JudgedRelay) (b : Bool) → p one ≡ b
-    → (if b then entry_of_judged one ∷ [] else []) ++ map entry_of_judged (filter p rest)
-    ≡ map entry_of_judged (filter p (one ∷ rest))
-if_listed p one rest true is = rw is refl
-if_listed p one rest false is = rw is refl
+if_listed : (newest : Newest) (p : JudgedRelay → Bool) (one : JudgedRelay) (rest : List JudgedRelay) (b : Bool) → p one ≡ b
+    → (if b then entry_of_judged newest one ∷ [] else []) ++ map (entry_of_judged newest) (filter p rest)
+    ≡ map (entry_of_judged newest) (filter p (one ∷ rest))
+if_listed newest p one rest true is = rw is refl
+if_listed newest p one rest false is = rw is refl
 
 across_more : (before : List JudgedRelay) (one : JudgedRelay) (rest : List JudgedRelay) → All (AllBelow before) rest
     → All (λ (o : JudgedRelay). below one o ≡ true) rest → All (AllBelow (before ++ one ∷ [])) rest
@@ -209,26 +210,26 @@ across_more before one rest across above k d lt =
     (All-cons (λ (o : JudgedRelay). below o (get_or rest k d) ≡ true) one [] (above k d lt)
     (λ i e none. absurd (omega (arith, none))))
 
-walks : (keys : Keys) (all before rest : List JudgedRelay) → all ≡ before ++ rest → AreKeysOf keys before
+walks : (newest : Newest) (keys : Keys) (all before rest : List JudgedRelay) → all ≡ before ++ rest → AreKeysOf keys before
     → All (AllBelow before) rest → RelaysAscend rest
-    → entries_from keys rest ≡ map entry_of_judged (filter (has_entry all) rest)
-walks keys all before [] is are across pairs = refl
-walks keys all before (one ∷ rest) is are across pairs =
+    → entries_from newest keys rest ≡ map (entry_of_judged newest) (filter (has_entry all) rest)
+walks newest keys all before [] is are across pairs = refl
+walks newest keys all before (one ∷ rest) is are across pairs =
     let p = has_entry all in
     let below_it = All-head (AllBelow before) one rest across in
     let above = AllPairs-head (λ (a b : JudgedRelay). below a b ≡ true) one rest pairs in
     let its = is_listed keys one.ruled.ruling (signer_of one.descriptor.identity_ed25519) in
     let listed : its ≡ p one =
     listed_is keys before rest one are below_it above ∙ ap (λ (l : List JudgedRelay). has_entry l one) (sym is) in
-    let next = walks (keys_with keys one) all (before ++ one ∷ []) rest
+    let next = walks newest (keys_with keys one) all (before ++ one ∷ []) rest
     (is ∙ sym (append_assoc before (one ∷ []) rest)) (keys_more keys before one are)
     (across_more before one rest (All-tail (AllBelow before) one rest across) above)
     (AllPairs-tail (λ (a b : JudgedRelay). below a b ≡ true) one rest pairs) in
-    ap (λ (l : List EntryFacts). (if its then entry_of_judged one ∷ [] else []) ++ l) next
-    ∙ if_listed p one rest its (sym listed)
+    ap (λ (l : List EntryFacts). (if its then entry_of_judged newest one ∷ [] else []) ++ l) next
+    ∙ if_listed newest p one rest its (sym listed)
 
 -- the entries of relays that ascend
-pub listed_in_turn : (relays : List JudgedRelay) → RelaysAscend relays
-    → entries_from set.empty relays ≡ made_entries relays
-listed_in_turn relays pairs =
-    walks set.empty relays [] relays refl no_keys (λ k d lt i e none. absurd (omega (arith, none))) pairs
+pub listed_in_turn : (newest : Newest) (relays : List JudgedRelay) → RelaysAscend relays
+    → entries_from newest set.empty relays ≡ made_entries newest relays
+listed_in_turn newest relays pairs =
+    walks newest set.empty relays [] relays refl no_keys (λ k d lt i e none. absurd (omega (arith, none))) pairs

@@ -1,6 +1,7 @@
 -- Of what is known, ruled and assigned there is as much as there are relays; and the entries that are made of it.
 use Rattle.std.proofs.Common.{◌≡◌, ℕ, List, [], ◌∷◌, length, refl, ap, ap₂, ◌∙◌}
 use Rattle.std.proofs.lemmas.List.{length-map}
+use Rattle.count_terms.specs.declared.newest.Newest.{Newest}
 use Rattle.descriptor_doc.specs.declared.descriptor.Descriptor.{Descriptor}
 use Rattle.flag_rules.specs.Flags.{flags_of}
 use Rattle.flag_rules.specs.Relays.{ruled_relays}
@@ -40,12 +41,12 @@ known_alike measured others alike (d ∷ ds) =
     (known_alike measured others alike ds)
 
 -- the entries of relays of which this is known and ruled, with these flags, are those under these rulings
-pub entries_ruled : (measured : List MeasuredRelay) (ds : List Descriptor) (now : ℕ) (ks : List RelayFacts)
+pub entries_ruled : (newest : Newest) (measured : List MeasuredRelay) (ds : List Descriptor) (now : ℕ) (ks : List RelayFacts)
     (rs given : List Ruling) (fs : List Flags) → ks ≡ known_relays measured ds → rs ≡ given
     → fs ≡ flags_of now (ruled_relays ks rs)
-    → made_entries (judged_relays ds (ruled_relays ks rs) fs) ≡ entries_under measured ds now given
-entries_ruled measured ds now ks rs given fs known is flags =
+    → made_entries newest (judged_relays ds (ruled_relays ks rs) fs) ≡ entries_under newest measured ds now given
+entries_ruled newest measured ds now ks rs given fs known is flags =
     let ruled : ruled_relays ks rs ≡ ruled_relays (known_relays measured ds) given =
     ap₂ (λ (k : List RelayFacts) (r : List Ruling). ruled_relays k r) known is in
-    ap₂ (λ (r : List RuledRelay) (f : List Flags). made_entries (judged_relays ds r f)) ruled
+    ap₂ (λ (r : List RuledRelay) (f : List Flags). made_entries newest (judged_relays ds r f)) ruled
     (flags ∙ ap (λ (r : List RuledRelay). flags_of now r) ruled)

@@ -1,7 +1,8 @@
 -- The entry of a relay in a vote that an authority makes (dir-spec, "Vote and consensus status document formats").
 use Rattle.std.specs.Prelude.{ℕ, List, [], ◌∷◌, ◌++◌, take, Option, Some, None, option_and_then, codes, if◌then◌else◌}
 use Rattle.std.specs.Str.{bytes_eq}
-use Rattle.sha2.specs.Sha256.{sha256}
+use Rattle.count_terms.specs.declared.newest.Newest.{Newest}
+use Rattle.count_terms.specs.declared.newest.Newest.TheVariants.{Method33, Method34, Method35}
 use Rattle.item_terms.specs.Bytes.{space}
 use Rattle.item_terms.specs.Words.{words_of}
 use Rattle.dir_values.specs.Ports.{summary_text}
@@ -17,11 +18,34 @@ use Rattle.vote_terms.specs.declared.entry.MicroFacts.{MicroFacts}
 use Rattle.flag_rules.specs.Names.{names_of}
 use Rattle.flag_rules.specs.declared.flags.Flags.{Flags}
 use Rattle.flag_rules.specs.declared.relay.RelayFacts.{RelayFacts}
-use Rattle.vote_pool.specs.Summaries.{micro_text_of}
+use Rattle.vote_pool.specs.Summaries.{family_digest_of, micro_digest_of}
 
--- the consensus methods that a made vote lists, and under which its microdescriptors are made
-abbrev pub made_methods : List ℕ
-made_methods = 32 ∷ 33 ∷ []
+-- ---- methods and microdescriptors
+
+-- the consensus methods that a made vote lists, by the newest that is known: 32, and each from there up to this one
+abbrev pub made_methods : Newest → List ℕ
+made_methods Method33 = 32 ∷ 33 ∷ []
+made_methods Method34 = 32 ∷ 33 ∷ 34 ∷ []
+made_methods Method35 = 32 ∷ 33 ∷ 34 ∷ 35 ∷ []
+
+-- the `m` line of the microdescriptor with this digest, which is made under these methods
+abbrev pub micro_of_digest : List ℕ → Digest2 → MicroFacts
+micro_of_digest methods digest = record { methods = methods; digest = digest }
+
+-- those of a relay whose microdescriptors, by the methods before 35 and by 35, have these digests; where both are one it is
+-- one line
+abbrev pub both_micros : Digest2 → Digest2 → List MicroFacts
+both_micros digest family =
+    if bytes_eq digest.0 family.0 then micro_of_digest (made_methods Method35) digest ∷ []
+    else micro_of_digest (made_methods Method34) digest ∷ micro_of_digest (35 ∷ []) family ∷ []
+
+-- the `m` lines of such a relay, by the newest method that is known
+abbrev pub micros_of : Newest → Digest2 → Digest2 → List MicroFacts
+micros_of Method33 digest family = micro_of_digest (made_methods Method33) digest ∷ []
+micros_of Method34 digest family = micro_of_digest (made_methods Method34) digest ∷ []
+micros_of Method35 digest family = both_micros digest family
+
+-- ---- what else an entry says
 
 -- the version that words name: the first two with a space between them, where the first is `Tor`
 abbrev pub version_of_words : List (List ℕ) → Option (List ℕ)
@@ -39,21 +63,13 @@ abbrev pub opinion_of : Option EdCert → EdOpinion
 opinion_of None = opinion.None
 opinion_of (Some certificate) = opinion.Key certificate.signer
 
--- the `m` line of a relay whose microdescriptor has this digest, under those methods
-abbrev pub micro_of_digest : Digest2 → MicroFacts
-micro_of_digest digest = record { methods = made_methods; digest = digest }
-
--- the `m` line of a relay with this microdescriptor: its SHA-256
-abbrev pub micro_of_text : List ℕ → MicroFacts
-micro_of_text text = micro_of_digest (record { 0 = sha256 text })
-
 -- the `w` line: what the relay says, and what was measured, where that was
 abbrev pub made_bandwidths : RelayFacts → Bandwidths
 made_bandwidths known = record { bandwidth = Some known.bandwidth_kb; measured = known.measured.kb }
 
--- the entry of the relay of a descriptor, of which this is known, with these flags
-abbrev pub made_entry : Descriptor → RelayFacts → Flags → EntryFacts
-made_entry d known flags = record {
+-- the entry of the relay of a descriptor, of which this is known, with these flags, by the newest method that is known
+abbrev pub made_entry : Newest → Descriptor → RelayFacts → Flags → EntryFacts
+made_entry newest d known flags = record {
   nickname = d.router.nickname;
   identity = d.identity;
   digest = d.digest;
@@ -67,6 +83,6 @@ made_entry d known flags = record {
   protocols = d.proto;
   bandwidths = Some (made_bandwidths known);
   policy = Some (summary_text (summary_of d.policy));
-  micros = micro_of_text (micro_text_of d) ∷ [];
+  micros = micros_of newest (micro_digest_of d) (family_digest_of d);
   ed = opinion_of d.identity_ed25519;
 }

@@ -2,6 +2,7 @@
 use Rattle.std.specs.Prelude.{Bool, false, not, ◌&&◌, List, [], ◌∷◌, map, filter, Option, Some}
 use Rattle.std.specs.List.{list_any}
 use Rattle.std.specs.Str.{bytes_eq}
+use Rattle.count_terms.specs.declared.newest.Newest.{Newest}
 use Rattle.dir_values.specs.Digests.{identity_below}
 use Rattle.descriptor_frame.specs.declared.certificate.EdCert.{EdCert}
 use Rattle.descriptor_doc.specs.declared.descriptor.Descriptor.{Descriptor}
@@ -49,10 +50,10 @@ has_entry relays one =
 abbrev pub listed_relays : List JudgedRelay → List JudgedRelay
 listed_relays relays = filter (has_entry relays) relays
 
--- the entry of a relay
-abbrev pub entry_of_judged : JudgedRelay → EntryFacts
-entry_of_judged one = made_entry one.descriptor one.ruled.facts one.flags
+-- the entry of a relay, by the newest method that is known
+abbrev pub entry_of_judged : Newest → JudgedRelay → EntryFacts
+entry_of_judged newest one = made_entry newest one.descriptor one.ruled.facts one.flags
 
 -- the entries of relays
-abbrev pub made_entries : List JudgedRelay → List EntryFacts
-made_entries relays = map entry_of_judged (listed_relays relays)
+abbrev pub made_entries : Newest → List JudgedRelay → List EntryFacts
+made_entries newest relays = map (entry_of_judged newest) (listed_relays relays)

@@ -2,6 +2,7 @@
 -- timeline").
 use Rattle.std.specs.Prelude.{ℕ, List, [], ◌∷◌, Some, None, codes}
 use Rattle.sha1.specs.Sha1.{sha1}
+use Rattle.count_terms.specs.declared.newest.Newest.{Newest}
 use Rattle.dir_values.specs.declared.algorithm.Algorithm.TheVariants.{Sha1}
 use Rattle.authority_certs.specs.declared.cert.Cert.{Cert}
 use Rattle.descriptor_doc.specs.declared.descriptor.Descriptor.{Descriptor}
@@ -44,12 +45,12 @@ schedule_in station =
 abbrev pub relays_in : Basis → List RelayFacts
 relays_in its = known_relays its.station.measured its.descriptors
 
--- the entries of relays of which this was measured, under these rulings: flags are assigned to all of them, also to
--- those that have no entry
-abbrev pub entries_under : List MeasuredRelay → List Descriptor → ℕ → List Ruling → List EntryFacts
-entries_under measured descriptors now rulings =
+-- the entries of relays of which this was measured, under these rulings, by the newest method that is known: flags are
+-- assigned to all of them, also to those that have no entry
+abbrev pub entries_under : Newest → List MeasuredRelay → List Descriptor → ℕ → List Ruling → List EntryFacts
+entries_under newest measured descriptors now rulings =
     let ruled = ruled_relays (known_relays measured descriptors) rulings in
-    made_entries (judged_relays descriptors ruled (flags_of now ruled))
+    made_entries newest (judged_relays descriptors ruled (flags_of now ruled))
 
 -- ---- what it says
 
@@ -75,7 +76,7 @@ with_signature facts signature = record facts { signature = signature_by facts.c
 -- What the made vote says under these rulings, one for each relay; the signature is no part of it.
 abbrev pub made : Basis → List Ruling → VoteFacts
 made its rulings = let station = its.station in record {
-  methods = Some made_methods;
+  methods = Some (made_methods station.newest);
   published = its.moment;
   valid_after = its.valid_after;
   fresh_until = fresh_until (schedule_in station) its.valid_after;
@@ -95,6 +96,6 @@ made its rulings = let station = its.station in record {
   random_previous = None;
   random_current = None;
   certificate = station.certificate;
-  entries = entries_under station.measured its.descriptors its.moment rulings;
+  entries = entries_under station.newest station.measured its.descriptors its.moment rulings;
   signature = signature_by station.certificate [];
 }

@@ -8,6 +8,7 @@ use Rattle.std.specs.Ordering.{nat_cmp, is_lt}
 use Rattle.std.specs.declared.cmp.Ordering.{Ordering}
 use Rattle.hex.specs.Hex.{IsBytes}
 use Rattle.sha1.specs.Sha1.{sha1}
+use Rattle.count_terms.specs.declared.newest.Newest.{Newest}
 use Rattle.dir_values.specs.Digests.{identity_below}
 use Rattle.dir_values.specs.declared.digest.Fingerprint.{Fingerprint}
 use Rattle.dirdoc_grammar.specs.Writing.{item_text, items_text}
@@ -92,21 +93,21 @@ opinion_of_key None = opinion.None
 opinion_of_key (Some key) = opinion.Key key
 
 -- the entry of a relay, if it has one
-abbrev pub entry_if : Bool → Descriptor → RelayFacts → Flags → List EntryFacts
-entry_if listed d known flags = if listed then made_entry d known flags ∷ [] else []
+abbrev pub entry_if : Newest → Bool → Descriptor → RelayFacts → Flags → List EntryFacts
+entry_if newest listed d known flags = if listed then made_entry newest d known flags ∷ [] else []
 
 -- the entries of relays that stand behind others, of which these are the keys
-abbrev pub entries_from : Keys → List JudgedRelay → List EntryFacts
-entries_from keys [] = []
-entries_from keys (one ∷ relays) =
-    entry_if (is_listed keys one.ruled.ruling (signer_of one.descriptor.identity_ed25519)) one.descriptor one.ruled.facts
-    one.flags
-    ++ entries_from (keys_after keys one.ruled.ruling (signer_of one.descriptor.identity_ed25519)) relays
+abbrev pub entries_from : Newest → Keys → List JudgedRelay → List EntryFacts
+entries_from newest keys [] = []
+entries_from newest keys (one ∷ relays) =
+    entry_if newest (is_listed keys one.ruled.ruling (signer_of one.descriptor.identity_ed25519)) one.descriptor
+    one.ruled.facts one.flags
+    ++ entries_from newest (keys_after keys one.ruled.ruling (signer_of one.descriptor.identity_ed25519)) relays
 
 -- These are the entries of the relays from one place to another, behind others that have these keys, and then those keys.
-abbrev pub AreBetween : List JudgedRelay → ℕ → ℕ → Keys → List EntryFacts → Keys → Type 0
-AreBetween relays start end old entries new =
-    entries ++ entries_from new (drop end relays) ≡ entries_from old (drop start relays)
+abbrev pub AreBetween : Newest → List JudgedRelay → ℕ → ℕ → Keys → List EntryFacts → Keys → Type 0
+AreBetween newest relays start end old entries new =
+    entries ++ entries_from newest new (drop end relays) ≡ entries_from newest old (drop start relays)
 
 -- there is as much of each: of what is known of relays, of rulings and of flags
 pub record AreAsMany (relays : List Descriptor) (known : List RelayFacts) (rulings : List Ruling)
@@ -134,11 +135,11 @@ abbrev pub said_around : StationFacts → ℕ → ℕ → VoteFacts
 said_around station valid_after now = made (basis station [] valid_after now) []
 
 -- The text of the entries of relays under some rulings that are allowed is appended.
-pub record AppendsEntriesUnder (allows : RelayFacts → Ruling → Bool) (measured : List MeasuredRelay)
+pub record AppendsEntriesUnder (allows : RelayFacts → Ruling → Bool) (newest : Newest) (measured : List MeasuredRelay)
     (descriptors : List Descriptor) (now : ℕ) (old new : List ℕ) : Type 0 where
   pub rulings : List Ruling
   pub allowed : AreAllowed allows (known_relays measured descriptors) rulings
-  pub new_is : new ≡ old ++ entries_text (entries_under measured descriptors now rulings)
+  pub new_is : new ≡ old ++ entries_text (entries_under newest measured descriptors now rulings)
 
 -- This is the text that is signed of what is made of a basis, under some rulings that are allowed.
 pub record IsSignedPart (allows : RelayFacts → Ruling → Bool) (its : Basis) (text : List ℕ) : Type 0 where

@@ -73,7 +73,7 @@ fn push_ruled<R: Rules, F: Fn(RelayFacts) -> Ruling, V: Verifier>(
 ) -> Result<(), Memory>
     requires hook { KeepsTo R.allows F.pre F.post hook.now.rules hook.now.ask }
     requires front { out.old.items ≡ walks.front_text around station.now.certificate_bytes }
-    ensures { OnOk result (walks.AppendsEntriesUnder (R.allows hook.now.rules) station.now.measured pool.now.descriptors now out.old.items out.new.items) }
+    ensures { OnOk result (walks.AppendsEntriesUnder (R.allows hook.now.rules) station.now.newest station.now.measured pool.now.descriptors now out.old.items out.new.items) }
 {
     let measures = Measures::new(alloc, station.measured.as_slice())?;
     let known = known_relays(alloc, pool, &measures)?;
@@ -81,6 +81,7 @@ fn push_ruled<R: Rules, F: Fn(RelayFacts) -> Ruling, V: Verifier>(
     push_entries_of(
         out,
         alloc,
+        station.newest,
         around,
         station.certificate_bytes.as_bytes(),
         pool,
@@ -106,7 +107,7 @@ fn said_around(
     ensures { IfOk result (λ facts. facts ≡ walks.said_around station.now valid_after now) }
 {
     Ok(VoteFacts {
-        methods: Some(made_methods(alloc)?),
+        methods: Some(made_methods(alloc, station.newest)?),
         published: now,
         valid_after,
         fresh_until: valid_after + station.interval,

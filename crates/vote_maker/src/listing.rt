@@ -6,6 +6,7 @@ ghost use Rattle.vote_maker.specs.Listings as listings;
 ghost use Rattle.vote_maker.specs.Private as walks;
 
 use crate::entry::made_entry;
+use count_terms::Newest;
 use dir_bytes::Memory;
 use flag_rules::{Flags, RelayFacts, Ruling};
 use key_port::Verifier;
@@ -63,34 +64,36 @@ fn flags_at(flags: &[Flags], i: usize) -> &Flags
     &flags[i]
 }
 
-/// Appends the entry of a relay of which this is known, with these flags, if it has one.
+/// Appends the entry of a relay of which this is known, with these flags, if it has one, by the newest method that is known.
 ///
 /// # Errors
 /// `Memory` is want of memory.
 fn push_entry_if<V: Verifier>(
     out: &mut Vec<EntryFacts>,
     alloc: Global,
+    newest: Newest,
     listed: bool,
     entry: &PoolEntry<V>,
     known: &RelayFacts,
     flags: &Flags,
 ) -> Result<(), Memory>
-    ensures { OnOk result (out.new.items ≡ out.old.items ++ walks.entry_if listed entry.now known.now flags.now) }
+    ensures { OnOk result (out.new.items ≡ out.old.items ++ walks.entry_if newest listed entry.now known.now flags.now) }
 {
     if listed {
-        out.push(made_entry(alloc, entry, known, flags)?)?;
+        out.push(made_entry(alloc, newest, entry, known, flags)?)?;
     }
     Ok(())
 }
 
-/// The entries of the relays of a pool from one place to another, of which this is known and ruled, with these flags, behind
-/// others that have these keys; theirs are put to them.
+/// The entries of the relays of a pool from one place to another, of which this is known and ruled, with these flags, by the
+/// newest method that is known, behind others that have these keys; theirs are put to them.
 ///
 /// # Errors
 /// `Memory` is want of memory.
 pub(crate) fn entries_between<V: Verifier>(
     keys: &mut KeySet,
     alloc: Global,
+    newest: Newest,
     pool: &Pool<V>,
     known: &[RelayFacts],
     rulings: &[Ruling],
@@ -101,7 +104,7 @@ pub(crate) fn entries_between<V: Verifier>(
     requires many { walks.AreAsMany pool.now.descriptors known.now rulings.now flags.now }
     requires order { start ≤ end }
     requires within { end ≤ length pool.now.descriptors }
-    ensures { IfOk result (λ entries. walks.AreBetween (listings.judged_relays pool.now.descriptors (ruled_relays known.now rulings.now) flags.now) start end keys.old entries.items keys.new) }
+    ensures { IfOk result (λ entries. walks.AreBetween newest (listings.judged_relays pool.now.descriptors (ruled_relays known.now rulings.now) flags.now) start end keys.old entries.items keys.new) }
 {
     let mut entries = Vec::with_capacity(alloc, end - start)?;
     'relays: for i in start..end {
@@ -111,6 +114,7 @@ pub(crate) fn entries_between<V: Verifier>(
         push_entry_if(
             &mut entries,
             alloc,
+            newest,
             listed,
             entry,
             known_at(known, i),

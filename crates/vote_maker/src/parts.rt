@@ -5,6 +5,7 @@ ghost use Rattle.vote_maker.specs.Listings as listings;
 ghost use Rattle.vote_maker.specs.Private as walks;
 
 use crate::listing::entries_between;
+use count_terms::Newest;
 use dir_bytes::{Memory, Seq};
 use flag_rules::{Flags, RelayFacts, Ruling};
 use key_port::Verifier;
@@ -80,14 +81,16 @@ fn part_end(place: usize, relays: usize) -> usize
     }
 }
 
-/// Appends the text of the entries of a pool's relays, of which this is known and ruled, with these flags, to the front of the
-/// vote that says this around them. Flags stand for all of them, also for those that have no entry.
+/// Appends the text of the entries of a pool's relays, of which this is known and ruled, with these flags, by the newest method
+/// that is known, to the front of the vote that says this around them. Flags stand for all of them, also for those that have no
+/// entry.
 ///
 /// # Errors
 /// `Memory` is want of memory.
 pub(crate) fn push_entries_of<V: Verifier>(
     out: &mut Vec<u8>,
     alloc: Global,
+    newest: Newest,
     around: VoteFacts,
     certificate: &[u8],
     pool: &Pool<V>,
@@ -97,7 +100,7 @@ pub(crate) fn push_entries_of<V: Verifier>(
 ) -> Result<(), Memory>
     requires many { walks.AreAsMany pool.now.descriptors known.now rulings.now flags.now }
     requires front { out.old.items ≡ walks.front_text around certificate.now }
-    ensures { OnOk result (out.new.items ≡ out.old.items ++ walks.entries_text (listings.made_entries (listings.judged_relays pool.now.descriptors (ruled_relays known.now rulings.now) flags.now))) }
+    ensures { OnOk result (out.new.items ≡ out.old.items ++ walks.entries_text (listings.made_entries newest (listings.judged_relays pool.now.descriptors (ruled_relays known.now rulings.now) flags.now))) }
 {
     let front = out.len();
     let mut facts = around;
@@ -105,7 +108,9 @@ pub(crate) fn push_entries_of<V: Verifier>(
     let mut place = 0;
     'parts: while place < pool.len() {
         let end = part_end(place, pool.len());
-        let entries = entries_between(&mut keys, alloc, pool, known, rulings, flags, place, end)?;
+        let entries = entries_between(
+            &mut keys, alloc, newest, pool, known, rulings, flags, place, end,
+        )?;
         facts.entries = Seq::new(entries);
         push_part(out, alloc, &facts, certificate, front)?;
         place = end;

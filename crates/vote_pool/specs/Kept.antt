@@ -6,6 +6,7 @@ use Rattle.descriptor_frame.specs.declared.certificate.EdCert.{EdCert}
 use Rattle.key_port.specs.Answers.{Rules}
 use Rattle.descriptor_doc.specs.Checks.{IsChecked}
 use Rattle.descriptor_doc.specs.declared.descriptor.Descriptor.{Descriptor}
+use Rattle.vote_pool.specs.declared.entry.FamilyMicro.{FamilyMicro}
 use Rattle.vote_pool.specs.declared.kept.KeptDescriptor.{KeptDescriptor}
 use Rattle.vote_pool.specs.Summaries.{IsPrepared}
 
@@ -32,10 +33,10 @@ kept_of d = record {
   text = d.text;
 }
 
--- This is what is kept of a descriptor that was checked, the summary of its exit policy, and the text and the digest of
--- its microdescriptor.
+-- This is what is kept of a descriptor that was checked, the summary of its exit policy, the text and the digest of its
+-- microdescriptor, and those of the one with families, where there is one.
 pub record IsHeld (rules : Rules) (descriptor : Descriptor) (kept : KeptDescriptor) (summary : Ports) (micro : List ℕ)
-    (digest : Digest2) : Type 0 where
+    (digest : Digest2) (family : Option FamilyMicro) : Type 0 where
   pub checked : IsChecked rules descriptor
   pub kept_is : kept ≡ kept_of descriptor
-  pub prepared : IsPrepared descriptor summary micro digest
+  pub prepared : IsPrepared descriptor summary micro digest family

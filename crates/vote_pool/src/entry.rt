@@ -6,7 +6,7 @@ ghost use Rattle.descriptor_doc.specs.Checks.{IsVerified};
 ghost use Rattle.descriptor_doc.specs.Reading.{IsRead};
 ghost use Rattle.vote_pool.specs.Kept.{IsHeld, kept_of};
 ghost use Rattle.vote_pool.specs.Ranks.{rank_of_descriptor};
-ghost use Rattle.vote_pool.specs.Summaries.{micro_digest_of, micro_text_of};
+ghost use Rattle.vote_pool.specs.Summaries.{family_digest_of, family_text_of, micro_digest_of, micro_text_of};
 
 use crate::kept::KeptDescriptor;
 use crate::rank::DescriptorRank;
@@ -17,6 +17,13 @@ use key_port::Verifier;
 use std::marker::{Model, PhantomData};
 use std::snapshot::Snapshot;
 
+/// The microdescriptor of a relay with families.
+#[derive(Drop)]
+pub(crate) struct FamilyMicro {
+    pub(crate) text: Text,
+    pub(crate) digest: Digest2,
+}
+
 /// What a pool keeps of a relay.
 #[derive(Drop)]
 pub(crate) struct Prepared {
@@ -24,10 +31,12 @@ pub(crate) struct Prepared {
     pub(crate) summary: PortSummary,
     pub(crate) micro: Text,
     pub(crate) micro_digest: Digest2,
+    pub(crate) family: Option<FamilyMicro>,
 }
 
-/// What is kept of a relay's descriptor, which holds under a verifier, with the summary of its exit policy, and the text and
-/// the digest of its microdescriptor. Contracts see it as the descriptor. To move it is to move a pointer.
+/// What is kept of a relay's descriptor, which holds under a verifier, with the summary of its exit policy, the text and the
+/// digest of its microdescriptor, and those of the one with families, where there is one. Contracts see it as the descriptor.
+/// To move it is to move a pointer.
 #[derive(Drop)]
 pub struct PoolEntry<V: Verifier> {
     prepared: Box<Prepared>,
@@ -45,13 +54,13 @@ impl<V: Verifier> Model for PoolEntry<V> {
     ghost view = { λ e. e.descriptor.value };
 
     ghost invariant = { λ e. IsHeld (rules V.may_accept V.may_refuse) e.descriptor.value e.prepared.value.kept
-        e.prepared.value.summary e.prepared.value.micro e.prepared.value.micro_digest };
+        e.prepared.value.summary e.prepared.value.micro e.prepared.value.micro_digest e.prepared.value.family };
 }
 
 impl<V: Verifier> PoolEntry<V> {
     /// What was prepared of a descriptor, as one that a pool may keep.
     pub(crate) fn new(prepared: Box<Prepared>, descriptor: Snapshot<Descriptor>) -> PoolEntry<V>
-        requires held { IsHeld (rules V.may_accept V.may_refuse) descriptor.value prepared.value.kept prepared.value.summary prepared.value.micro prepared.value.micro_digest }
+        requires held { IsHeld (rules V.may_accept V.may_refuse) descriptor.value prepared.value.kept prepared.value.summary prepared.value.micro prepared.value.micro_digest prepared.value.family }
         ensures { result ≡ descriptor.value }
     {
         PoolEntry {
@@ -77,18 +86,39 @@ impl<V: Verifier> PoolEntry<V> {
         &self.prepared.summary
     }
 
-    /// The text of its microdescriptor (dir-spec, "Computing microdescriptors").
+    /// The text of its microdescriptor by the consensus methods before 35 (dir-spec, "Computing microdescriptors").
     pub fn micro(&self) -> &[u8]
         ensures { result.now ≡ micro_text_of self.now }
     {
         self.prepared.micro.as_bytes()
     }
 
-    /// The digest of its microdescriptor, as votes and requests name it: the SHA-256 of the text.
+    /// The digest of that microdescriptor, as votes and requests name it: the SHA-256 of the text.
     pub fn micro_digest(&self) -> &Digest2
         ensures { result.now ≡ micro_digest_of self.now }
     {
         &self.prepared.micro_digest
+    }
+
+    /// The text of its microdescriptor by method 35: with the families that its certificates name, where they name one, and
+    /// else the same text.
+    pub fn family_micro(&self) -> &[u8]
+        ensures { result.now ≡ family_text_of self.now }
+    {
+        match &self.prepared.family {
+            Some(family) => family.text.as_bytes(),
+            None => self.prepared.micro.as_bytes(),
+        }
+    }
+
+    /// The digest of that microdescriptor.
+    pub fn family_digest(&self) -> &Digest2
+        ensures { result.now ≡ family_digest_of self.now }
+    {
+        match &self.prepared.family {
+            Some(family) => &family.digest,
+            None => &self.prepared.micro_digest,
+        }
     }
 
     /// The relay's identity.

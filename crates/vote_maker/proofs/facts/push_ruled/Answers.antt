@@ -49,6 +49,6 @@ returns g c =
           (same ∙ known_is) c.in_ok-given.ensures.allowed;
       new_is = c.in_ok-push_entries_of.ensures
           ∙ ap (λ (l : List EntryFacts). c.args.out.now.items ++ entries_text l)
-          (entries_ruled measured descriptors c.args.now known rulings given c.as_slice-3.result.now known_is
+          (entries_ruled c.args.station.now.newest measured descriptors c.args.now known rulings given c.as_slice-3.result.now known_is
           c.as_slice-2.ensures flags_are);
     }

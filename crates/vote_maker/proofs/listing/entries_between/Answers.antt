@@ -21,12 +21,12 @@ relays-preserved g c =
     let within : i < length descriptors = omega arith in
     let its : listed ≡ is_listed keys ruling (signer_of d.identity_ed25519) = search rules in
     let after : c.note_relay.new.keys ≡ keys_after keys ruling (signer_of d.identity_ed25519) = search rules in
-    let put : c.push_entry_if.new.out.items ≡ out ++ entry_if listed d known flags = search rules in
+    let put : c.push_entry_if.new.out.items ≡ out ++ entry_if c.args.newest listed d known flags = search rules in
     record {
       entries =
-          one_more descriptors c.args.known.now c.args.rulings.now c.args.flags.now i d known ruling flags keys
+          one_more c.args.newest descriptors c.args.known.now c.args.rulings.now c.args.flags.now i d known ruling flags keys
           c.note_relay.new.keys listed out c.push_entry_if.new.out.items
-          (entries_from c.args.keys.now (drop c.args.start judged)) within c.requires.many
+          (entries_from c.args.newest c.args.keys.now (drop c.args.start judged)) within c.requires.many
           c.entry-entry.ensures c.known_at.ensures c.ruling_at.ensures c.flags_at.ensures its after put
           c.relays.invariant.entries;
       within = omega arith;

@@ -9,6 +9,8 @@ abbrev pub invariant-relays : goal.invariant-relays
 invariant-relays g l =
     let relays = judged_relays l.pool.descriptors (ruled_relays l.known l.rulings) l.flags in
     record {
-      entries : l.entries.items ++ entries_from l.keys (drop l.i relays) ≡ entries_from l.fn.keys (drop l.start relays);
+      entries :
+          l.entries.items ++ entries_from l.newest l.keys (drop l.i relays)
+          ≡ entries_from l.newest l.fn.keys (drop l.start relays);
       within : l.i ≤ l.end;
     }

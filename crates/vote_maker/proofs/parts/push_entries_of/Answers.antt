@@ -19,8 +19,8 @@ parts-preserved g c =
     c.in_ok-push_part.ensures ∙ ap (λ (l : List EntryFacts). out ++ entries_text l) c.new.ensures in
     record {
       text =
-          one_more_part judged c.parts.place c.part_end-end.result c.parts.keys c.entries_between.new.keys entries out
-          c.push_part.new.out.items (c.args.out.now.items ++ entries_text (entries_from set.empty judged))
+          one_more_part c.args.newest judged c.parts.place c.part_end-end.result c.parts.keys c.entries_between.new.keys entries out
+          c.push_part.new.out.items (c.args.out.now.items ++ entries_text (entries_from c.args.newest set.empty judged))
           c.in_ok-entries.ensures put c.parts.invariant.text;
       around = c.parts.invariant.around;
       within = omega (arith, c.part_end-end.ensures.within, c.len-in-parts.ensures.value);
@@ -35,7 +35,7 @@ returns g c =
     let ended : length descriptors ≤ c.parts.place = omega arith in
     let past : length judged ≤ c.parts.place =
     omega (arith, ended, judged_few descriptors ruled c.args.flags.now) in
-    none_left judged c.parts.place c.parts.keys c.parts.out.items
-    (out ++ entries_text (entries_from set.empty judged)) past c.parts.invariant.text
+    none_left c.args.newest judged c.parts.place c.parts.keys c.parts.out.items
+    (out ++ entries_text (entries_from c.args.newest set.empty judged)) past c.parts.invariant.text
     ∙ ap (λ (entries : List EntryFacts). out ++ entries_text entries)
-    (listed_in_turn judged (judged_ascend descriptors ruled c.args.flags.now c.len.ensures.ascending))
+    (listed_in_turn c.args.newest judged (judged_ascend descriptors ruled c.args.flags.now c.len.ensures.ascending))

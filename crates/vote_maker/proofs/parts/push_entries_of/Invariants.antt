@@ -11,8 +11,8 @@ invariant-parts g l =
     let relays = judged_relays l.pool.descriptors (ruled_relays l.known l.rulings) l.flags in
     record {
       text :
-          l.out.items ++ entries_text (entries_from l.keys (drop l.place relays))
-          ≡ l.fn.out.items ++ entries_text (entries_from set.empty relays);
+          l.out.items ++ entries_text (entries_from l.newest l.keys (drop l.place relays))
+          ≡ l.fn.out.items ++ entries_text (entries_from l.newest set.empty relays);
       around : front_text l.facts l.certificate ≡ l.fn.out.items;
       within : l.place ≤ length l.pool.descriptors;
     }
