@@ -5,9 +5,10 @@ use Rattle.std.specs.Prelude.{All}
 use Rattle.std.specs.List.{fold}
 use Rattle.std.proofs.lemmas.List.Elements.{All-cons, All-nil}
 use Rattle.base64.specs.GeneralPurpose.{IsBytes}
+use Rattle.count_terms.specs.declared.newest.Newest.{Newest}
 use Rattle.key_port.specs.Answers.{Rules}
 use Rattle.frame_terms.specs.declared.fault.ReadRefusal.{ReadRefusal}
-use Rattle.descriptor_doc.specs.Reading.{descriptor_of}
+use Rattle.descriptor_doc.specs.Reading.{descriptor_under}
 use Rattle.descriptor_doc.specs.declared.descriptor.Descriptor.{Descriptor}
 use Rattle.vote_pool.specs.Pools.{DescriptorsAscend, Pooled, most_relays, pool_after}
 use Rattle.answer_laws.specs.Newest.{AscendAndFit, pool_of}
@@ -38,14 +39,20 @@ read_by place (Ok (found, used)) one next is =
 read_by place (Err why) one next is = absurd cc
 
 -- each that stands in an input of bytes was read of such
-were_read : (bytes : List ℕ) → IsBytes bytes → (start : ℕ) (list : List Descriptor) (last : ℕ)
-    → Stand start list last bytes → All IsDescriptor list
-were_read bytes are start [] last stand = All-nil IsDescriptor
-were_read bytes are start (one ∷ list) last stand =
-    let read = read_by start (descriptor_of (drop start bytes)) one stand.1 stand.2 in
+were_read : (newest : Newest) (bytes : List ℕ) → IsBytes bytes → (start : ℕ) (list : List Descriptor) (last : ℕ)
+    → Stand newest start list last bytes → All IsDescriptor list
+were_read newest bytes are start [] last stand = All-nil IsDescriptor
+were_read newest bytes are start (one ∷ list) last stand =
+    let read = read_by start (descriptor_under newest (drop start bytes)) one stand.1 stand.2 in
     All-cons IsDescriptor one list
-    (record { input = drop start bytes; bytes = bytes_drop start bytes are; used = read.0; read = read.1 })
-    (were_read bytes are stand.1 list last stand.3)
+    (record {
+      newest = newest;
+      input = drop start bytes;
+      bytes = bytes_drop start bytes are;
+      used = read.0;
+      read = read.1;
+    })
+    (were_read newest bytes are stand.1 list last stand.3)
 
 -- the pool of descriptors is the one that they make when they are kept in turn
 pool_is : (pool : Pooled) (list : List Descriptor) → pool_with pool list ≡ fold pool_after pool list
@@ -57,14 +64,14 @@ record IsFit (pool : Pooled) : Type 0 where
   fits : AscendAndFit pool.descriptors
   read : All IsDescriptor pool.descriptors
 
-fit : (rules : Rules) (start : ℕ) (bytes : List ℕ) (pool : Pooled) → IsBytes bytes → IsPoolOf rules start bytes pool
-    → IsFit pool
-fit rules start bytes pool are is =
+fit : (rules : Rules) (newest : Newest) (start : ℕ) (bytes : List ℕ) (pool : Pooled) → IsBytes bytes
+    → IsPoolOf rules newest start bytes pool → IsFit pool
+fit rules newest start bytes pool are is =
     let all : pool ≡ pool_of is.descriptors = is.pool_is ∙ pool_is no_pool is.descriptors in
     subst IsFit (sym all) (record {
       fits = pools_ascend is.descriptors;
       read = all_held IsDescriptor no_pool is.descriptors
-          (were_read bytes are start is.descriptors is.last is.hold.stand) (All-nil IsDescriptor);
+          (were_read newest bytes are start is.descriptors is.last is.hold.stand) (All-nil IsDescriptor);
     })
 
 -- ---- the basis
@@ -72,7 +79,7 @@ fit rules start bytes pool are is =
 pub of_basis : (rules : Rules) (now : ℕ) (given : StationFacts) (used : ℕ) (bytes : List ℕ) (its : Basis)
     → IsBytes bytes → IsBasisOf rules now given used bytes its → IsStation its.station → IsBasis its
 of_basis rules now given used bytes its are is station =
-    let held = fit rules used bytes is.pool are is.has_pool.pool_of in
+    let held = fit rules given.newest used bytes is.pool are is.has_pool.pool_of in
     let same : given ≡ its.station = sym is.station_is in
     record {
       station = station;

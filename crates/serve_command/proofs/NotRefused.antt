@@ -47,7 +47,7 @@ module _ (rules : Rules) (now : ℕ) (given : StationFacts) (used : ℕ) (bytes 
       absurd (in_order given (schedule_in given) word can.basis.has_pool.order has)
   station_starts can (inr (inl (order, (pool, told, refuses)))) =
       told ∙ ap by_pool
-      (has_pool rules used bytes can.basis.pool pool can.basis.has_pool.pool_of can.none_refused refuses)
+      (has_pool rules given.newest used bytes can.basis.pool pool can.basis.has_pool.pool_of can.none_refused refuses)
   station_starts can (inr (inr (inl (pool, other, told, none)))) =
       absurd (has_period rules now given used bytes can.its can.basis none)
   station_starts can (inr (inr (inr (its, basis, fails)))) = at_beginning its basis can fails

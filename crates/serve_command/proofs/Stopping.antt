@@ -29,7 +29,8 @@ module _ (rules : Rules) (now : ℕ) (given : StationFacts) (used : ℕ) (bytes 
   out_of_order stop.Memory is = tt
   out_of_order (stop.Refused word) is = inl (word, refl, is)
 
-  pub no_descriptors : (why : Stop PoolRefusal) → IsInOrder given (schedule_in given) → GivesPool rules used bytes (Err why)
+  pub no_descriptors : (why : Stop PoolRefusal) → IsInOrder given (schedule_in given)
+      → GivesPool rules given.newest used bytes (Err why)
       → StopsFor (RefusesStation rules now given used bytes) (of_pool why)
   no_descriptors stop.Memory order is = tt
   no_descriptors (stop.Refused why) order is = inr (inl (order, (why, refl, is)))

@@ -104,7 +104,7 @@ abbrev pub RefusesStation : Rules → ℕ → StationFacts → ℕ → List ℕ 
 RefusesStation rules now given used bytes why =
     ((word : OrderWord) × (why ≡ by_order word) × IsOutOfOrder given word)
     ⊎ (IsInOrder given (schedule_in given)
-    × ((pool : PoolRefusal) × (why ≡ by_pool pool) × RefusesDescriptors rules used bytes pool))
+    × ((pool : PoolRefusal) × (why ≡ by_pool pool) × RefusesDescriptors rules given.newest used bytes pool))
     ⊎ ((pool : Pooled) × HasPool rules given used bytes pool × (why ≡ by_end)
     × AnswersNext (schedule_in given) 0 now None)
     ⊎ ((its : Basis) × IsBasisOf rules now given used bytes its

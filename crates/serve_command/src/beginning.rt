@@ -68,7 +68,7 @@ pub(crate) fn beginning_of<V: Verifier>(
         Ok(schedule) => schedule,
         Err(why) => return Err(of_order(why)),
     };
-    let pool = match pool_of(alloc, bytes, used, verifier) {
+    let pool = match pool_of(alloc, station.newest, bytes, used, verifier) {
         Ok(pool) => pool,
         Err(why) => return Err(of_pool(why)),
     };

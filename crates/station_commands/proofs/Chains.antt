@@ -4,6 +4,7 @@ use Rattle.std.specs.Prelude.{All}
 use Rattle.std.proofs.lemmas.Bool.{false≢true}
 use Rattle.std.proofs.lemmas.List.{append-nil}
 use Rattle.std.proofs.lemmas.List.Elements.{All-head, All-tail}
+use Rattle.count_terms.specs.declared.newest.Newest.{Newest}
 use Rattle.blank_lines.specs.Ends.{ends_at}
 use Rattle.frame_terms.specs.declared.fault.ReadRefusal.{ReadRefusal}
 use Rattle.descriptor_doc.specs.declared.descriptor.Descriptor.{Descriptor}
@@ -33,25 +34,27 @@ no_end bytes a b same ended more =
     false≢true (sym more ∙ ap (λ (p : ℕ). ends_at p bytes) (sym same) ∙ ended)
 
 -- Behind some descriptors that stand there others stand, up to the last place, and together they are all.
-pub record GoesOn (bytes : List ℕ) (all some : List Descriptor) (last place : ℕ) : Type 0 where
+pub record GoesOn (newest : Newest) (bytes : List ℕ) (all some : List Descriptor) (last place : ℕ) : Type 0 where
   pub rest : List Descriptor
-  pub stands : Stand place rest last bytes
+  pub stands : Stand newest place rest last bytes
   pub whole : all ≡ some ++ rest
 
 -- what stands up to the end begins with all that stands there
-pub goes_on : (bytes : List ℕ) (start : ℕ) (all some : List Descriptor) (last place : ℕ) → Stand start all last bytes
-    → ends_at last bytes ≡ true → Stand start some place bytes → GoesOn bytes all some last place
-goes_on bytes start all [] last place whole ended part = record {
+pub goes_on : (newest : Newest) (bytes : List ℕ) (start : ℕ) (all some : List Descriptor) (last place : ℕ)
+    → Stand newest start all last bytes → ends_at last bytes ≡ true → Stand newest start some place bytes → GoesOn newest bytes all some last place
+goes_on newest bytes start all [] last place whole ended part = record {
   rest = all;
-  stands = subst (λ (p : ℕ). Stand p all last bytes) (sym part) whole;
+  stands = subst (λ (p : ℕ). Stand newest p all last bytes) (sym part) whole;
   whole = refl;
 }
-goes_on bytes start [] (one ∷ some) last place whole ended part = absurd (no_end bytes last start whole ended part.0)
-goes_on bytes start (first ∷ all) (one ∷ some) last place whole ended part =
-    let next = next_there (descriptor_from start bytes) one first part.1 whole.1 part.2 whole.2 in
-    let same = one_there (descriptor_from start bytes) first one whole.1 part.1 whole.2 part.2 in
+goes_on newest bytes start [] (one ∷ some) last place whole ended part =
+    absurd (no_end bytes last start whole ended part.0)
+goes_on newest bytes start (first ∷ all) (one ∷ some) last place whole ended part =
+    let next = next_there (descriptor_from newest start bytes) one first part.1 whole.1 part.2 whole.2 in
+    let same = one_there (descriptor_from newest start bytes) first one whole.1 part.1 whole.2 part.2 in
     let more =
-    goes_on bytes whole.1 all some last place whole.3 ended (subst (λ (n : ℕ). Stand n some place bytes) next part.3) in
+    goes_on newest bytes whole.1 all some last place whole.3 ended
+    (subst (λ (n : ℕ). Stand newest n some place bytes) next part.3) in
     record {
       rest = more.rest;
       stands = more.stands;
@@ -59,25 +62,25 @@ goes_on bytes start (first ∷ all) (one ∷ some) last place whole ended part =
     }
 
 -- One more stands at a place.
-pub record HasNext (bytes : List ℕ) (rest : List Descriptor) (place : ℕ) : Type 0 where
+pub record HasNext (newest : Newest) (bytes : List ℕ) (rest : List Descriptor) (place : ℕ) : Type 0 where
   pub one : Descriptor
   pub others : List Descriptor
   pub rest_is : rest ≡ one ∷ others
   pub next : ℕ
-  pub there : descriptor_from place bytes ≡ Ok (one, next)
+  pub there : descriptor_from newest place bytes ≡ Ok (one, next)
 
 -- it does where that is not the end
-pub has_next : (bytes : List ℕ) (rest : List Descriptor) (last place : ℕ) → Stand place rest last bytes
-    → ends_at last bytes ≡ true → ends_at place bytes ≡ false → HasNext bytes rest place
-has_next bytes [] last place stands ended more = absurd (no_end bytes last place stands ended more)
-has_next bytes (one ∷ others) last place stands ended more =
+pub has_next : (newest : Newest) (bytes : List ℕ) (rest : List Descriptor) (last place : ℕ)
+    → Stand newest place rest last bytes → ends_at last bytes ≡ true → ends_at place bytes ≡ false → HasNext newest bytes rest place
+has_next newest bytes [] last place stands ended more = absurd (no_end bytes last place stands ended more)
+has_next newest bytes (one ∷ others) last place stands ended more =
     record { one = one; others = others; rest_is = refl; next = stands.1; there = stands.2 }
 
 -- and none where it is
-pub none_left : (bytes : List ℕ) (rest : List Descriptor) (last place : ℕ) → Stand place rest last bytes
-    → ends_at place bytes ≡ true → rest ≡ []
-none_left bytes [] last place stands ended = refl
-none_left bytes (one ∷ others) last place stands ended = absurd (no_end bytes place place refl ended stands.0)
+pub none_left : (newest : Newest) (bytes : List ℕ) (rest : List Descriptor) (last place : ℕ)
+    → Stand newest place rest last bytes → ends_at place bytes ≡ true → rest ≡ []
+none_left newest bytes [] last place stands ended = refl
+none_left newest bytes (one ∷ others) last place stands ended = absurd (no_end bytes place place refl ended stands.0)
 
 -- what holds of all holds of the one behind some
 pub of_next : (P : Descriptor → Type 0) (some others : List Descriptor) (one : Descriptor) → All P (some ++ one ∷ others)
@@ -87,9 +90,9 @@ of_next P (first ∷ some) others one all =
     of_next P some others one (All-tail P first (some ++ one ∷ others) all)
 
 -- two chains up to the end are one
-pub one_chain : (bytes : List ℕ) (start : ℕ) (all some : List Descriptor) (last place : ℕ) → Stand start all last bytes
-    → ends_at last bytes ≡ true → Stand start some place bytes → ends_at place bytes ≡ true → some ≡ all
-one_chain bytes start all some last place whole ended part at_end =
-    let more = goes_on bytes start all some last place whole ended part in
-    let none = none_left bytes more.rest last place more.stands at_end in
+pub one_chain : (newest : Newest) (bytes : List ℕ) (start : ℕ) (all some : List Descriptor) (last place : ℕ)
+    → Stand newest start all last bytes → ends_at last bytes ≡ true → Stand newest start some place bytes → ends_at place bytes ≡ true → some ≡ all
+one_chain newest bytes start all some last place whole ended part at_end =
+    let more = goes_on newest bytes start all some last place whole ended part in
+    let none = none_left newest bytes more.rest last place more.stands at_end in
     sym (more.whole ∙ ap (λ (l : List Descriptor). some ++ l) none ∙ append-nil some)

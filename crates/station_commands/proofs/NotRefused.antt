@@ -10,7 +10,7 @@ use Rattle.dir_values.specs.declared.digest.Fingerprint.{Fingerprint}
 use Rattle.key_port.specs.Answers.{Relation, Rules}
 use Rattle.key_port.specs.Signing.{SignerSteps}
 use Rattle.authority_certs.specs.declared.checking.CertAnswer.TheVariants as answer
-use Rattle.descriptor_doc.specs.Checks.{IsVerified, RefusedBy}
+use Rattle.descriptor_doc.specs.Checks.{IsEdRefused, IsVerified, RefusedBy}
 use Rattle.descriptor_doc.specs.declared.descriptor.Descriptor.{Descriptor}
 use Rattle.flag_rules.specs.Relays.{ruled_relays}
 use Rattle.flag_rules.specs.Rules.{AreAllowed, RuleAlike, list_allows}
@@ -67,29 +67,35 @@ in_order given schedule word.Own order has =
 
 -- ---- the descriptors
 
+-- neither its Ed25519 signatures are refused, nor its families
+neither_refused : (rules : Rules) (d : Descriptor) → IsNotRefused rules d → IsEdRefused rules d → ⊥
+neither_refused rules d free (inl ed) = false≢true (sym free.ed_signed ∙ ed)
+neither_refused rules d free (inr families) = false≢true (sym free.families ∙ families.1)
+
 one_holds : (rules : Rules) (d : Descriptor) (why : DescriptorWord) → IsVerified rules d → IsNotRefused rules d
     → RefusedBy rules d (clause_of why) → ⊥
 one_holds rules d clause.Identity ok free refused = false≢true (sym refused ∙ ok.names_itself)
 one_holds rules d clause.Signature ok free refused = false≢true (sym free.signed ∙ refused.1)
-one_holds rules d clause.Ed25519 ok free refused = false≢true (sym free.ed_signed ∙ refused.2)
+one_holds rules d clause.Ed25519 ok free refused = neither_refused rules d free refused.2
 
-pub has_pool : (rules : Rules) (start : ℕ) (bytes : List ℕ) (pool : Pooled) (why : PoolRefusal)
-    (is : IsPoolOf rules start bytes pool) → All (IsNotRefused rules) is.descriptors
-    → RefusesDescriptors rules start bytes why → why ≡ refusal.Verifier
-has_pool rules start bytes pool (refusal.Fault fault) is free x =
-    let more = goes_on bytes start is.descriptors x.descriptors is.last x.last is.hold.stand is.ended x.hold.stand in
-    let next = has_next bytes more.rest is.last x.last more.stands is.ended x.more in
-    absurd (not_both (descriptor_from x.last bytes) (next.one, next.next) _ next.there x.fails)
-has_pool rules start bytes pool refusal.Full is free refuses =
+pub has_pool : (rules : Rules) (newest : Newest) (start : ℕ) (bytes : List ℕ) (pool : Pooled) (why : PoolRefusal)
+    (is : IsPoolOf rules newest start bytes pool) → All (IsNotRefused rules) is.descriptors
+    → RefusesDescriptors rules newest start bytes why → why ≡ refusal.Verifier
+has_pool rules newest start bytes pool (refusal.Fault fault) is free x =
+    let more =
+    goes_on newest bytes start is.descriptors x.descriptors is.last x.last is.hold.stand is.ended x.hold.stand in
+    let next = has_next newest bytes more.rest is.last x.last more.stands is.ended x.more in
+    absurd (not_both (descriptor_from newest x.last bytes) (next.one, next.next) _ next.there x.fails)
+has_pool rules newest start bytes pool refusal.Full is free refuses =
     let chain =
-    one_chain bytes start is.descriptors refuses.descriptors is.last refuses.last is.hold.stand is.ended
+    one_chain newest bytes start is.descriptors refuses.descriptors is.last refuses.last is.hold.stand is.ended
     refuses.hold.stand refuses.ended in
     absurd (false≢true (sym is.room ∙ ap (finds_full no_pool) (sym chain) ∙ refuses.full))
-has_pool rules start bytes pool (refusal.Descriptor k why) is free refuses =
+has_pool rules newest start bytes pool (refusal.Descriptor k why) is free refuses =
     let more =
-    goes_on bytes start is.descriptors refuses.descriptors is.last refuses.last is.hold.stand is.ended
+    goes_on newest bytes start is.descriptors refuses.descriptors is.last refuses.last is.hold.stand is.ended
     refuses.hold.stand in
-    let next = has_next bytes more.rest is.last refuses.last more.stands is.ended refuses.more in
+    let next = has_next newest bytes more.rest is.last refuses.last more.stands is.ended refuses.more in
     let whole = more.whole ∙ ap (λ (l : List Descriptor). refuses.descriptors ++ l) next.rest_is in
     let ok =
     of_next (IsVerified rules) refuses.descriptors next.others next.one
@@ -97,11 +103,11 @@ has_pool rules start bytes pool (refusal.Descriptor k why) is free refuses =
     let unrefused =
     of_next (IsNotRefused rules) refuses.descriptors next.others next.one
     (subst (λ (l : List Descriptor). All (IsNotRefused rules) l) whole free) in
-    let same = one_there (descriptor_from refuses.last bytes) refuses.descriptor next.one refuses.next next.next
+    let same = one_there (descriptor_from newest refuses.last bytes) refuses.descriptor next.one refuses.next next.next
     refuses.stands next.there in
     absurd (one_holds rules next.one why ok unrefused
     (subst (λ (d : Descriptor). RefusedBy rules d (clause_of why)) same refuses.fails))
-has_pool rules start bytes pool refusal.Verifier is free refuses = refl
+has_pool rules newest start bytes pool refusal.Verifier is free refuses = refl
 
 -- ---- the period
 
@@ -170,7 +176,8 @@ module _ {N : Type 0} (rules : Rules) (gives : Relation) (steps : SignerSteps N)
   none_refused why can (inl (word, told, has)) =
       absurd (in_order given (schedule_in given) word can.basis.has_pool.order has)
   none_refused why can (inr (inl (order, (pool, told, refuses)))) =
-      let of_verifier = has_pool rules used bytes can.basis.pool pool can.basis.has_pool.pool_of can.none_refused refuses in
+      let of_verifier =
+      has_pool rules given.newest used bytes can.basis.pool pool can.basis.has_pool.pool_of can.none_refused refuses in
       inl (told ∙ ap by_pool of_verifier)
   none_refused why can (inr (inr (inl (pool, other, told, none)))) =
       absurd (has_period rules now given used bytes can.its can.basis none)

@@ -33,11 +33,11 @@ pub one_used : (newest : Newest) (bytes : List ℕ) (a b : StationFacts) (m n : 
 one_used newest bytes a b m n first second = ap used_in (sym first ∙ second)
 
 -- two pools of one input are one
-one_pool : (rules : Rules) (start : ℕ) (bytes : List ℕ) (a b : Pooled) → IsPoolOf rules start bytes a
-    → IsPoolOf rules start bytes b → a ≡ b
-one_pool rules start bytes a b first second =
+one_pool : (rules : Rules) (newest : Newest) (start : ℕ) (bytes : List ℕ) (a b : Pooled) → IsPoolOf rules newest start bytes a
+    → IsPoolOf rules newest start bytes b → a ≡ b
+one_pool rules newest start bytes a b first second =
     let chain =
-    one_chain bytes start second.descriptors first.descriptors second.last first.last second.hold.stand second.ended
+    one_chain newest bytes start second.descriptors first.descriptors second.last first.last second.hold.stand second.ended
     first.hold.stand first.ended in
     first.pool_is ∙ ap (pool_with no_pool) chain ∙ sym second.pool_is
 
@@ -51,7 +51,7 @@ pub one_basis : (rules : Rules) (now : ℕ) (given : StationFacts) (used : ℕ) 
     → IsBasisOf rules now given used bytes a → IsBasisOf rules now given used bytes b → a ≡ b
 one_basis rules now given used bytes a b first second =
     let station : a.station ≡ b.station = first.station_is ∙ sym second.station_is in
-    let pool = one_pool rules used bytes first.pool second.pool first.has_pool.pool_of second.has_pool.pool_of in
+    let pool = one_pool rules given.newest used bytes first.pool second.pool first.has_pool.pool_of second.has_pool.pool_of in
     let descriptors : a.descriptors ≡ b.descriptors =
     first.descriptors_are ∙ ap (λ (p : Pooled). p.descriptors) pool ∙ sym second.descriptors_are in
     let next = one_next (schedule_in given) now a.valid_after b.valid_after first.next second.next in

@@ -4,6 +4,7 @@ use Rattle.std.proofs.Common.{arith}
 use Rattle.std.specs.Prelude.{◌||◌}
 use Rattle.std.proofs.lemmas.List.Elements.{All-append, All-cons, All-nil}
 use Rattle.std.proofs.lemmas.Grind.{common_steps}
+use Rattle.count_terms.specs.declared.newest.Newest.{Newest}
 use Rattle.blank_lines.specs.Ends.{ends_at}
 use Rattle.key_port.specs.Answers.{Rules}
 use Rattle.descriptor_doc.specs.Checks.{IsVerified}
@@ -12,17 +13,17 @@ use Rattle.vote_pool.specs.Pools.{Pooled, pool_after}
 use Rattle.station_commands.specs.Descriptors.{Hold, Stand, descriptor_from, finds_full, is_full, no_pool, pool_with}
 
 -- one more behind those that stand
-stands_more : (start : ℕ) (descriptors : List Descriptor) (last : ℕ) (bytes : List ℕ) (one : Descriptor) (next : ℕ)
-    → Stand start descriptors last bytes → ends_at last bytes ≡ false → descriptor_from last bytes ≡ Ok (one, next)
-    → Stand start (descriptors ++ one ∷ []) next bytes
-stands_more start [] last bytes one next is more read = (
+stands_more : (newest : Newest) (start : ℕ) (descriptors : List Descriptor) (last : ℕ) (bytes : List ℕ) (one : Descriptor)
+    (next : ℕ) → Stand newest start descriptors last bytes → ends_at last bytes ≡ false
+    → descriptor_from newest last bytes ≡ Ok (one, next) → Stand newest start (descriptors ++ one ∷ []) next bytes
+stands_more newest start [] last bytes one next is more read = (
   subst (λ (place : ℕ). ends_at place bytes ≡ false) is more,
   next,
-  subst (λ (place : ℕ). descriptor_from place bytes ≡ Ok (one, next)) is read,
+  subst (λ (place : ℕ). descriptor_from newest place bytes ≡ Ok (one, next)) is read,
   refl,
 )
-stands_more start (first ∷ descriptors) last bytes one next is more read =
-    (is.0, is.1, is.2, stands_more is.1 descriptors last bytes one next is.3 more read)
+stands_more newest start (first ∷ descriptors) last bytes one next is more read =
+    (is.0, is.1, is.2, stands_more newest is.1 descriptors last bytes one next is.3 more read)
 
 -- the pool with one more
 pool_more : (pool : Pooled) (descriptors : List Descriptor) (one : Descriptor)
@@ -49,18 +50,18 @@ full_more pool (first ∷ descriptors) one =
     (is_full (pool_with (pool_after pool first) descriptors) one)
 
 -- So many descriptors were read, checked and kept, from a place of the input up to another.
-pub record HaveBeenKept (rules : Rules) (start : ℕ) (bytes : List ℕ) (place number : ℕ) (pool : Pooled) (full : Bool)
-    : Type 0 where
+pub record HaveBeenKept (rules : Rules) (newest : Newest) (start : ℕ) (bytes : List ℕ) (place number : ℕ) (pool : Pooled)
+    (full : Bool) : Type 0 where
   pub descriptors : List Descriptor
-  pub hold : Hold rules start bytes descriptors place
+  pub hold : Hold rules newest start bytes descriptors place
   pub number_is : number ≡ length descriptors
   pub pool_is : pool ≡ pool_with no_pool descriptors
   pub full_is : full ≡ finds_full no_pool descriptors
 
 -- none yet
-pub none_kept : (rules : Rules) (start : ℕ) (bytes : List ℕ) (pool : Pooled) → pool ≡ no_pool
-    → HaveBeenKept rules start bytes start 0 pool false
-none_kept rules start bytes pool is = record {
+pub none_kept : (rules : Rules) (newest : Newest) (start : ℕ) (bytes : List ℕ) (pool : Pooled) → pool ≡ no_pool
+    → HaveBeenKept rules newest start bytes start 0 pool false
+none_kept rules newest start bytes pool is = record {
   descriptors = [];
   hold = record { stand = refl; verified = All-nil (IsVerified rules) };
   number_is = refl;
@@ -76,16 +77,17 @@ count_more : (descriptors : List Descriptor) (one : Descriptor) → length (desc
 count_more descriptors one = grind (arith, common_steps)
 
 -- one more
-pub one_kept : (rules : Rules) (start : ℕ) (bytes : List ℕ) (place number next : ℕ) (pool after : Pooled) (full found
-    after_full : Bool) (one : Descriptor) → HaveBeenKept rules start bytes place number pool full → ends_at place bytes ≡ false
-    → descriptor_from place bytes ≡ Ok (one, next) → IsVerified rules one → after ≡ pool_after pool one
+pub one_kept : (rules : Rules) (newest : Newest) (start : ℕ) (bytes : List ℕ) (place number next : ℕ)
+    (pool after : Pooled) (full found after_full : Bool) (one : Descriptor)
+    → HaveBeenKept rules newest start bytes place number pool full → ends_at place bytes ≡ false
+    → descriptor_from newest place bytes ≡ Ok (one, next) → IsVerified rules one → after ≡ pool_after pool one
     → found ≡ is_full pool one → after_full ≡ (full || found)
-    → HaveBeenKept rules start bytes next (number + 1) after after_full
-one_kept rules start bytes place number next pool after full found after_full one have more read verified after_is found_is
-    full_is = record {
+    → HaveBeenKept rules newest start bytes next (number + 1) after after_full
+one_kept rules newest start bytes place number next pool after full found after_full one have more read verified after_is
+    found_is full_is = record {
       descriptors = have.descriptors ++ one ∷ [];
       hold = record {
-        stand = stands_more start have.descriptors place bytes one next have.hold.stand more read;
+        stand = stands_more newest start have.descriptors place bytes one next have.hold.stand more read;
         verified =
             All-append (IsVerified rules) have.descriptors (one ∷ []) have.hold.verified
             (All-cons (IsVerified rules) one [] verified (All-nil (IsVerified rules)));

@@ -38,13 +38,14 @@ use Rattle.station_commands.proofs.Standing.{HaveBeenKept}
 -- ---- descriptors
 
 -- the descriptors are refused at the one where reading stops
-pub stops_there : (rules : Rules) (start : ℕ) (bytes : List ℕ) (place number : ℕ) (pool : Pooled) (full : Bool)
-    → HaveBeenKept rules start bytes place number pool full → ends_at place bytes ≡ false
-    → (why : Stop PoolRefusal) → StopsAt rules place (number + 1) bytes why → GivesPool rules start bytes (Err why)
-stops_there rules start bytes place number pool full have more stop.Memory stops = tt
-stops_there rules start bytes place number pool full have more (stop.Refused (descriptors.Fault fault)) stops =
+pub stops_there : (rules : Rules) (newest : Newest) (start : ℕ) (bytes : List ℕ) (place number : ℕ) (pool : Pooled)
+    (full : Bool) → HaveBeenKept rules newest start bytes place number pool full → ends_at place bytes ≡ false
+    → (why : Stop PoolRefusal) → StopsAt rules newest place (number + 1) bytes why
+    → GivesPool rules newest start bytes (Err why)
+stops_there rules newest start bytes place number pool full have more stop.Memory stops = tt
+stops_there rules newest start bytes place number pool full have more (stop.Refused (descriptors.Fault fault)) stops =
     record { descriptors = have.descriptors; last = place; hold = have.hold; more = more; fails = stops }
-stops_there rules start bytes place number pool full have more (stop.Refused (descriptors.Descriptor k why)) stops = record {
+stops_there rules newest start bytes place number pool full have more (stop.Refused (descriptors.Descriptor k why)) stops = record {
   descriptors = have.descriptors;
   last = place;
   hold = have.hold;
@@ -55,7 +56,7 @@ stops_there rules start bytes place number pool full have more (stop.Refused (de
   number_is = stops.0 ∙ ap (λ (n : ℕ). n + 1) have.number_is;
   fails = stops.1.fails;
 }
-stops_there rules start bytes place number pool full have more (stop.Refused descriptors.Verifier) stops = (
+stops_there rules newest start bytes place number pool full have more (stop.Refused descriptors.Verifier) stops = (
   length have.descriptors + 1,
   record {
     descriptors = have.descriptors;
@@ -69,13 +70,13 @@ stops_there rules start bytes place number pool full have more (stop.Refused des
     fails = stops.fails;
   },
 )
-stops_there rules start bytes place number pool full have more (stop.Refused descriptors.Full) stops = absurd stops
+stops_there rules newest start bytes place number pool full have more (stop.Refused descriptors.Full) stops = absurd stops
 
 -- one of them found the pool full
-pub fills : (rules : Rules) (start : ℕ) (bytes : List ℕ) (place number : ℕ) (pool : Pooled) (full : Bool)
-    → HaveBeenKept rules start bytes place number pool full → ends_at place bytes ≡ true → full ≡ true
-    → FillsPool rules start bytes
-fills rules start bytes place number pool full have ended found = record {
+pub fills : (rules : Rules) (newest : Newest) (start : ℕ) (bytes : List ℕ) (place number : ℕ) (pool : Pooled)
+    (full : Bool) → HaveBeenKept rules newest start bytes place number pool full → ends_at place bytes ≡ true → full ≡ true
+    → FillsPool rules newest start bytes
+fills rules newest start bytes place number pool full have ended found = record {
   descriptors = have.descriptors;
   last = place;
   hold = have.hold;
@@ -84,10 +85,10 @@ fills rules start bytes place number pool full have ended found = record {
 }
 
 -- none did: this is the pool
-pub makes_pool : (rules : Rules) (start : ℕ) (bytes : List ℕ) (place number : ℕ) (pool : Pooled) (full : Bool)
-    → HaveBeenKept rules start bytes place number pool full → ends_at place bytes ≡ true → full ≡ false
-    → GivesPool rules start bytes (Ok pool)
-makes_pool rules start bytes place number pool full have ended found = record {
+pub makes_pool : (rules : Rules) (newest : Newest) (start : ℕ) (bytes : List ℕ) (place number : ℕ) (pool : Pooled)
+    (full : Bool) → HaveBeenKept rules newest start bytes place number pool full → ends_at place bytes ≡ true → full ≡ false
+    → GivesPool rules newest start bytes (Ok pool)
+makes_pool rules newest start bytes place number pool full have ended found = record {
   descriptors = have.descriptors;
   last = place;
   hold = have.hold;
@@ -134,7 +135,7 @@ module _ {N : Type 0} (rules : Rules) (gives : Relation) (steps : SignerSteps N)
   out_of_order (stop.Refused word) is = inl (word, refl, is)
 
   pub no_descriptors : (why : Stop PoolRefusal) → IsInOrder given (schedule_in given)
-      → GivesPool rules used bytes (Err why) → Answered Ends (Err (of_pool why))
+      → GivesPool rules given.newest used bytes (Err why) → Answered Ends (Err (of_pool why))
   no_descriptors stop.Memory order is = tt
   no_descriptors (stop.Refused why) order is = inr (inl (order, (why, refl, is)))
 

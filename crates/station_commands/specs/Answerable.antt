@@ -5,6 +5,7 @@ use Rattle.key_port.specs.Signing.{SignerSteps, signature_limit}
 use Rattle.authority_certs.specs.Checks.{IsCertified, certifies, crosscertifies}
 use Rattle.authority_certs.specs.declared.cert.Cert.{Cert}
 use Rattle.descriptor_doc.specs.Checks.{is_ed_refused, signs}
+use Rattle.descriptor_doc.specs.Families.{are_families_refused}
 use Rattle.descriptor_doc.specs.declared.descriptor.Descriptor.{Descriptor}
 use Rattle.count_terms.specs.declared.newest.Newest.{Newest}
 use Rattle.flag_rules.specs.Rules.{AreAllowed, list_allows}
@@ -22,10 +23,12 @@ use Rattle.station_commands.specs.FileTold.{by_vote}
 use Rattle.station_commands.specs.WithFile.{BeginsWithFile, FileVoteAnswers, station_behind}
 use Rattle.station_commands.specs.declared.file_refusal.FileVoteRefusal.{FileVoteRefusal}
 
--- No signature of the descriptor may be refused, and its Ed25519 certificate, if it has one, has not expired.
+-- No signature of the descriptor may be refused, and its Ed25519 certificate, if it has one, has not expired; nor may one of
+-- its families be refused.
 pub record IsNotRefused (rules : Rules) (d : Descriptor) : Type 0 where
   pub signed : signs rules.may_refuse d ≡ false
   pub ed_signed : is_ed_refused rules d.published d.identity_ed25519 d.router_sig_ed25519 ≡ false
+  pub families : are_families_refused rules d.published d.identity_ed25519 d.family_certs ≡ false
 
 -- The certificate holds at a moment, and neither of its signatures may be refused.
 pub record HoldsAt (rules : Rules) (at : ℕ) (cert : Cert) : Type 0 where

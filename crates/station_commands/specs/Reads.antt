@@ -1,5 +1,6 @@
 -- What the functions say that read and check one descriptor.
 use Rattle.std.specs.Prelude.{◌≡◌, ℕ, ◌≤◌, ◌<◌, List, length, Result, Ok, Err}
+use Rattle.count_terms.specs.declared.newest.Newest.{Newest}
 use Rattle.frame_terms.specs.Refusals.{Fails}
 use Rattle.frame_terms.specs.declared.fault.ReadRefusal.{ReadRefusal}
 use Rattle.frame_terms.specs.declared.fault.ReadRefusal.TheVariants as read
@@ -16,36 +17,36 @@ use Rattle.station_commands.specs.declared.refusal.PoolRefusal.TheVariants as re
 
 -- what reading from a place on answers: the descriptor that stands there, which ends behind the place and within the input; or
 -- the first fault, or want of memory
-abbrev pub ReadsAt : ℕ → List ℕ → Result (Descriptor × ℕ) ReadRefusal → Type 0
-ReadsAt place bytes (Ok (descriptor, next)) =
-    (descriptor_from place bytes ≡ Ok (descriptor, next)) × (place < next) × (next ≤ length bytes)
-ReadsAt place bytes (Err refusal) = Fails refusal (descriptor_from place bytes)
+abbrev pub ReadsAt : Newest → ℕ → List ℕ → Result (Descriptor × ℕ) ReadRefusal → Type 0
+ReadsAt newest place bytes (Ok (descriptor, next)) =
+    (descriptor_from newest place bytes ≡ Ok (descriptor, next)) × (place < next) × (next ≤ length bytes)
+ReadsAt newest place bytes (Err refusal) = Fails refusal (descriptor_from newest place bytes)
 
 -- A descriptor stands there that does not hold, by this clause; or, where the verifier failed, of which it was asked.
-pub record IsRefusedAt (rules : Rules) (place : ℕ) (bytes : List ℕ) (why : DescriptorRefusal) : Type 0 where
+pub record IsRefusedAt (rules : Rules) (newest : Newest) (place : ℕ) (bytes : List ℕ) (why : DescriptorRefusal) : Type 0 where
   pub descriptor : Descriptor
   pub next : ℕ
-  pub stands : descriptor_from place bytes ≡ Ok (descriptor, next)
+  pub stands : descriptor_from newest place bytes ≡ Ok (descriptor, next)
   pub fails : RefusedBy rules descriptor why
 
 -- A descriptor stands there that holds, and ends behind the place and within the input.
-pub record IsVerifiedAt (rules : Rules) (place : ℕ) (bytes : List ℕ) (descriptor : Descriptor) (next : ℕ) : Type 0 where
-  pub stands : descriptor_from place bytes ≡ Ok (descriptor, next)
+pub record IsVerifiedAt (rules : Rules) (newest : Newest) (place : ℕ) (bytes : List ℕ) (descriptor : Descriptor) (next : ℕ) : Type 0 where
+  pub stands : descriptor_from newest place bytes ≡ Ok (descriptor, next)
   pub verified : IsVerified rules descriptor
   pub further : place < next
   pub within : next ≤ length bytes
 
 -- why nothing is kept of what stands at a place: it is no descriptor, or one that does not hold
-abbrev pub StopsAt : Rules → ℕ → ℕ → List ℕ → Stop PoolRefusal → Type 0
-StopsAt rules place number bytes stop.Memory = Unit {0}
-StopsAt rules place number bytes (stop.Refused (refusal.Fault fault)) =
-    descriptor_from place bytes ≡ Err (read.Frame fault)
-StopsAt rules place number bytes (stop.Refused (refusal.Descriptor k why)) =
-    (k ≡ number) × IsRefusedAt rules place bytes (clause_of why)
-StopsAt rules place number bytes (stop.Refused refusal.Verifier) = IsRefusedAt rules place bytes descriptor.VerifierFault
-StopsAt rules place number bytes (stop.Refused refusal.Full) = ⊥
+abbrev pub StopsAt : Rules → Newest → ℕ → ℕ → List ℕ → Stop PoolRefusal → Type 0
+StopsAt rules newest place number bytes stop.Memory = Unit {0}
+StopsAt rules newest place number bytes (stop.Refused (refusal.Fault fault)) =
+    descriptor_from newest place bytes ≡ Err (read.Frame fault)
+StopsAt rules newest place number bytes (stop.Refused (refusal.Descriptor k why)) =
+    (k ≡ number) × IsRefusedAt rules newest place bytes (clause_of why)
+StopsAt rules newest place number bytes (stop.Refused refusal.Verifier) = IsRefusedAt rules newest place bytes descriptor.VerifierFault
+StopsAt rules newest place number bytes (stop.Refused refusal.Full) = ⊥
 
 -- what is kept of the descriptor that stands at a place and has this number, or why nothing is
-abbrev pub GivesEntry : Rules → ℕ → ℕ → List ℕ → Result (Descriptor × ℕ) (Stop PoolRefusal) → Type 0
-GivesEntry rules place number bytes (Ok (descriptor, next)) = IsVerifiedAt rules place bytes descriptor next
-GivesEntry rules place number bytes (Err why) = StopsAt rules place number bytes why
+abbrev pub GivesEntry : Rules → Newest → ℕ → ℕ → List ℕ → Result (Descriptor × ℕ) (Stop PoolRefusal) → Type 0
+GivesEntry rules newest place number bytes (Ok (descriptor, next)) = IsVerifiedAt rules newest place bytes descriptor next
+GivesEntry rules newest place number bytes (Err why) = StopsAt rules newest place number bytes why

@@ -34,7 +34,7 @@ use Rattle.station_commands.specs.declared.refusal.StationRefusal.TheVariants as
 -- and for which the pool has room, make this pool.
 pub record HasPool (rules : Rules) (given : StationFacts) (used : ℕ) (bytes : List ℕ) (pool : Pooled) : Type 0 where
   pub order : IsInOrder given (schedule_in given)
-  pub pool_of : IsPoolOf rules used bytes pool
+  pub pool_of : IsPoolOf rules given.newest used bytes pool
 
 -- At this moment a consensus can still be made, the next of the schedule; this is what its vote is made of.
 pub record IsBasisOf (rules : Rules) (now : ℕ) (given : StationFacts) (used : ℕ) (bytes : List ℕ) (its : Basis) : Type 0 where
@@ -81,7 +81,7 @@ abbrev pub RefusesVote : {N : Type 0} → Rules → Relation → SignerSteps N �
 RefusesVote rules gives steps now given used bytes why old new =
     ((word : OrderWord) × (why ≡ by_order word) × IsOutOfOrder given word)
     ⊎ (IsInOrder given (schedule_in given)
-    × ((pool : PoolRefusal) × (why ≡ by_pool pool) × RefusesDescriptors rules used bytes pool))
+    × ((pool : PoolRefusal) × (why ≡ by_pool pool) × RefusesDescriptors rules given.newest used bytes pool))
     ⊎ ((pool : Pooled) × HasPool rules given used bytes pool × (why ≡ by_end)
     × AnswersNext (schedule_in given) 0 now None)
     ⊎ ((its : Basis) × IsBasisOf rules now given used bytes its

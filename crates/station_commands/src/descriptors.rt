@@ -12,8 +12,9 @@ use crate::refusal::PoolRefusal;
 use crate::told::descriptor_refused;
 use blank_lines::{ends_at, refusal_behind};
 use bytes::Bytes;
+use count_terms::Newest;
 use daemon_words::Stop;
-use descriptor_doc::{Descriptor, check, read};
+use descriptor_doc::{Descriptor, check, read_under};
 use frame_terms::ReadRefusal;
 use key_port::Verifier;
 use std::alloc::Global;
@@ -27,18 +28,24 @@ pub fn from_place(place: usize, refusal: ReadRefusal) -> ReadRefusal
     refusal_behind(place as u64, refusal)
 }
 
-/// The descriptor that stands in the input from a place on, and the place behind it. It shares the input's bytes.
+/// The descriptor that stands in the input from a place on, as an authority reads it whose newest method is this, and the place
+/// behind it. It shares the input's bytes.
 ///
 /// # Errors
 /// `Frame` is the first fault of what stands there, with its place in the input. `Memory` is want of memory.
-fn read_at(alloc: Global, bytes: &Bytes, place: usize) -> Result<(Descriptor, usize), ReadRefusal>
+fn read_at(
+    alloc: Global,
+    newest: Newest,
+    bytes: &Bytes,
+    place: usize,
+) -> Result<(Descriptor, usize), ReadRefusal>
     requires within { place ≤ length bytes.now }
     requires short { length bytes.now < 2 ^ 61 }
-    ensures reads { reads.ReadsAt place bytes.now result }
+    ensures reads { reads.ReadsAt newest place bytes.now result }
     ensures read { IfOk result (λ found. IsRead found.0) }
 {
     let rest = bytes.slice(place..)?;
-    match read(alloc, &rest) {
+    match read_under(alloc, newest, &rest) {
         Ok((descriptor, used)) => Ok((descriptor, place + used)),
         Err(refusal) => Err(from_place(place, refusal)),
     }
@@ -47,6 +54,7 @@ fn read_at(alloc: Global, bytes: &Bytes, place: usize) -> Result<(Descriptor, us
 /// What is kept of the descriptor with this number, which stands in the input from a place on, and the place behind it.
 fn entry_at<V: Verifier>(
     alloc: Global,
+    newest: Newest,
     bytes: &Bytes,
     place: usize,
     number: u64,
@@ -54,12 +62,12 @@ fn entry_at<V: Verifier>(
 ) -> Result<(PoolEntry<V>, usize), Stop<PoolRefusal>>
     requires within { place ≤ length bytes.now }
     requires short { length bytes.now < 2 ^ 61 }
-    ensures gives { reads.GivesEntry (rules V.may_accept V.may_refuse) place number bytes.now result }
+    ensures gives { reads.GivesEntry (rules V.may_accept V.may_refuse) newest place number bytes.now result }
     ensures fault { result ≡ Err (Stop.Refused PoolRefusal.Verifier) → Rose (V.faults verifier.old) (V.faults verifier.new) }
     ensures faults { V.faults verifier.old ≤ V.faults verifier.new }
     ensures told { V.faults verifier.old < V.faults verifier.new → result ≡ Err (Stop.Refused PoolRefusal.Verifier) }
 {
-    let (descriptor, after) = match read_at(alloc, bytes, place) {
+    let (descriptor, after) = match read_at(alloc, newest, bytes, place) {
         Ok((descriptor, after)) => (descriptor, after),
         Err(ReadRefusal::Frame(fault)) => return Err(Stop::Refused(PoolRefusal::Fault(fault))),
         Err(ReadRefusal::Memory) => return Err(Stop::Memory),
@@ -70,7 +78,8 @@ fn entry_at<V: Verifier>(
     }
 }
 
-/// The pool of the descriptors that stand in the input from a place on: each is read, checked and kept in turn.
+/// The pool of the descriptors that stand in the input from a place on: each is read by an authority whose newest method is this,
+/// checked and kept in turn.
 ///
 /// # Errors
 /// `Refused` by the first that applies: the first fault of a descriptor, or the first that does not hold, with its number from
@@ -78,13 +87,14 @@ fn entry_at<V: Verifier>(
 /// full. `Memory` is want of memory.
 pub fn pool_of<V: Verifier>(
     alloc: Global,
+    newest: Newest,
     bytes: &Bytes,
     start: usize,
     verifier: &mut V,
 ) -> Result<Pool<V>, Stop<PoolRefusal>>
     requires within { start ≤ length bytes.now }
     requires short { length bytes.now < 2 ^ 61 }
-    ensures gives { descriptors.GivesPool (rules V.may_accept V.may_refuse) start bytes.now result }
+    ensures gives { descriptors.GivesPool (rules V.may_accept V.may_refuse) newest start bytes.now result }
     ensures fault { result ≡ Err (Stop.Refused PoolRefusal.Verifier) → Rose (V.faults verifier.old) (V.faults verifier.new) }
     ensures faults { V.faults verifier.old ≤ V.faults verifier.new }
     ensures told { V.faults verifier.old < V.faults verifier.new → result ≡ Err (Stop.Refused PoolRefusal.Verifier) }
@@ -95,7 +105,7 @@ pub fn pool_of<V: Verifier>(
     let mut full = false;
     'descriptors: while !ends_at(bytes, place) {
         number += 1;
-        let (entry, after) = entry_at(alloc, bytes, place, number, verifier)?;
+        let (entry, after) = entry_at(alloc, newest, bytes, place, number, verifier)?;
         let found_full = keep(&mut pool, entry);
         full = full || found_full;
         place = after;

@@ -82,7 +82,7 @@ pub fn vote_from<V: Verifier, N: Signer>(
         Ok(schedule) => schedule,
         Err(why) => return Err(of_order(why)),
     };
-    let pool = match pool_of(alloc, bytes, used, verifier) {
+    let pool = match pool_of(alloc, station.newest, bytes, used, verifier) {
         Ok(pool) => pool,
         Err(why) => return Err(of_pool(why)),
     };

@@ -13,7 +13,7 @@ descriptors-init g c =
     record {
       within = c.requires.within;
       count = search rules;
-      kept = none_kept checks c.args.start c.args.bytes.now c.in_ok-pool.pool c.in_ok-pool.ensures;
+      kept = none_kept checks c.args.newest c.args.start c.args.bytes.now c.in_ok-pool.pool c.in_ok-pool.ensures;
       faults = refl;
     }
 
@@ -23,7 +23,7 @@ returns-in_err-entry-clause-gives g c =
     let more : ends_at c.descriptors.place c.args.bytes.now ≡ false = search rules in
     let p = err_from_is_err_and c.from_residual-in_err-entry.result c.from_residual-in_err-entry.ensures.1 in
     rw (p.1, p.2)
-    (stops_there checks c.args.start c.args.bytes.now c.descriptors.place c.descriptors.number c.descriptors.pool
+    (stops_there checks c.args.newest c.args.start c.args.bytes.now c.descriptors.place c.descriptors.number c.descriptors.pool
     c.descriptors.full c.descriptors.invariant.kept more c.in_err-entry.field-0.0 c.in_err-entry.ensures.gives)
 
 pub descriptors-preserved-then-full : goal.descriptors-preserved-then-full
@@ -34,7 +34,7 @@ descriptors-preserved-then-full g c =
     record {
       within = there.within;
       count = omega (arith, there.further, c.descriptors.invariant.count);
-      kept = one_kept checks c.args.start c.args.bytes.now c.descriptors.place c.descriptors.number c.in_ok-entry.after
+      kept = one_kept checks c.args.newest c.args.start c.args.bytes.now c.descriptors.place c.descriptors.number c.in_ok-entry.after
           c.descriptors.pool c.keep-found_full.new.pool c.descriptors.full c.keep-found_full.result
           c.descriptors.full c.in_ok-entry.entry c.descriptors.invariant.kept more there.stands there.verified
           c.keep-found_full.ensures.pool c.keep-found_full.ensures.full (c.if-full.true ∙ or_is c.keep-found_full.result c.if-full.true);
@@ -49,7 +49,7 @@ descriptors-preserved g c =
     record {
       within = there.within;
       count = omega (arith, there.further, c.descriptors.invariant.count);
-      kept = one_kept checks c.args.start c.args.bytes.now c.descriptors.place c.descriptors.number c.in_ok-entry.after
+      kept = one_kept checks c.args.newest c.args.start c.args.bytes.now c.descriptors.place c.descriptors.number c.in_ok-entry.after
           c.descriptors.pool c.keep-found_full.new.pool c.descriptors.full c.keep-found_full.result
           c.keep-found_full.result c.in_ok-entry.entry c.descriptors.invariant.kept more there.stands there.verified
           c.keep-found_full.ensures.pool c.keep-found_full.ensures.full (or_is c.keep-found_full.result c.if-full.false);
@@ -60,12 +60,12 @@ pub returns-then-full-2-clause-gives : goal.returns-then-full-2-clause-gives
 returns-then-full-2-clause-gives g c =
     let checks = verifier_rules g.V.Verifier.may_accept g.V.Verifier.may_refuse in
     let ended : ends_at c.descriptors.place c.args.bytes.now ≡ true = search rules in
-    fills checks c.args.start c.args.bytes.now c.descriptors.place c.descriptors.number c.descriptors.pool
+    fills checks c.args.newest c.args.start c.args.bytes.now c.descriptors.place c.descriptors.number c.descriptors.pool
     c.descriptors.full c.descriptors.invariant.kept ended c.if-full-2.true
 
 pub returns-clause-gives : goal.returns-clause-gives
 returns-clause-gives g c =
     let checks = verifier_rules g.V.Verifier.may_accept g.V.Verifier.may_refuse in
     let ended : ends_at c.descriptors.place c.args.bytes.now ≡ true = search rules in
-    makes_pool checks c.args.start c.args.bytes.now c.descriptors.place c.descriptors.number c.descriptors.pool
+    makes_pool checks c.args.newest c.args.start c.args.bytes.now c.descriptors.place c.descriptors.number c.descriptors.pool
     c.descriptors.full c.descriptors.invariant.kept ended c.if-full-2.false

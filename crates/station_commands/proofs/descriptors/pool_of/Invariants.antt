@@ -7,7 +7,8 @@ abbrev pub invariant-descriptors : goal.invariant-descriptors
 invariant-descriptors g l = record {
   within : l.place ≤ length l.bytes;
   count : l.number ≤ l.place;
-  kept : HaveBeenKept (rules g.V.Verifier.may_accept g.V.Verifier.may_refuse) l.fn.start l.bytes l.place l.number l.pool l.full;
+  kept : HaveBeenKept (rules g.V.Verifier.may_accept g.V.Verifier.may_refuse) l.newest l.fn.start l.bytes l.place
+      l.number l.pool l.full;
   faults : g.V.Verifier.faults l.verifier ≡ g.V.Verifier.faults l.fn.verifier;
 }
 
