@@ -1,8 +1,8 @@
 -- Places in a pool, and what stands there.
 use Rattle.std.proofs.Common.{◌≡◌, ◌<◌, ◌≤◌, ◌+◌, ℕ, Bool, true, false, List, [], ◌∷◌, ◌++◌, length, take, drop}
-use Rattle.std.proofs.Common.{get_or, refl, sym, ap, ◌∙◌, ⊎_elim, append-nil}
+use Rattle.std.proofs.Common.{get_or, refl, sym, ap, ap₂, ◌∙◌, ⊎_elim, append-nil}
 use Rattle.std.proofs.lemmas.Bool.{cases_lt, true≢false}
-use Rattle.std.specs.Prelude.{Contains, filter, Result, Ok, Err, is_ok}
+use Rattle.std.specs.Prelude.{Contains, filter, ◌||◌, Result, Ok, Err, is_ok}
 use Rattle.std.specs.List.{find, list_any, slice_get}
 use Rattle.std.specs.List.Sorted.{IsSorted, IsPermutation, IsBinarySearchResult, IsSearchInRange}
 use Rattle.std.specs.Ordering.{nat_cmp, is_eq}
@@ -16,9 +16,9 @@ use Rattle.std.proofs.lemmas.List.Folds.{list_any_at, list_any_none}
 use Rattle.std.proofs.lemmas.List.Sorted.{list_any-IsPermutation, searchable_from_sorted}
 use Rattle.dir_values.proofs.Orders.{same_text}
 use Rattle.descriptor_doc.specs.declared.descriptor.Descriptor.{Descriptor}
-use Rattle.vote_pool.specs.Summaries.{micro_digest_of, micro_text_of}
-use Rattle.serve_answers.specs.Documents.{micro_if, micro_with, micros_with}
-use Rattle.serve_answers.specs.Places.{at_places, is_asked}
+use Rattle.vote_pool.specs.Summaries.{family_digest_of, micro_digest_of}
+use Rattle.serve_answers.specs.Documents.{has_digest, micro_if, micro_with, micros_with, text_with}
+use Rattle.serve_answers.specs.Places.{at_places, has_one, is_asked}
 
 -- what a search by halves says of texts that ascend
 module _ (sorted : List (List ℕ)) (text : List ℕ) (up : IsSorted (slice_cmp nat_cmp) sorted) where
@@ -52,24 +52,54 @@ module _ {X : Type 0} (p q : X → Bool) (only : (x : X) → p x ≡ true → q 
       by false true e f rest = rw (f, e) rest
       by false false e f rest = rw (f, e) rest
 
+-- a digest that is one of several is among them
+among : (digests : List (List ℕ)) (digest own : List ℕ) → Contains digests digest → bytes_eq own digest ≡ true
+    → list_any (λ d. bytes_eq d own) digests ≡ true
+among digests digest own one same =
+    list_any_at (λ d. bytes_eq d own) digests one.0 digest one.1
+    ((bytes_decides (get_or digests one.0 digest) own).1 (one.2 ∙ sym (same_text own digest same)))
+
+or_first : (a b : Bool) → a ≡ true → (a || b) ≡ true
+or_first a b is = ap (λ (t : Bool). t || b) is
+
+or_second : (a b : Bool) → b ≡ true → (a || b) ≡ true
+or_second true b is = refl
+or_second false b is = is
+
+-- a descriptor of which a microdescriptor has it is asked for
+asked_by : (digests : List (List ℕ)) (digest : List ℕ) (d : Descriptor) (t u : Bool) → Contains digests digest
+    → bytes_eq (micro_digest_of d).0 digest ≡ t → bytes_eq (family_digest_of d).0 digest ≡ u → (t || u) ≡ true
+    → is_asked digests d ≡ true
+asked_by digests digest d true u one e f is =
+    or_first (list_any (λ x. bytes_eq x (micro_digest_of d).0) digests)
+    (list_any (λ x. bytes_eq x (family_digest_of d).0) digests) (among digests digest (micro_digest_of d).0 one e)
+asked_by digests digest d false true one e f is =
+    or_second (list_any (λ x. bytes_eq x (micro_digest_of d).0) digests)
+    (list_any (λ x. bytes_eq x (family_digest_of d).0) digests) (among digests digest (family_digest_of d).0 one f)
+asked_by digests digest d false false one e f is = absurd (cc is)
+
 -- the microdescriptor with a digest is among those with one of several, where it is one of these
 pub micro_kept : (descriptors : List Descriptor) (digests : List (List ℕ)) (digest : List ℕ) → Contains digests digest
     → micro_with (filter (is_asked digests) descriptors) digest ≡ micro_with descriptors digest
 micro_kept descriptors digests digest one =
-    ap micro_if (find_kept (λ descriptor. bytes_eq (micro_digest_of descriptor).0 digest) (is_asked digests)
-    (λ descriptor same. list_any_at (λ d. bytes_eq d (micro_digest_of descriptor).0) digests one.0 digest one.1
-    ((bytes_decides (get_or digests one.0 digest) (micro_digest_of descriptor).0).1
-    (one.2 ∙ sym (same_text (micro_digest_of descriptor).0 digest same)))) descriptors)
+    ap (micro_if digest) (find_kept (has_digest digest) (is_asked digests)
+    (λ d has. asked_by digests digest d (bytes_eq (micro_digest_of d).0 digest)
+    (bytes_eq (family_digest_of d).0 digest) one refl refl has) descriptors)
 
 -- one place more, of a descriptor that is asked for by digests, in whatever order these stand
 module _ (sorted digests : List (List ℕ)) (same : IsPermutation digests sorted) (descriptors : List Descriptor) where
+  -- whether one of two digests is among them, in whatever order these stand
+  has_same : (first second : List ℕ) → has_one digests first second ≡ has_one sorted first second
+  has_same first second =
+      ap₂ (λ (a b : Bool). a || b) (list_any-IsPermutation (λ one. bytes_eq one first) digests sorted same)
+      (list_any-IsPermutation (λ one. bytes_eq one second) digests sorted same)
+
   pub place_more : (places : List ℕ) (i : ℕ) (x : Descriptor)
       → at_places descriptors places ≡ filter (is_asked digests) (take i descriptors) → i < length descriptors
-      → x ≡ get_or descriptors i x → list_any (λ one. bytes_eq one (micro_digest_of x).0) sorted ≡ true
+      → x ≡ get_or descriptors i x → has_one sorted (micro_digest_of x).0 (family_digest_of x).0 ≡ true
       → at_places descriptors (places ++ i ∷ []) ≡ filter (is_asked digests) (take (i + 1) descriptors)
   place_more places i x so within is passes =
-      let asked : is_asked digests x ≡ true =
-      list_any-IsPermutation (λ one. bytes_eq one (micro_digest_of x).0) digests sorted same ∙ passes in
+      let asked : is_asked digests x ≡ true = has_same (micro_digest_of x).0 (family_digest_of x).0 ∙ passes in
       filter_map-append (slice_get descriptors) places (i ∷ [])
       ∙ rw (
         slice_get_read descriptors (length descriptors) i x refl within is,
@@ -82,11 +112,10 @@ module _ (sorted digests : List (List ℕ)) (same : IsPermutation digests sorted
   -- and none of one that is not
   pub place_less : (places : List ℕ) (i : ℕ) (x : Descriptor)
       → at_places descriptors places ≡ filter (is_asked digests) (take i descriptors) → i < length descriptors
-      → x ≡ get_or descriptors i x → list_any (λ one. bytes_eq one (micro_digest_of x).0) sorted ≡ false
+      → x ≡ get_or descriptors i x → has_one sorted (micro_digest_of x).0 (family_digest_of x).0 ≡ false
       → at_places descriptors places ≡ filter (is_asked digests) (take (i + 1) descriptors)
   place_less places i x so within is fails =
-      let asked : is_asked digests x ≡ false =
-      list_any-IsPermutation (λ one. bytes_eq one (micro_digest_of x).0) digests sorted same ∙ fails in
+      let asked : is_asked digests x ≡ false = has_same (micro_digest_of x).0 (family_digest_of x).0 ∙ fails in
       so ∙ rw (
         filter_more (is_asked digests) descriptors i x within,
         sym is,
@@ -105,14 +134,14 @@ module _ (descriptors : List Descriptor) (places : List ℕ) (k : ℕ) (x : Desc
       ∙ ahead
 
   -- it stands there, and was appended
-  pub found_here : (out old new text : List ℕ) → bytes_eq (micro_digest_of x).0 digest ≡ true → out ≡ old
-      → text ≡ micro_text_of x → new ≡ out ++ text → new ≡ old ++ whole
+  pub found_here : (out old new text : List ℕ) → has_digest digest x ≡ true → out ≡ old
+      → text ≡ text_with digest x → new ≡ out ++ text → new ≡ old ++ whole
   found_here out old new text same out_is text_is appended =
-      let here : micro_text_of x ≡ whole = rw same at from_here in
+      let here : text_with digest x ≡ whole = rw same at from_here in
       appended ∙ ap (λ l. l ++ text) out_is ∙ ap (λ l. old ++ l) (text_is ∙ here)
 
   -- it does not
-  pub not_here : bytes_eq (micro_digest_of x).0 digest ≡ false
+  pub not_here : has_digest digest x ≡ false
       → micro_with (at_places descriptors (drop (k + 1) places)) digest ≡ whole
   not_here other = rw other at from_here
 

@@ -86,7 +86,7 @@ module _ (rules : Rules) (board : Locks) (before then : Parts) (faults faults_th
   pub record RefusesDescriptor (body : List ℕ) (answer : Reply) : Type 0 where
     pub descriptor : Descriptor
     pub refusal : DescriptorRefusal
-    pub is : IsDescriptor body descriptor
+    pub is : IsDescriptor board.station.start.newest body descriptor
     pub refused : descriptors.RefusedBy rules descriptor refusal
     pub still : Still answer (reply_to_descriptor refusal)
 
@@ -94,12 +94,12 @@ module _ (rules : Rules) (board : Locks) (before then : Parts) (faults faults_th
     -- An uploaded descriptor that holds, and what comes of it by the rules.
     pub record RulesDescriptor (body : List ℕ) (answer : Reply) : Type 0 where
       pub descriptor : Descriptor
-      pub is : IsDescriptor body descriptor
+      pub is : IsDescriptor board.station.start.newest body descriptor
       pub verified : descriptors.IsVerified rules descriptor
       pub ruled : TakesRuled rules board before then allows descriptor answer
 
     -- what comes of a descriptor that is uploaded
     abbrev pub TakesDescriptor : List ℕ → Reply → Type 0
     TakesDescriptor body answer =
-        (NoneIs (IsDescriptor body) × Still answer (reply.Refused word.Document))
+        (NoneIs (IsDescriptor board.station.start.newest body) × Still answer (reply.Refused word.Document))
         ⊎ (RefusesDescriptor body answer ⊎ RulesDescriptor body answer)

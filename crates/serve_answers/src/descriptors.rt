@@ -62,7 +62,7 @@ pub fn take_descriptor<R: Wait, W: Rules, F: Fn(RelayFacts) -> Ruling, V: Verifi
     ensures at { IsAt board.now pass.new }
     ensures faults { V.faults verifier.old ≤ V.faults verifier.new }
 {
-    let Some(descriptor) = descriptor_of(alloc, body)? else {
+    let Some(descriptor) = descriptor_of(alloc, board.newest(), body)? else {
         return Ok(Reply::Refused(Word::Document));
     };
     match check(descriptor, verifier) {

@@ -10,7 +10,25 @@ use http_words::unless_empty;
 use key_port::Verifier;
 use serve_board::Question;
 use std::alloc::Global;
-use vote_pool::Pool;
+use vote_pool::{Pool, PoolEntry};
+
+/// Whether a microdescriptor of an entry has a digest.
+fn has_digest<V: Verifier>(entry: &PoolEntry<V>, asked: &[u8; 32]) -> bool
+    ensures { result ≡ lists.has_digest asked.now entry.now }
+{
+    entry.micro_digest().0 == *asked || entry.family_digest().0 == *asked
+}
+
+/// The text of the first microdescriptor of an entry that has it.
+fn text_with<'a, V: Verifier>(entry: &'a PoolEntry<V>, asked: &[u8; 32]) -> &'a [u8]
+    ensures { result.now ≡ lists.text_with asked.now entry.now }
+{
+    if entry.micro_digest().0 == *asked {
+        entry.micro()
+    } else {
+        entry.family_micro()
+    }
+}
 
 /// Appends the first microdescriptor with a digest among those at places, if there is one.
 fn push_micro<V: Verifier>(
@@ -24,8 +42,8 @@ fn push_micro<V: Verifier>(
 {
     'micros: for place in places {
         let entry = pool.entry(*place);
-        if entry.micro_digest().0 == *asked {
-            out.extend_from_slice(entry.micro())?;
+        if has_digest(entry, asked) {
+            out.extend_from_slice(text_with(entry, asked))?;
             return Ok(());
         }
     }

@@ -30,7 +30,15 @@ fn is_among(sorted: &[[u8; 32]], digest: &[u8; 32]) -> bool
     sorted.binary_search(digest).is_ok()
 }
 
-/// The places in a pool of all microdescriptors that have one of these digests, in one pass.
+/// Whether one of two digests is among those that ascend.
+fn has_one(sorted: &[[u8; 32]], first: &[u8; 32], second: &[u8; 32]) -> bool
+    requires { IsSorted (slice_cmp nat_cmp) sorted.now }
+    ensures { result ≡ lending.has_one sorted.now first.now second.now }
+{
+    is_among(sorted, first) || is_among(sorted, second)
+}
+
+/// The places in a pool of all entries of which a microdescriptor has one of these digests, in one pass.
 pub(crate) fn places<V: Verifier>(
     alloc: Global,
     pool: &Pool<V>,
@@ -42,7 +50,8 @@ pub(crate) fn places<V: Verifier>(
     let sorted = ascending(alloc, digests)?;
     let mut places = Vec::new(alloc);
     'entries: for i in 0..pool.len() {
-        if is_among(&sorted, &pool.entry(i).micro_digest().0) {
+        let entry = pool.entry(i);
+        if has_one(&sorted, &entry.micro_digest().0, &entry.family_digest().0) {
             places.push(i)?;
         }
     }

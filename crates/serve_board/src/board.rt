@@ -15,6 +15,7 @@ use crate::question::{AskPool, AskStation, Question};
 use crate::reserve::{KeepEntry, Reserve};
 use crate::signing::OfferSignature;
 use crate::voting::OfferVote;
+use count_terms::Newest;
 use dir_bytes::Memory;
 use dir_values::{Fingerprint, Roster};
 use key_port::{Signer, Verifier};
@@ -27,14 +28,15 @@ use std::sync::Wait;
 use vote_doc::CheckedVote;
 use vote_pool::{Keep, Pool, PoolEntry};
 
-/// A station and a pool of descriptors, each under its own lock. Beside the locks stand the roster and the own identity, which no
-/// event changes.
+/// A station and a pool of descriptors, each under its own lock. Beside the locks stand the roster, the own identity and the
+/// newest consensus method that is known, which no event changes.
 #[derive(Drop)]
 pub struct Board<V: Verifier> {
     pub(crate) station: Shared<Period<V>>,
     pub(crate) pool: Shared<Reserve<V>>,
     pub(crate) roster: Roster,
     pub(crate) own: Fingerprint,
+    pub(crate) newest: Newest,
 }
 
 impl<V: Verifier> Model for Board<V> {
@@ -45,7 +47,8 @@ impl<V: Verifier> Model for Board<V> {
 
     ghost view = { λ b. record { station = b.station; pool = b.pool } };
 
-    ghost invariant = { λ b. (b.roster ≡ b.station.start.roster) × (b.own ≡ b.station.start.own) };
+    ghost invariant = { λ b. (b.roster ≡ b.station.start.roster) × (b.own ≡ b.station.start.own)
+        × (b.newest ≡ b.station.start.newest) };
 }
 
 impl<V: Verifier> Board<V> {
@@ -69,6 +72,7 @@ impl<V: Verifier> Board<V> {
     {
         let roster = station.roster().copy(alloc)?;
         let own = station.own();
+        let newest = station.newest();
         let room = Vec::with_capacity(alloc, passes as usize)?;
         let (station, stations) = Shared::new(alloc, Period { station }, passes)?;
         let (pool, pools) = Shared::new(alloc, Reserve { pool }, passes)?;
@@ -78,6 +82,7 @@ impl<V: Verifier> Board<V> {
             pool,
             roster,
             own,
+            newest,
         };
         Ok((board, paired))
     }
@@ -94,6 +99,13 @@ impl<V: Verifier> Board<V> {
         ensures { result ≡ self.now.station.start.own }
     {
         self.own
+    }
+
+    /// The newest consensus method that the authority knows.
+    pub fn newest(&self) -> Newest
+        ensures { result ≡ self.now.station.start.newest }
+    {
+        self.newest
     }
 
     /// Offers a vote that comes this way at a moment.

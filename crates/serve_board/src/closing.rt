@@ -70,6 +70,7 @@ impl<V: Verifier> Board<V> {
             pool,
             roster: _,
             own: _,
+            newest: _,
         } = self;
         let Ok(period) = station.close(stations) else {
             unreachable!()

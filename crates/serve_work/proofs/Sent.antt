@@ -69,7 +69,7 @@ entry_send V g =
     view_send _ _ _ _ _
     (recorded_send (Struct (shape (entry_inside.the_type V g))) _ _ (entry_inside.the_type V g).to_one
     (struct_send (shape (entry_inside.the_type V g)) (
-      search (kept_send, sendable, crosses) depth 20,
+      search (kept_send, sendable, crosses) depth 40,
       (search crosses, (search (sendable, crosses), tt)),
     )))
 
@@ -105,7 +105,7 @@ board_sync V g =
       search (lock_sync, station_send, sendable, crosses) depth 20,
       (
         search (lock_sync, pool_send, sendable, crosses) depth 20,
-        (search (sendable, crosses) depth 20, (search sendable, tt)),
+        (search (sendable, crosses) depth 20, (search sendable, (search (sendable, crosses), tt))),
       ),
     )))
 

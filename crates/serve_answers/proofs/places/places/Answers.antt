@@ -1,28 +1,28 @@
 use Rattle.std.proofs.Common.{◌<◌, length, rules, sym, ◌∙◌}
 use Rattle.std.proofs.lemmas.List.Elements.{All-push}
 use Rattle.serve_answers.proofs.Placing.{place_more, place_less}
-use Rattle.serve_answers.proofs.places.places.Goals.{then-is_among+in_ok-push, else-is_among}
+use Rattle.serve_answers.proofs.places.places.Goals.{then-has_one+in_ok-push, else-has_one}
 use Rattle.serve_answers.proofs.places.places.Goals as goal
 
 pub entries-preserved : goal.entries-preserved
 entries-preserved g c =
-    let told = rw (c.deref.ensures.value, c.micro_digest.ensures) at c.is_among.ensures in
+    let told = rw (c.deref.ensures.value, c.micro_digest.ensures, c.family_digest.ensures) at c.has_one.ensures in
     let inside : c.entries.i < length c.args.pool.now.descriptors = search rules in
-    elim c.if-is_among.branch [
-      | then-is_among+in_ok-push w ↦ rw (w.places-is, w.in_ok-push.ensures.items) (record {
+    elim c.if-has_one.branch [
+      | then-has_one+in_ok-push w ↦ rw (w.places-is, w.in_ok-push.ensures.items) (record {
         within =
             All-push (λ place. place < length c.args.pool.now.descriptors) c.entries.places.items c.entries.i
             c.entries.invariant.within inside;
         value =
             place_more c.in_ok-sorted.sorted.items c.args.digests.now c.in_ok-sorted.ensures.same
-            c.args.pool.now.descriptors c.entries.places.items c.entries.i c.entry.result.now
-            c.entries.invariant.value inside c.entry.ensures (sym told ∙ w.if-is_among.true);
+            c.args.pool.now.descriptors c.entries.places.items c.entries.i c.entry-entry.result.now
+            c.entries.invariant.value inside c.entry-entry.ensures (sym told ∙ w.if-has_one.true);
       })
-      | else-is_among w ↦ rw w.places-is (record {
+      | else-has_one w ↦ rw w.places-is (record {
         within = c.entries.invariant.within;
         value =
             place_less c.in_ok-sorted.sorted.items c.args.digests.now c.in_ok-sorted.ensures.same
-            c.args.pool.now.descriptors c.entries.places.items c.entries.i c.entry.result.now
-            c.entries.invariant.value inside c.entry.ensures (sym told ∙ w.if-is_among.false);
+            c.args.pool.now.descriptors c.entries.places.items c.entries.i c.entry-entry.result.now
+            c.entries.invariant.value inside c.entry-entry.ensures (sym told ∙ w.if-has_one.false);
       })
     ]
