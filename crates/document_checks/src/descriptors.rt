@@ -3,7 +3,8 @@ ghost use Rattle.std.specs.Prelude.{IfOk};
 ghost use Rattle.descriptor_doc.specs.Reading.{IsRead};
 
 use bytes::Bytes;
-use descriptor_doc::{Descriptor, read};
+use count_terms::Newest;
+use descriptor_doc::{Descriptor, read_under};
 use std::alloc::Global;
 use std::test::Fail;
 
@@ -14,7 +15,7 @@ pub(crate) fn descriptor_of(alloc: Global, text: &Bytes) -> Result<Descriptor, F
     if text.len() > 100_000 {
         return Err(Fail::new("a long text"));
     }
-    let (descriptor, _) = read(alloc, text)?;
+    let (descriptor, _) = read_under(alloc, Newest::Method35, text)?;
     Ok(descriptor)
 }
 
