@@ -68,5 +68,7 @@ ComputedTextsAreReadAgain =
     → AreVotesInRange votes → All IsSignatureInRange lines
     → AreWritable max_consensus 0 (consensus_items (signed_consensus flavour newest roster votes lines))
     → consensus_of (computed_text flavour newest roster votes lines)
-    ≡ Ok (as_read (signed_consensus flavour newest roster votes lines),
-    length (computed_text flavour newest roster votes lines))
+    ≡ Ok (
+      as_read (signed_consensus flavour newest roster votes lines),
+      length (computed_text flavour newest roster votes lines),
+    )

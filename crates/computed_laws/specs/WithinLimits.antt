@@ -56,8 +56,10 @@ ConsensusesWithinLimitsAreReadAgain = (flavour : Flavour) (newest : Newest) (ros
     → AreVotesInRange votes → AllFillLines votes → All IsSignature lines
     → AreWithinLimits max_consensus 0 (consensus_items (signed_consensus flavour newest roster votes lines))
     → consensus_of (computed_text flavour newest roster votes lines)
-    ≡ Ok (as_read (signed_consensus flavour newest roster votes lines),
-    length (computed_text flavour newest roster votes lines))
+    ≡ Ok (
+      as_read (signed_consensus flavour newest roster votes lines),
+      length (computed_text flavour newest roster votes lines),
+    )
 
 -- That is so of votes that can be written and read again.
 abbrev pub ConsensusesOfReadableVotesAreReadAgain : Type 0
@@ -66,5 +68,7 @@ ConsensusesOfReadableVotesAreReadAgain = (flavour : Flavour) (newest : Newest) (
     → All (λ (vote : ReadVote). vote_laws.IsInRange vote.says) votes → All IsSignature lines
     → AreWithinLimits max_consensus 0 (consensus_items (signed_consensus flavour newest roster votes lines))
     → consensus_of (computed_text flavour newest roster votes lines)
-    ≡ Ok (as_read (signed_consensus flavour newest roster votes lines),
-    length (computed_text flavour newest roster votes lines))
+    ≡ Ok (
+      as_read (signed_consensus flavour newest roster votes lines),
+      length (computed_text flavour newest roster votes lines),
+    )

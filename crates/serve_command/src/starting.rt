@@ -47,7 +47,14 @@ pub(crate) fn start<V: Verifier>(
     // Both tell what their types keep.
     let _ = roster.len();
     let _ = schedule.interval();
-    match Station::start(alloc, roster, station.identity, station.newest, schedule, now) {
+    match Station::start(
+        alloc,
+        roster,
+        station.identity,
+        station.newest,
+        schedule,
+        now,
+    ) {
         Ok(started) => Ok(started),
         Err(StartFault::Memory) => Err(Memory),
         Err(StartFault::OwnNotInRoster | StartFault::EndOfTime) => unreachable!(),
