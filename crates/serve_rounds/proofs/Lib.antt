@@ -1,3 +1,5 @@
 pub mod Lasting
 pub mod Adding
+pub mod AskedOfPlans
+pub mod RoundMarks
 pub mod Exchanges

@@ -8,8 +8,8 @@ use Rattle.serve_rounds.specs.Exchanges.{IsDue}
 use Rattle.serve_rounds.specs.Plans.{peers_among, votes_at}
 use Rattle.serve_rounds.specs.Spans.{Adds, Anywhere}
 use Rattle.serve_rounds.proofs.Adding.{adds_same}
-use Rattle.serve_rounds.proofs.Exchanges.{asks_there, asks_wider, due_later, due_same, due_there, peer_more}
-use Rattle.serve_rounds.proofs.Exchanges.{stranger_more, votes_by_peer}
+use Rattle.serve_rounds.proofs.AskedOfPlans.{asks_there, asks_wider, peer_more, stranger_more, votes_by_peer}
+use Rattle.serve_rounds.proofs.Exchanges.{due_later, due_same, due_there}
 use Rattle.serve_rounds.proofs.fetching.fetch_all.Goals as goal
 use Rattle.serve_rounds.proofs.fetching.fetch_all.Goals.{in-Some, in_default}
 

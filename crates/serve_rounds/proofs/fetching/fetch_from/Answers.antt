@@ -5,7 +5,8 @@ use Rattle.serve_rounds.specs.Exchanges.{IsDue}
 use Rattle.serve_rounds.specs.Plans.{GetVote, votes_at}
 use Rattle.serve_rounds.specs.Spans.{Anywhere}
 use Rattle.serve_rounds.proofs.Adding.{adds_same}
-use Rattle.serve_rounds.proofs.Exchanges.{asks_wider, due_earlier, due_later, votes_more}
+use Rattle.serve_rounds.proofs.AskedOfPlans.{asks_wider, votes_more}
+use Rattle.serve_rounds.proofs.Exchanges.{due_earlier, due_later}
 use Rattle.serve_rounds.proofs.fetching.fetch_from.Goals as goal
 
 pub votes-preserved : goal.votes-preserved

@@ -10,7 +10,8 @@ use Rattle.serve_rounds.proofs.Lasting.{anywhere_lasts}
 use Rattle.serve_board.proofs.Going.{goes_makes}
 use Rattle.serve_rounds.specs.Exchanges.{IsDue}
 use Rattle.serve_rounds.specs.Plans.{GetVote}
-use Rattle.serve_rounds.proofs.Exchanges.{asks_none, asks_one, lacks, stood_later}
+use Rattle.serve_rounds.proofs.AskedOfPlans.{asks_none, asks_one}
+use Rattle.serve_rounds.proofs.Exchanges.{lacks, stood_later}
 use Rattle.serve_rounds.proofs.fetching.fetch_vote.Goals as goal
 
 pub returns-then-is_held-clause-adds : goal.returns-then-is_held-clause-adds

@@ -5,7 +5,7 @@ use Rattle.serve_rounds.specs.Duties.{IsGathered}
 use Rattle.serve_rounds.specs.Exchanges.{Whatever}
 use Rattle.serve_rounds.specs.Plans.{GetSignatures}
 use Rattle.serve_rounds.specs.Spans.{Adds, Anywhere}
-use Rattle.serve_rounds.proofs.Exchanges.{asks_gather, each_by_peer, peer_more, stranger_more}
+use Rattle.serve_rounds.proofs.AskedOfPlans.{asks_gather, each_by_peer, peer_more, stranger_more}
 use Rattle.serve_rounds.proofs.gathering.gather_all.Goals as goal
 use Rattle.serve_rounds.proofs.gathering.gather_all.Goals.{in-Some, in_default}
 

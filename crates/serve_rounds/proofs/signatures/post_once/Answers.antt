@@ -5,7 +5,9 @@ use Rattle.dir_http.specs.Responses.{post_text}
 use Rattle.serve_rounds.specs.Exchanges.{AsksSome, IsDue}
 use Rattle.serve_rounds.specs.Plans.{Planned, PostSignatures, must_bring, peers_of, plan_of_signatures, to_each}
 use Rattle.serve_rounds.specs.Plans.{with_signatures}
-use Rattle.serve_rounds.proofs.Exchanges.{asks_none, brought_already, each_due, held_there, if_true}
+use Rattle.serve_rounds.proofs.AskedOfPlans.{asks_none, each_due}
+use Rattle.serve_rounds.proofs.RoundMarks.{brought_already, if_true}
+use Rattle.serve_rounds.proofs.Exchanges.{held_there}
 use Rattle.serve_rounds.proofs.signatures.post_once.Goals as goal
 
 pub returns-then-not-must_bring-clause-brings : goal.returns-then-not-must_bring-clause-brings

@@ -5,7 +5,8 @@ use Rattle.std.specs.Prelude.{codes}
 use Rattle.dir_http.specs.Responses.{post_text}
 use Rattle.serve_rounds.specs.Exchanges.{AsksSome, IsDue}
 use Rattle.serve_rounds.specs.Plans.{Planned, PostVote, peers_of, plan_of_phase, to_each, with_vote}
-use Rattle.serve_rounds.proofs.Exchanges.{asks_none, each_due, if_false, voted_already}
+use Rattle.serve_rounds.proofs.AskedOfPlans.{asks_none, each_due}
+use Rattle.serve_rounds.proofs.RoundMarks.{if_false, voted_already}
 use Rattle.serve_rounds.proofs.voting.vote_once.Goals as goal
 
 pub returns-then-round-clause-does : goal.returns-then-round-clause-does

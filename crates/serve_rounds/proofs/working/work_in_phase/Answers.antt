@@ -7,7 +7,7 @@ use Rattle.serve_rounds.specs.Plans.{peers_of}
 use Rattle.serve_rounds.specs.Spans.{Anywhere, Since}
 use Rattle.serve_rounds.proofs.Adding.{adds_part}
 use Rattle.serve_rounds.proofs.Lasting.{round_lasts, since_lasts}
-use Rattle.serve_rounds.proofs.Exchanges.{gathers_due}
+use Rattle.serve_rounds.proofs.AskedOfPlans.{gathers_due}
 use Rattle.serve_rounds.proofs.working.work_in_phase.Goals as goal
 
 pub returns-in-Voting-clause-adds : goal.returns-in-Voting-clause-adds
