@@ -8,7 +8,7 @@ use Rattle.dir_values.proofs.Orders.{below-trans, below_or_same, same_text}
 use Rattle.vote_terms.specs.declared.entry.EntryFacts.{EntryFacts}
 use Rattle.vote_terms.specs.Entries.{Ascending}
 use Rattle.relay_select.specs.Walks.{place_from}
-use Rattle.relay_select.proofs.Groups.{Below, Above, above_first, ascending_tail, apart, apart_back}
+use Rattle.relay_select.proofs.AscendingEntries.{Below, Above, above_first, ascending_tail, apart, apart_back}
 
 above_at : (b : List ℕ) (es : List EntryFacts) (k : ℕ) (d : EntryFacts) → Above b es → k < length es → Below b (get_or es k d).identity.0
 above_at b [] k d a lt = absurd (omega (arith, lt))

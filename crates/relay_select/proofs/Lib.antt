@@ -1,4 +1,6 @@
 pub mod Places
+pub mod AscendingEntries
+pub mod LeftBehind
 pub mod Groups
 pub mod Filters
 pub mod Halving
