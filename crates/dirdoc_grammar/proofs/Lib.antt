@@ -13,6 +13,7 @@ pub mod Giving
 pub mod BodyLines
 pub mod Places
 pub mod DecodedBytes
+pub mod Base64Encodings
 pub mod Base64Groups
 pub mod Symbols
 pub mod JoinedLines

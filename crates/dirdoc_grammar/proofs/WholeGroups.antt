@@ -5,7 +5,8 @@ use Rattle.std.proofs.lemmas.Bool.{and_parts, false≢true, ne_eqb}
 use Rattle.item_terms.specs.Base64Text.{joined}
 use Rattle.dirdoc_grammar.specs.declared.base64_text.Group.TheVariants.{Start}
 use Rattle.dirdoc_grammar.specs.Groups.{symbol, goes_on}
-use Rattle.dirdoc_grammar.proofs.Base64Groups.{IsSymbol, four_symbols}
+use Rattle.dirdoc_grammar.proofs.Base64Encodings.{IsSymbol}
+use Rattle.dirdoc_grammar.proofs.Base64Groups.{four_symbols}
 use Rattle.dirdoc_grammar.proofs.FirstLine.{whole_rest}
 
 -- a symbol is none of the other bytes
