@@ -13,7 +13,9 @@ pub mod WrittenBytes
 pub mod ObjectAgain
 pub mod ItemsAgain
 pub mod BlockLines
+pub mod OpenFronts
 pub mod BlockFronts
+pub mod LineReading
 pub mod BlockReading
 pub mod LineRests
 pub mod Calls
