@@ -2,6 +2,7 @@ pub mod Sound
 pub mod Phases
 pub mod RankOrder
 pub mod Answers
+pub mod OneMoreHeld
 pub mod HeldNewest
 pub mod Members
 pub mod ListedLaw

@@ -12,7 +12,7 @@ use Rattle.descriptor_doc.specs.Reading.{descriptor_under}
 use Rattle.descriptor_doc.specs.declared.descriptor.Descriptor.{Descriptor}
 use Rattle.vote_pool.specs.Pools.{DescriptorsAscend, Pooled, most_relays, pool_after}
 use Rattle.answer_laws.specs.Newest.{AscendAndFit, pool_of}
-use Rattle.answer_laws.proofs.HeldNewest.{pools_ascend}
+use Rattle.answer_laws.proofs.OneMoreHeld.{pools_ascend}
 use Rattle.answer_laws.proofs.Members.{all_held}
 use Rattle.dir_bytes.specs.Causes.{last_moment}
 use Rattle.vote_schedule.specs.Moments.{valid_until}

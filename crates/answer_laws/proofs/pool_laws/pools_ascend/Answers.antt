@@ -1,4 +1,4 @@
-use Rattle.answer_laws.proofs.HeldNewest.{pools_ascend}
+use Rattle.answer_laws.proofs.OneMoreHeld.{pools_ascend}
 use Rattle.answer_laws.proofs.pool_laws.pools_ascend.Goals as goal
 
 pub returns : goal.returns
