@@ -1,6 +1,7 @@
 pub mod StationReads
 pub mod StationStands
 pub mod StationKept
+pub mod SoundBack
 pub mod Backwards
 pub mod FrontCut
 pub mod SaidBack
@@ -13,6 +14,7 @@ pub mod GivenCert
 pub mod ItemLines
 pub mod StandingLines
 pub mod OwnLine
+pub mod GivenLists
 pub mod GivenLines
 pub mod Telling
 pub mod FileTelling
