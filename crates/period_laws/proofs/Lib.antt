@@ -6,6 +6,7 @@ pub mod Soundness
 pub mod StationSteps
 pub mod Claims
 pub mod Honest
+pub mod AcceptedSteps
 pub mod Accepted
 pub mod Leading
 pub mod Told
