@@ -1,6 +1,7 @@
 pub mod Sums
 pub mod Entries
 pub mod Views
+pub mod TurnWords
 pub mod Turning
 pub mod Turns
 pub mod Parting

@@ -17,7 +17,7 @@ use Rattle.period_lock.specs.Kept.{IsPartOf, Fits, Kept, fresh_part, fresh_parts
 use Rattle.period_lock.specs.Kept.{joined, without_first, first_of, parts_of, times}
 use Rattle.period_lock.proofs.Sums.{sum_set}
 use Rattle.period_lock.proofs.Entries.{one_if, one_if_same, one_if_apart, count_of, count_cons}
-use Rattle.period_lock.proofs.Turning.{some_is}
+use Rattle.period_lock.proofs.TurnWords.{some_is}
 use Rattle.period_lock.proofs.Views.{not_both, each_set, each_snoc, each_one, place_set, place_snoc}
 
 module _ (X : Type 0) where

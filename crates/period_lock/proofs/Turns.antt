@@ -9,7 +9,7 @@ use Rattle.period_lock.specs.declared.rule.Part.{Part}
 use Rattle.period_lock.specs.Turns.{entries, entries_by, entry_by}
 use Rattle.period_lock.specs.Kept.{IsFree, IsIdle, IsHolding, HasTaken, seated, grown}
 use Rattle.period_lock.proofs.Entries.{length-entry_by, entries-entry_by, own_after}
-use Rattle.period_lock.proofs.Turning.{some_is}
+use Rattle.period_lock.proofs.TurnWords.{some_is}
 
 module _ {T S X : Type 0} (stands : T → S → List X → Type 0) (start : S) (own : Part X) (e : Option X) (value : T)
     (taken counted given : Me (Option T) (View S X)) where
