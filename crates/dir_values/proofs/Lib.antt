@@ -10,6 +10,7 @@ pub mod SetTexts
 pub mod ArgumentWords
 pub mod ListedFlags
 pub mod NumberTexts
+pub mod PortParts
 pub mod PortTexts
 pub mod Apart
 pub mod RangeTexts

@@ -2,7 +2,8 @@ use Rattle.std.proofs.Common.{rules, ◌≡◌, ℕ, ◌+◌, ◌++◌, ◌∷�
 use Rattle.std.specs.List.{slice_split}
 use Rattle.dir_values.specs.declared.port_range.PortRange.{PortRange}
 use Rattle.dir_values.specs.Ports.{is_comma}
-use Rattle.dir_values.proofs.PortTexts.{ranges_after, list_after, one_more, last_one, no_more, spelled_apart}
+use Rattle.dir_values.proofs.PortParts.{ranges_after, one_more, last_one, no_more}
+use Rattle.dir_values.proofs.PortTexts.{list_after, spelled_apart}
 use Rattle.dir_values.proofs.port_list.range_list.Goals as goal
 
 pub parts-init : goal.parts-init
