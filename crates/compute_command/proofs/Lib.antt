@@ -14,5 +14,6 @@ pub mod Turning
 pub mod Stages
 pub mod Arrivals
 pub mod Sources
+pub mod VoteAsking
 pub mod Asking
 pub mod SourceAsking

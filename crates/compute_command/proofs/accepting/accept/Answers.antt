@@ -6,7 +6,7 @@ use Rattle.vote_terms.specs.Acceptable.{IsAcceptable}
 use Rattle.vote_doc.specs.Holdings.{Holding}
 use Rattle.vote_doc.proofs.Placing as placing
 use Rattle.compute_command.proofs.Queues.{within, first, others, one_more, one_more_held}
-use Rattle.compute_command.proofs.Asking.{accepted_more, refused_at}
+use Rattle.compute_command.proofs.VoteAsking.{accepted_more, refused_at}
 use Rattle.compute_command.proofs.Faults.{no_fault}
 use Rattle.compute_command.proofs.Refusing.{stops_at}
 use Rattle.compute_command.specs.Accepting.{StopsAt}

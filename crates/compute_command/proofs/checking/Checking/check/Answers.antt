@@ -5,7 +5,7 @@ use Rattle.vote_terms.specs.Held.{placed}
 use Rattle.vote_doc.specs.Holdings.{Holding}
 use Rattle.compute_command.specs.declared.refusal.AcceptRefusal.{AcceptRefusal}
 use Rattle.compute_command.proofs.Checks.{first_refused, held_too, none_if, still_refused, tells_on, tells_refused}
-use Rattle.compute_command.proofs.Asking.{accepted_too, not_asked, refused_now}
+use Rattle.compute_command.proofs.VoteAsking.{accepted_too, not_asked, refused_now}
 use Rattle.compute_command.proofs.Faults.{no_fault}
 use Rattle.compute_command.proofs.checking.Checking.check.Goals as goal
 
