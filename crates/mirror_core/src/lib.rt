@@ -6,6 +6,7 @@
 #![tactic(auto)]
 
 mod cert;
+mod cert_copies;
 mod certs;
 mod consensus;
 mod held;

@@ -10,7 +10,8 @@ ghost use Rattle.mirror_core.specs.Rows.{rows_of};
 ghost use Rattle.mirror_core.specs.Lending.{IsMajority, IsMinority, IsUnsigned};
 
 use crate::cert::HeldCert;
-use crate::certs::{self, copies};
+use crate::cert_copies::copies;
+use crate::certs;
 use crate::consensus::{check_newer, digests_of, named, over, read_microdesc};
 use crate::held::Held;
 use crate::inputs::read_all;
