@@ -3,9 +3,7 @@ ghost use Rattle.std.specs.Prelude.{◌≡◌, ◌≤◌, ◌<◌, ◌^◌, leng
 ghost use Rattle.blank_lines.specs.Ends as ends;
 
 use dirdoc_grammar::Items;
-
-/// More bytes than an input has.
-const NO_LIMIT: u64 = 2_305_843_009_213_693_952;
+use item_terms::NO_LIMIT;
 
 /// Whether only blank lines follow a place, none of which is too long for a line.
 pub fn ends_at(bytes: &[u8], place: usize) -> bool

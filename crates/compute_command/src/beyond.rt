@@ -6,10 +6,11 @@ ghost use Rattle.blank_lines.specs.Behind.{fault_behind};
 ghost use Rattle.compute_command.specs.Beyonds.{EndsBeyond, HasTooMany};
 ghost use Rattle.compute_command.specs.Furthers.{IsFurther};
 
-use crate::most_votes::{NO_LIMIT, item_too_many};
+use crate::most_votes::item_too_many;
 use dir_bytes::Memory;
 use dirdoc_grammar::{Cursor, Take};
 use frame_terms::{FrameFault, FrameReason};
+use item_terms::NO_LIMIT;
 use std::alloc::Global;
 use std::marker::Model;
 

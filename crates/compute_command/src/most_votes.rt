@@ -11,9 +11,6 @@ use vote_doc::VoteFrame;
 /// How many votes an input may have.
 pub(crate) const MOST_VOTES: usize = 64;
 
-/// More bytes than an input has.
-pub(crate) const NO_LIMIT: u64 = 2_305_843_009_213_693_952;
-
 /// Why the first item of a vote too many is refused: it begins no vote, or there are too many.
 pub(crate) fn item_too_many(item: &Item<'_>) -> FrameFault
     ensures { result ≡ votes.item_too_many (seen item.now) }

@@ -4,5 +4,7 @@
 #![tactic(auto)]
 
 mod fault;
+mod limits;
 
 pub use fault::{DocFault, DocReason};
+pub use limits::NO_LIMIT;

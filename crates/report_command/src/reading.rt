@@ -14,14 +14,12 @@ use daemon_words::Stop;
 use dirdoc_grammar::{Item, Items};
 use frame_reader::first_fault;
 use frame_terms::{FrameFault, FrameReason, Limit, ReadRefusal};
+use item_terms::NO_LIMIT;
 use std::alloc::Global;
 use vote_doc::{Vote, VoteFrame, read};
 
 /// How many votes an input may have.
 const MOST_VOTES: usize = 64;
-
-/// More bytes than an input has.
-const NO_LIMIT: u64 = 2_305_843_009_213_693_952;
 
 /// What comes next in an input.
 pub(crate) enum Ahead {

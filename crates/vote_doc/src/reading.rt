@@ -14,9 +14,7 @@ use frame_terms::ReadRefusal;
 use std::alloc::Global;
 use vote_entries::most_entries;
 use vote_frame::VoteFrame;
-
-/// How many bytes a vote may have.
-const MAX_VOTE: u64 = 16_777_216;
+use vote_terms::MAX_VOTE;
 
 /// The vote that these bytes are, of which this was kept: where a reader kept it of them, the vote that it read. The vote
 /// has the bytes, which are not read again.

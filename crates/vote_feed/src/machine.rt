@@ -12,7 +12,7 @@ use vote_doc::{Kept, nothing_kept};
 use vote_frame::VoteFrame;
 
 /// How many bytes a vote may have.
-pub(crate) const MAX_VOTE: usize = 16_777_216;
+pub(crate) const MAX_VOTE: usize = vote_terms::MAX_VOTE as usize;
 
 /// How far a vote is read.
 #[derive(Drop)]

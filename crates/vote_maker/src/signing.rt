@@ -14,9 +14,7 @@ use key_port::{KeyKind, SignAnswer, Signer};
 use sha1::Sha1;
 use sha2::Digest;
 use std::alloc::Global;
-
-/// How many bytes a vote may have.
-const MAX_VOTE: u64 = 16_777_216;
+use vote_terms::MAX_VOTE;
 
 /// Appends what follows the text that is signed: who signed, as the certificate says, and the signature. The
 /// algorithm is not named.

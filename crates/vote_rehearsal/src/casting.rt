@@ -18,7 +18,7 @@ use std::alloc::Global;
 use vote_doc::{Accepted, HeldVote, Vote, check_vote, read};
 
 /// How many bytes a vote may have.
-const MAX_VOTE: usize = 16_777_216;
+const MAX_VOTE: usize = vote_terms::MAX_VOTE as usize;
 
 /// The vote that a text is, if it is no longer than a vote may be, and is read as one.
 ///

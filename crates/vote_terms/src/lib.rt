@@ -4,6 +4,7 @@
 mod entry;
 mod facts;
 mod laws;
+mod limits;
 mod lists;
 mod rank;
 mod word;
@@ -13,6 +14,7 @@ pub use facts::{SignatureFacts, VoteFacts};
 pub use laws::{
     held_agree, held_ascend, held_is_held, ranks_agree, verified_votes_are_not_refused,
 };
+pub use limits::MAX_VOTE;
 pub use lists::VoteLists;
 pub use rank::Rank;
 pub use word::VoteWord;
