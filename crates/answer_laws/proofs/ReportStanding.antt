@@ -1,9 +1,8 @@
 -- The votes of an input of `report` that are read from a place on are those that stand there before the line.
 use Rattle.std.proofs.Common.{◌≡◌, ◌∙◌, ℕ, zero, suc, ◌≤◌, List, [], ◌∷◌, length, Option, Some, None, Result, Ok, Err}
 use Rattle.std.proofs.Common.{refl, sym, ap, arith}
-use Rattle.item_terms.specs.Items.{Item, items_from}
+use Rattle.item_terms.specs.Items.{Item, items_from, no_limit}
 use Rattle.item_terms.specs.declared.fault.DocFault.{DocFault}
-use Rattle.blank_lines.specs.Ends.{no_limit}
 use Rattle.frame_terms.specs.declared.fault.FrameFault.{FrameFault}
 use Rattle.frame_terms.specs.declared.fault.ReadRefusal.{ReadRefusal}
 use Rattle.frame_terms.specs.declared.fault.ReadRefusal.TheVariants as read

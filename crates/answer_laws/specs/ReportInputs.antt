@@ -1,7 +1,6 @@
 -- The votes that an input of `report` begins with, and where its consensus begins, as a relation.
 use Rattle.std.specs.Prelude.{◌≡◌, ◌↔◌, ℕ, ◌+◌, ◌≤◌, List, [], ◌∷◌, length, Some, None, Ok}
-use Rattle.item_terms.specs.Items.{Item, items_from}
-use Rattle.blank_lines.specs.Ends.{no_limit}
+use Rattle.item_terms.specs.Items.{Item, items_from, no_limit}
 use Rattle.vote_terms.specs.Votes.{ReadVote}
 use Rattle.vote_doc.specs.Reading.{vote_from}
 use Rattle.report_command.specs.Inputs.{line_place, line_size, most_votes, votes_of}

@@ -1,11 +1,7 @@
 -- Where an input ends: only blank lines follow, none of which is too long for a line.
 use Rattle.std.specs.Prelude.{ℕ, Bool, true, false, List, [], Option, None}
-use Rattle.item_terms.specs.Items.{Item, items_from}
+use Rattle.item_terms.specs.Items.{Item, items_from, no_limit}
 use Rattle.item_terms.specs.declared.fault.DocFault.{DocFault}
-
--- more bytes than an input has
-abbrev pub no_limit : ℕ
-no_limit = 2305843009213693952
 
 -- whether there is nothing
 abbrev pub is_nothing : List Item → Option DocFault → Bool

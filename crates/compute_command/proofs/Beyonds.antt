@@ -5,7 +5,7 @@ use Rattle.std.proofs.Common.{◌<◌, ◌≤◌, ◌^◌, append-nil, length-ap
 use Rattle.std.specs.Option.{option_map}
 use Rattle.std.specs.Prelude.{IfSome, unwrap_or}
 use Rattle.item_terms.specs.Items as model
-use Rattle.item_terms.specs.Items.{Contents, contents, nothing}
+use Rattle.item_terms.specs.Items.{Contents, contents, no_limit, nothing}
 use Rattle.item_terms.specs.declared.fault.DocFault.{DocFault}
 use Rattle.item_feeder.proofs.FaultPlaces.{fault_within}
 use Rattle.dirdoc_grammar.specs.declared.cursor.Cursor.{Cursor}
@@ -27,7 +27,7 @@ use Rattle.blank_lines.specs.Behind.{fault_behind}
 use Rattle.vote_frame.specs.Tables.{vote_tables}
 use Rattle.compute_command.specs.Beyonds.{EndsBeyond, HasTooMany, ReadsFront, fault_of}
 use Rattle.compute_command.specs.Furthers.{IsFurther}
-use Rattle.compute_command.specs.Votes.{by_first, item_too_many, no_limit, one_more_of}
+use Rattle.compute_command.specs.Votes.{by_first, item_too_many, one_more_of}
 
 -- why there is one more, by what the bytes hold
 abbrev by_contents : Contents → Option ReadRefusal

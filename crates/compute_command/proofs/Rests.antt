@@ -2,7 +2,7 @@
 use Rattle.std.proofs.Common.{◌≡◌, ◌∙◌, ℕ, zero, suc, ◌+◌, ◌<◌, ◌^◌, List, ◌++◌, length}
 use Rattle.std.proofs.Common.{Option, Some, None, Ok, Err, refl, ap, subst, arith}
 use Rattle.std.proofs.Common.{append_assoc}
-use Rattle.item_terms.specs.Items.{items_from}
+use Rattle.item_terms.specs.Items.{items_from, no_limit}
 use Rattle.frame_terms.specs.declared.fault.FrameFault.{FrameFault}
 use Rattle.frame_terms.specs.declared.fault.ReadRefusal.{ReadRefusal}
 use Rattle.frame_terms.specs.declared.fault.ReadRefusal.TheVariants.{Frame}
@@ -14,7 +14,7 @@ use Rattle.vote_feed.proofs.BlankVotes.{blank_are_none}
 use Rattle.vote_feed.proofs.EndedVotes.{open_are_none}
 use Rattle.compute_command.specs.Beyonds.{HasTooMany}
 use Rattle.compute_command.specs.Rests.{EndsVote, HasFault, HasNoVote, Read, next_by, next_of, vote_if}
-use Rattle.compute_command.specs.Votes.{no_limit, one_more_of}
+use Rattle.compute_command.specs.Votes.{one_more_of}
 use Rattle.compute_command.proofs.TailEnds.{none_by, no_fault_by}
 
 -- where there may be one more, what stands there is a vote or its refusal

@@ -5,7 +5,7 @@ use Rattle.std.specs.Prelude.{◌==◌, ◌&&◌, nat_le, nat_lt, not, if◌then
 use Rattle.std.specs.List.{list_all, prefix_len}
 use Rattle.std.proofs.lemmas.Bool.{and_parts, le-leb, le-ltb, leb-true, ne_eqb}
 use Rattle.item_terms.specs.Faults.{at, max_line, nul_fault, or_else, too_long, unterminated}
-use Rattle.item_terms.specs.Items.{Contents, Item, items_from}
+use Rattle.item_terms.specs.Items.{Contents, Item, items_from, no_limit}
 use Rattle.item_terms.specs.Lines.{Line, lines, size}
 use Rattle.item_terms.specs.Words.{is_blank, is_blank_line, nul_in}
 use Rattle.item_terms.specs.declared.fault.DocFault.{DocFault}
@@ -17,7 +17,7 @@ use Rattle.grammar_laws.specs.Moved.{sizes}
 use Rattle.grammar_laws.proofs.LinesTogether.{sizes_all}
 use Rattle.frame_terms.specs.declared.fault.ReadRefusal.{ReadRefusal}
 use Rattle.compute_command.specs.Tails.{is_end, tail_of}
-use Rattle.compute_command.specs.Votes.{by_first, no_limit, one_more_of}
+use Rattle.compute_command.specs.Votes.{by_first, one_more_of}
 use Rattle.compute_command.proofs.TailLines.{all_blank, blank_line, tail_says}
 
 -- ---- a line

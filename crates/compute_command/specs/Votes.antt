@@ -1,7 +1,7 @@
 -- The votes that an input is: one after the other, with nothing but blank lines before, between and after them.
 use Rattle.std.specs.Prelude.{ℕ, zero, suc, List, [], ◌∷◌, ◌++◌, drop, Option, Some, None, Result, Ok, Err, unwrap_or}
 use Rattle.std.specs.Option.{option_map}
-use Rattle.item_terms.specs.Items.{Item, items_of}
+use Rattle.item_terms.specs.Items.{Item, items_of, no_limit}
 use Rattle.item_terms.specs.declared.fault.DocFault.{DocFault}
 use Rattle.frame_terms.specs.declared.fault.FrameFault.{FrameFault}
 use Rattle.frame_terms.specs.declared.fault.FrameReason.TheVariants.{TooMany}
@@ -14,10 +14,6 @@ use Rattle.vote_terms.specs.Votes.{ReadVote}
 use Rattle.blank_lines.specs.Behind.{refusal_behind}
 use Rattle.vote_doc.specs.Reading.{vote_from}
 use Rattle.vote_frame.specs.Tables.{vote_tables}
-
--- more bytes than an input has
-abbrev pub no_limit : ℕ
-no_limit = 2305843009213693952
 
 -- ---- whether there is one more
 

@@ -50,3 +50,7 @@ items_from start limit bytes = contents (start + limit) start nothing (drop star
 -- the items of a document of at most so many bytes, up to its first fault, and that fault
 abbrev pub items_of : ℕ → List ℕ → Contents
 items_of limit bytes = items_from 0 limit bytes
+
+-- more bytes than an input has
+abbrev pub no_limit : ℕ
+no_limit = 2305843009213693952

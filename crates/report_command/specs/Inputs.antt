@@ -2,12 +2,12 @@
 use Rattle.std.specs.Prelude.{ℕ, ◌+◌, zero, suc, Bool, ◌&&◌, List, [], ◌∷◌, ◌++◌, length, drop, take}
 use Rattle.std.specs.Prelude.{slice_range, Option, Some, None, Result, Ok, Err, codes, option_and_then, unwrap_or, if◌then◌else◌}
 use Rattle.std.specs.Str.{bytes_eq}
-use Rattle.item_terms.specs.Items.{Item, items_from}
+use Rattle.item_terms.specs.Items.{Item, items_from, no_limit}
 use Rattle.item_terms.specs.Lines.{Line}
 use Rattle.item_terms.specs.declared.fault.DocFault.{DocFault}
 use Rattle.dirdoc_grammar.specs.Reading.{first_line}
 use Rattle.blank_lines.specs.Blanks.{after_blanks}
-use Rattle.blank_lines.specs.Ends.{ends_at, no_limit}
+use Rattle.blank_lines.specs.Ends.{ends_at}
 use Rattle.frame_terms.specs.declared.fault.FrameFault.{FrameFault}
 use Rattle.frame_terms.specs.declared.fault.FrameReason.TheVariants.{Doc, TooMany}
 use Rattle.frame_terms.specs.declared.fault.ReadRefusal.{ReadRefusal}
