@@ -2,27 +2,10 @@
 ghost use Rattle.std.specs.Prelude.{◌≡◌, []};
 ghost use Rattle.vote_maker.specs.Relays as relay_terms;
 
-use descriptor_doc::BandwidthLine;
-use dir_values::PortSummary;
 use flag_rules::{Measured, RelayFacts};
 use key_port::Verifier;
+use vote_maker::{accepts_web, kilobytes_of};
 use vote_pool::PoolEntry;
-
-/// What a relay says that it carries, in kilobytes a second: the smaller of its average and of what it was seen to
-/// carry, and no more than a vote can tell.
-fn kilobytes_of(line: &BandwidthLine) -> u32
-    ensures { result ≡ relay_terms.kilobytes_of line.now }
-{
-    let kilobytes = line.average.min(line.observed) / 1000;
-    kilobytes.min(u32::MAX as u64) as u32
-}
-
-/// Whether ports are accepted that the web uses: 80 and 443.
-fn accepts_web(summary: &PortSummary) -> bool
-    ensures { result ≡ relay_terms.accepts_web summary.now }
-{
-    summary.accepts(80) && summary.accepts(443)
-}
 
 /// What is known of a relay of which nothing was measured.
 pub(crate) fn known_of<V: Verifier>(entry: &PoolEntry<V>) -> RelayFacts

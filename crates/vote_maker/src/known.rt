@@ -13,7 +13,7 @@ use vote_pool::{Pool, PoolEntry};
 
 /// What a relay says that it carries, in kilobytes a second: the smaller of its average and of what it was seen to
 /// carry, and no more than a vote can tell.
-fn kilobytes_of(line: &BandwidthLine) -> u32
+pub fn kilobytes_of(line: &BandwidthLine) -> u32
     ensures { result ≡ relay_terms.kilobytes_of line.now }
 {
     let kilobytes = line.average.min(line.observed) / 1000;
@@ -21,7 +21,7 @@ fn kilobytes_of(line: &BandwidthLine) -> u32
 }
 
 /// Whether ports are accepted that the web uses: 80 and 443.
-fn accepts_web(summary: &PortSummary) -> bool
+pub fn accepts_web(summary: &PortSummary) -> bool
     ensures { result ≡ relay_terms.accepts_web summary.now }
 {
     summary.accepts(80) && summary.accepts(443)

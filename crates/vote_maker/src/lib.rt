@@ -13,5 +13,6 @@ mod refusal;
 mod signing;
 mod version;
 
+pub use known::{accepts_web, kilobytes_of};
 pub use making::make;
 pub use refusal::MakeRefusal;
