@@ -23,7 +23,6 @@ use Rattle.compute_command.specs.declared.arriving.Arriving.{Arriving}
 use Rattle.compute_command.specs.declared.checking.Checking.{Checking}
 use Rattle.compute_command.specs.declared.rest.Turn.{Turn}
 use Rattle.compute_command.specs.declared.rest.Turn.TheVariants as turn
-use Rattle.compute_command.specs.Accepting.{StopsAt}
 use Rattle.compute_command.specs.Arriving.{BeginsBehind, EndsSo, HasArrived, IsArriving, TurnsTo, WithMore}
 use Rattle.compute_command.specs.Checked.{CheckedSo, HasRoom, IsChecked, OneMoreChecked, end_by}
 use Rattle.compute_command.specs.Rests.{AnswersEnd, HasRest, IsRest, Takes, Turns, room_behind}

@@ -1,6 +1,6 @@
 -- What the verifier is asked of the bytes of an input, by the votes that end in them.
 use Rattle.std.proofs.Common.{◌≡◌, ◌∙◌, ℕ, ◌+◌, ◌<◌, ◌^◌, List, [], ◌∷◌, ◌++◌, length, take, Option, Some, None}
-use Rattle.std.proofs.Common.{Result, Ok, Err, refl, sym, ap, subst, arith, length-append, append_assoc, append-nil}
+use Rattle.std.proofs.Common.{Ok, Err, refl, sym, ap, subst, arith, length-append, append_assoc, append-nil}
 use Rattle.std.specs.Prelude.{◌==◌, true}
 use Rattle.std.proofs.lemmas.Bool.{eqb-true}
 use Rattle.frame_terms.specs.declared.fault.FrameFault.{FrameFault}

@@ -4,7 +4,6 @@ use Rattle.std.specs.Global.{Vec}
 use Rattle.std.specs.Io.KnownBytes.{Consumes}
 use Rattle.dir_bytes.proofs.Appending.{consumes_more}
 use Rattle.key_port.specs.Answers.{Rules, Steps}
-use Rattle.vote_doc.specs.Holdings.{Holding}
 use Rattle.daemon_words.specs.declared.command.Compute.{Compute}
 use Rattle.consensus_calc.specs.declared.record.CalcFault.{CalcFault}
 use Rattle.consensus_calc.specs.declared.record.CalcFault.TheVariants as calc
@@ -15,7 +14,6 @@ use Rattle.compute_command.specs.declared.refusal.AcceptRefusal.TheVariants as a
 use Rattle.compute_command.specs.declared.refusal.EndRefusal.{EndRefusal}
 use Rattle.compute_command.specs.declared.refusal.EndRefusal.TheVariants as end
 use Rattle.compute_command.specs.declared.arriving.Arriving.{Arriving}
-use Rattle.compute_command.specs.declared.halt.Halt.{Halt}
 use Rattle.compute_command.specs.declared.halt.Halt.TheVariants as halt
 use Rattle.compute_command.specs.Arriving.{TellsEnd}
 use Rattle.compute_command.specs.Asked.{AsksFrom, AsksOfBytes, AsksReading}

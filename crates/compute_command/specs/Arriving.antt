@@ -14,7 +14,6 @@ use Rattle.daemon_words.specs.declared.command.Compute.{Compute}
 use Rattle.daemon_words.specs.declared.stop.Stop.{Stop}
 use Rattle.daemon_words.specs.declared.stop.Stop.TheVariants as stop
 use Rattle.compute_command.specs.declared.refusal.AcceptRefusal.{AcceptRefusal}
-use Rattle.compute_command.specs.declared.refusal.ComputeRefusal.{ComputeRefusal}
 use Rattle.compute_command.specs.declared.refusal.ComputeRefusal.TheVariants as refusal
 use Rattle.compute_command.specs.declared.refusal.EndRefusal.{EndRefusal}
 use Rattle.compute_command.specs.declared.refusal.EndRefusal.TheVariants as end

@@ -1,6 +1,6 @@
 -- What a descriptor says (dir-spec, "Server descriptor format").
-use Rattle.std.specs.Prelude.{ℕ, ◌+◌, ◌==◌, Bool, List, [], ◌++◌, length, take, map, slice_range, codes}
-use Rattle.std.specs.Prelude.{Option, Some, None, option_and_then}
+use Rattle.std.specs.Prelude.{ℕ, ◌+◌, ◌==◌, Bool, List, [], ◌++◌, take, map, slice_range, codes}
+use Rattle.std.specs.Prelude.{Option, Some, option_and_then}
 use Rattle.std.specs.List.{position_or_len}
 use Rattle.std.specs.Option.{option_map}
 use Rattle.std.specs.Result.{result_ok}

@@ -1,6 +1,6 @@
 -- What is kept of a descriptor's items. The table sees to it that each item is there which has to stand; where one is not,
 -- its value is nothing.
-use Rattle.std.specs.Prelude.{false, List, [], ◌++◌, None, filter_map}
+use Rattle.std.specs.Prelude.{List, [], ◌++◌, filter_map}
 use Rattle.frame_terms.specs.declared.keyword.Keyword.TheVariants as the
 use Rattle.frame_terms.specs.declared.document.Taken.{Taken}
 use Rattle.frame_values.specs.declared.values.Value.{Value}

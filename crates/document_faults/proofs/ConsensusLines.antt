@@ -23,7 +23,7 @@ use Rattle.consensus_frame.specs.Lines.{relay_of, version_of, with_word, with_wo
 use Rattle.consensus_frame.specs.Tables.{signature_of}
 use Rattle.consensus_frame.specs.declared.line.Said.{Said}
 use Rattle.fault_places.proofs.ArgumentPlaces.{Begins, EachBegins, PlaceIn, others_begin}
-use Rattle.fault_places.proofs.ItemPlaces.{IsItemIn, all_begin, begins, first_begins, more_in, one_in, then_in}
+use Rattle.fault_places.proofs.ItemPlaces.{IsItemIn, all_begin, begins, more_in, one_in, then_in}
 use Rattle.fault_places.proofs.ItemPlaces as places
 use Rattle.fault_places.proofs.Placed.{last_in}
 

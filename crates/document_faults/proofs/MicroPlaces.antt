@@ -1,5 +1,5 @@
 -- The places of what is wrong with the items of a microdescriptor, and of the first fault of their document.
-use Rattle.std.proofs.Common.{ℕ, Bool, true, false, length, Result, Ok, Err}
+use Rattle.std.proofs.Common.{ℕ, Bool, true, false, length, Ok, Err}
 use Rattle.std.specs.Prelude.{codes, if◌then◌else◌}
 use Rattle.std.specs.Str.{bytes_eq}
 use Rattle.item_terms.specs.Items.{Item}

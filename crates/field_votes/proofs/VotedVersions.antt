@@ -1,6 +1,6 @@
 -- The versions that most lists have, in plain words: those and no others, and they ascend.
 use Rattle.std.proofs.Common.{◌≡◌, ℕ, ◌+◌, Bool, true, false, List, [], ◌∷◌, ◌++◌, length, refl, sym, ap, ap₂, ◌∙◌, arith}
-use Rattle.std.specs.Prelude.{All, AllPairs, ◌*◌, ◌&&◌, ◌||◌, filter, if◌then◌else◌, Option}
+use Rattle.std.specs.Prelude.{All, AllPairs, ◌*◌, ◌&&◌, ◌||◌, filter, if◌then◌else◌}
 use Rattle.std.specs.declared.cmp.Ordering.{Ordering}
 use Rattle.std.specs.declared.cmp.Ordering.TheVariants.{Less, Equal, Greater}
 use Rattle.std.specs.List.{flat_map, fold, list_any}
@@ -13,10 +13,10 @@ use Rattle.std.proofs.lemmas.List.Sums.{sum_by-cons}
 use Rattle.count_terms.specs.Counts.{over}
 use Rattle.dir_values.specs.FlagSets.{has_flag}
 use Rattle.dir_values.proofs.Orders.{AllPairs-cons, AllPairs-head, AllPairs-nil, AllPairs-tail, same_text}
-use Rattle.field_votes.specs.Plain.{AreVoted, VotedVersionsAreThoseOfMost}
+use Rattle.field_votes.specs.Plain.{VotedVersionsAreThoseOfMost}
 use Rattle.field_votes.specs.VersionKeys.{texts_total}
 use Rattle.field_votes.specs.Versions.{all_versions, in_order, is_listed_by_most, listing_count, lists_there}
-use Rattle.field_votes.specs.Versions.{text_order, voted_versions, with_version}
+use Rattle.field_votes.specs.Versions.{text_order, with_version}
 use Rattle.field_votes.proofs.VersionSets.{has-in_order}
 
 -- ---- those and no others

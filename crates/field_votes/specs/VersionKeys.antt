@@ -1,5 +1,4 @@
 -- Texts of versions as they stand in a tree: in their order, which is a total one, and borrowed.
-use Rattle.std.specs.Prelude.{ℕ, List, map}
 use Rattle.std.specs.Cmp.{IsTotalOrder, on_total, then_total}
 use Rattle.std.specs.Cmp.Lexicographic.{options_total}
 use Rattle.std.proofs.lemmas.Cmp.{nat_list_cmp_total}

@@ -36,8 +36,6 @@ impl<'a> Line<'a> {
 }
 
 impl<'a> Ballot for Line<'a> {
-    ghost use Rattle.std.specs.Ordering.{nat_cmp};
-    ghost use Rattle.std.specs.Cmp.Lexicographic.{slice_cmp};
     ghost use Rattle.std.proofs.lemmas.Cmp.{nat_list_cmp_total};
     ghost use Rattle.count_terms.specs.Choosing.{text_order};
     ghost use Rattle.dir_values.proofs.VersionOrders.{texts_tie};

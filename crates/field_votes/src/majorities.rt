@@ -1,7 +1,6 @@
 // The flags that most lists set.
-ghost use Rattle.std.specs.Prelude.{◌≡◌, ◌<◌, ◌≤◌, IfOk, OnOk, length, count_by, filter};
-ghost use Rattle.dir_values.specs.FlagSets.{as_set, has_flag};
-ghost use Rattle.count_terms.specs.Counts.{over};
+ghost use Rattle.std.specs.Prelude.{◌≡◌, ◌<◌, ◌≤◌, IfOk, OnOk, length, filter};
+ghost use Rattle.dir_values.specs.FlagSets.{as_set};
 ghost use Rattle.field_votes.specs.Flags as flags;
 ghost use Rattle.field_votes.specs.Private.{with_flag_if};
 

@@ -1,5 +1,5 @@
 // Params that enough lists name.
-ghost use Rattle.std.specs.Prelude.{◌≡◌, ◌<◌, ◌^◌, if◌then◌else◌, Some, None, IfOk, length};
+ghost use Rattle.std.specs.Prelude.{◌≡◌, ◌<◌, ◌^◌, if◌then◌else◌, Some, None, IfOk};
 ghost use Rattle.list_values.specs.Maps as maps;
 ghost use Rattle.field_votes.specs.Lists as votes;
 ghost use Rattle.field_votes.specs.Private as private;

@@ -1,5 +1,5 @@
 // Numbers of protocols that most lists have.
-ghost use Rattle.std.specs.Prelude.{◌≡◌, ◌<◌, ◌≤◌, IfOk, length, count_by};
+ghost use Rattle.std.specs.Prelude.{◌≡◌, ◌<◌, ◌≤◌, IfOk, count_by};
 ghost use Rattle.list_values.specs.Masks as masks;
 ghost use Rattle.list_values.specs.Protocols.{has_version};
 ghost use Rattle.field_votes.specs.Lists as votes;

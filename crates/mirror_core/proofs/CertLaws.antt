@@ -1,6 +1,6 @@
 -- The certificates that are kept.
 use Rattle.std.proofs.Common.{◌≡◌, ℕ, Bool, true, false, List, [], ◌∷◌, ◌++◌, filter, refl, inl, inr, subst, sym, ap, ◌∙◌}
-use Rattle.std.proofs.lemmas.List.Elements.{All-nil, All-head, All-tail, All-cons, All-append, All-weaker, All-filter, filter_passes}
+use Rattle.std.proofs.lemmas.List.Elements.{All-head, All-tail, All-cons, All-append, All-weaker, All-filter, filter_passes}
 use Rattle.std.proofs.lemmas.List.Kept.{AllPairs-filter}
 use Rattle.std.specs.Prelude.{All, AllPairs, ◌&&◌, ◌⊎◌}
 use Rattle.dir_values.proofs.Orders.{below-trans, AllPairs-cons, AllPairs-head, AllPairs-tail}
@@ -12,7 +12,7 @@ use Rattle.authority_certs.specs.Checks.{Checks, IsCertified}
 use Rattle.authority_certs.specs.declared.cert.Cert.{Cert}
 use Rattle.authority_certs.specs.declared.checking.CertAnswer.{CertAnswer}
 use Rattle.authority_certs.specs.declared.checking.CertAnswer.TheVariants as checked
-use Rattle.mirror_core.specs.Answers.{CertTally, TakesCert, TakesChecked, TakesEach, as_kept, cert_for, is_later, is_looked_at, keeps, refuses, skips, with_cert}
+use Rattle.mirror_core.specs.Answers.{CertTally, TakesCert, TakesChecked, TakesEach, as_kept, cert_for, is_later, keeps, refuses, skips, with_cert}
 use Rattle.mirror_core.specs.Sound.{CertsAscend, IsChecked}
 use Rattle.mirror_core.specs.States.{KeptCert}
 

@@ -1,21 +1,19 @@
 -- What holds of a mirror after each call.
-use Rattle.std.proofs.Common.{◌≡◌, ℕ, true, List, [], ◌∷◌, Ok, Err, inl, inr, refl, subst, sym, ap, ◌∙◌, arith}
+use Rattle.std.proofs.Common.{◌≡◌, ℕ, true, List, [], ◌∷◌, Ok, Err, inl, inr, refl, subst, sym, ◌∙◌, arith}
 use Rattle.std.proofs.lemmas.List.Elements.{All-nil, All-cons}
 use Rattle.std.specs.Prelude.{All, Option, Some, None, Result, is_some}
-use Rattle.sha2.specs.Sha256.{sha256}
 use Rattle.dir_values.specs.declared.digest.Fingerprint.{Fingerprint}
 use Rattle.key_port.specs.Answers.{Rules}
 use Rattle.mirror_core.proofs.RowLaws.{found_has, rows_are, rows_have, taken_are, taken_have}
 use Rattle.mirror_core.specs.Laws.{AreRowsOf, HasDigest, HaveDigests}
-use Rattle.mirror_core.specs.Rows.{Rows, micro_of, row_of, text_in}
-use Rattle.mirror_core.specs.Wanting.{is_among}
+use Rattle.mirror_core.specs.Rows.{Rows, row_of, text_in}
 use Rattle.mirror_core.specs.declared.terms_refusal.MirrorRefusal.{MirrorRefusal}
 use Rattle.mirror_core.specs.declared.report.CertReport.{CertReport}
 use Rattle.mirror_core.specs.declared.report.MicroReport.{MicroReport}
-use Rattle.mirror_core.specs.Answers.{AnswersCerts, AnswersConsensus, AnswersMicros, MicroTally, TakesCerts, TakesConsensus, TakesMicros, micro_with, no_certs_yet, no_micros_yet, with_consensus, with_micro, with_micros}
+use Rattle.mirror_core.specs.Answers.{AnswersCerts, AnswersConsensus, AnswersMicros, MicroTally, TakesCerts, TakesConsensus, TakesMicros, micro_with, no_certs_yet, no_micros_yet, with_micro, with_micros}
 use Rattle.mirror_core.specs.Lists.{Calls, CallsLeave}
 use Rattle.mirror_core.specs.Sound.{IsSound}
-use Rattle.mirror_core.specs.States.{KeptCert, Mirrored, named, named_by, no_mirror}
+use Rattle.mirror_core.specs.States.{Mirrored, named, named_by, no_mirror}
 use Rattle.mirror_core.proofs.CertLaws.{AreSound, each_taken}
 use Rattle.mirror_core.proofs.SignerLaws.{by_majority}
 use Rattle.mirror_core.specs.Served.{IsNamedText}

@@ -1,19 +1,18 @@
 -- Who signed the consensus that is held.
-use Rattle.std.proofs.Common.{◌≡◌, ℕ, ◌≤◌, true, List, [], ◌∷◌, length, map, subst, sym, ap, ◌∙◌, arith, refl}
+use Rattle.std.proofs.Common.{◌≡◌, ℕ, ◌≤◌, true, List, [], ◌∷◌, length, subst, sym, ◌∙◌, arith, refl}
 use Rattle.std.proofs.lemmas.List.Elements.{All-nil, All-head, All-tail, All-cons, All-contains}
-use Rattle.std.specs.Prelude.{All, AllPairs, Contains, Option, Some, None, nat_lt}
+use Rattle.std.specs.Prelude.{All, AllPairs, Option, Some, None}
 use Rattle.count_terms.specs.Counts.{over}
-use Rattle.dir_values.specs.Rosters.{has_member}
 use Rattle.dir_values.specs.declared.digest.Fingerprint.{Fingerprint}
 use Rattle.key_port.specs.Answers.{Rules}
 use Rattle.consensus_terms.specs.declared.consensus.SignedConsensus.{SignedConsensus}
 use Rattle.consensus_terms.specs.declared.signature.SignatureLine.{SignatureLine}
-use Rattle.detached_sigs.specs.Signers.{AreApart, AreSigners}
+use Rattle.detached_sigs.specs.Signers.{AreApart}
 use Rattle.detached_sigs.specs.declared.key.SignerKey.{SignerKey}
 use Rattle.mirror_core.specs.Answers.{IsSignedBy}
 use Rattle.mirror_core.specs.Signers.{SignedPart, key_of, keys_of, sha256_lines}
 use Rattle.mirror_core.specs.Sound.{HaveLines, IsByMajority, IsChecked}
-use Rattle.mirror_core.specs.States.{KeptCert, HeldConsensus, Mirrored}
+use Rattle.mirror_core.specs.States.{KeptCert, Mirrored}
 use Rattle.mirror_core.proofs.Members.{IsOfMember, few}
 
 -- the keys of checked certificates are of members

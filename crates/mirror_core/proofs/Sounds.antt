@@ -1,17 +1,16 @@
 -- What holds of a mirror after each call.
-use Rattle.std.proofs.Common.{◌≡◌, ℕ, List, length, Option, Some, refl, sym, subst}
-use Rattle.dir_values.specs.declared.digest.Fingerprint.{Fingerprint}
+use Rattle.std.proofs.Common.{◌≡◌, ℕ, List, length, Some, refl, sym, subst}
 use Rattle.key_port.specs.Answers.{Rules}
 use Rattle.authority_certs.specs.declared.cert.Cert.{Cert}
 use Rattle.consensus_terms.specs.declared.consensus.SignedConsensus.{SignedConsensus}
 use Rattle.detached_sigs.specs.declared.key.SignerKey.{SignerKey}
 use Rattle.mirror_core.specs.Rows.{Rows, rows_of}
 use Rattle.micro_desc.specs.declared.micro.Micro.{Micro}
-use Rattle.mirror_core.specs.Answers.{CertTally, IsSignedBy, TakesConsensus, TakesEach, no_certs_yet, no_micros_yet, with_micros}
+use Rattle.mirror_core.specs.Answers.{CertTally, IsSignedBy, TakesEach, no_certs_yet, no_micros_yet, with_micros}
 use Rattle.mirror_core.specs.Sound.{IsSound}
 use Rattle.mirror_core.specs.States.{HeldConsensus, KeptCert, Mirrored, named, named_by}
 use Rattle.mirror_core.proofs.CertLaws.{AreSound, each_taken}
-use Rattle.mirror_core.proofs.MirrorLaws.{AreRows, consensus_taken, each_micro}
+use Rattle.mirror_core.proofs.MirrorLaws.{consensus_taken, each_micro}
 use Rattle.mirror_core.specs.Lending.{IsMajority}
 use Rattle.mirror_core.proofs.TakenConsensus.{taken}
 

@@ -1,16 +1,15 @@
 -- Documents that stand one behind the other.
-use Rattle.std.proofs.Common.{◌≡◌, ℕ, ◌+◌, ◌<◌, ◌≤◌, List, [], ◌∷◌, ◌++◌, length, drop, Result, Ok, Err, refl, sym, ap, subst, ◌∙◌, arith}
+use Rattle.std.proofs.Common.{◌≡◌, ℕ, ◌+◌, ◌<◌, ◌≤◌, List, [], ◌∷◌, ◌++◌, length, drop, Result, refl, sym, ap, subst, ◌∙◌, arith}
 use Rattle.std.proofs.lemmas.Grind.{common_steps}
-use Rattle.std.specs.Prelude.{Bool, true, false, nat_lt, Option, Some, None, slice_range}
-use Rattle.frame_terms.specs.declared.fault.FrameFault.{FrameFault}
+use Rattle.std.specs.Prelude.{Bool, true, false, nat_lt, Some, slice_range}
 use Rattle.frame_terms.specs.declared.fault.ReadRefusal.{ReadRefusal}
 use Rattle.frame_terms.specs.declared.fault.ReadRefusal.TheVariants as read
 use Rattle.std.proofs.lemmas.Bool.{ltb-true, ltb-false}
 use Rattle.std.proofs.lemmas.List.{drop_all}
 use Rattle.item_terms.specs.Lines.{lines}
 use Rattle.blank_lines.specs.Blanks.{after_blanks, first_other}
-use Rattle.mirror_core.specs.Inputs.{AreAll, FailsWith, Stand, StandsAt}
-use Rattle.mirror_core.specs.Reads.{FaultAt, IsThere, ReadsAt, RefusesAll}
+use Rattle.mirror_core.specs.Inputs.{Stand, StandsAt}
+use Rattle.mirror_core.specs.Reads.{FaultAt, IsThere, RefusesAll}
 
 -- where a line that is not blank follows, bytes are left
 pub some_left : (bytes : List ℕ) (place begin : ℕ) → Some begin ≡ after_blanks place bytes → place < length bytes

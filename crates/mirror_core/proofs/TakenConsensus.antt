@@ -1,6 +1,5 @@
 -- A consensus that is taken, or is not.
-use Rattle.std.proofs.Common.{◌≡◌, ℕ, List, length, Option, Some, true, refl, sym, ap, subst, ◌∙◌}
-use Rattle.count_terms.specs.Counts.{over}
+use Rattle.std.proofs.Common.{◌≡◌, ℕ, List, length, Option, Some, true, sym, ap, ◌∙◌}
 use Rattle.key_port.specs.Answers.{Rules}
 use Rattle.consensus_terms.specs.declared.consensus.SignedConsensus.{SignedConsensus}
 use Rattle.detached_sigs.specs.declared.key.SignerKey.{SignerKey}
@@ -8,7 +7,6 @@ use Rattle.mirror_core.specs.Rows.{Rows, rows_of}
 use Rattle.mirror_core.specs.declared.terms_refusal.MirrorRefusal.{MirrorRefusal}
 use Rattle.mirror_core.specs.declared.terms_refusal.MirrorRefusal.TheVariants as refusal
 use Rattle.mirror_core.specs.Answers.{ConsensusRefused, IsMicrodesc, IsSignedBy, TakesConsensus, held_from, is_after}
-use Rattle.mirror_core.specs.Signers.{AreSignersOf, keys_of}
 use Rattle.mirror_core.specs.States.{HeldConsensus, Mirrored, named}
 use Rattle.mirror_core.specs.Lending.{IsMajority, IsMinority, IsNoMicrodesc, IsNoSigning, IsNotNewer, IsUnsigned}
 

@@ -1,5 +1,5 @@
 -- What the private functions of this crate say.
-use Rattle.std.specs.Prelude.{◌≡◌, ◌≤◌, ℕ, true, List, Option, Some, None, Ok, Err}
+use Rattle.std.specs.Prelude.{◌≡◌, ◌≤◌, ℕ, true, List, Option, Some, Ok, Err}
 use Rattle.consensus_terms.specs.declared.consensus.SignedConsensus.{SignedConsensus}
 use Rattle.consensus_terms.specs.declared.flavour.Flavour.TheVariants.{Ns}
 use Rattle.consensus_doc.specs.Reading.{consensus_of}

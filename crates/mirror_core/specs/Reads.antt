@@ -5,7 +5,7 @@ use Rattle.frame_terms.specs.declared.fault.ReadRefusal.{ReadRefusal}
 use Rattle.frame_terms.specs.declared.fault.ReadRefusal.TheVariants as read
 use Rattle.frame_terms.specs.Refusals.{Fails}
 use Rattle.blank_lines.specs.Behind.{fault_behind}
-use Rattle.mirror_core.specs.Inputs.{AreAll, FailsWith}
+use Rattle.mirror_core.specs.Inputs.{FailsWith}
 
 -- the place of a refusal, if it tells one, is within so many bytes
 abbrev pub IsWithin : ℕ → ReadRefusal → Type 0

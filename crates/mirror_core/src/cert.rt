@@ -1,5 +1,5 @@
 // A certificate that is kept.
-ghost use Rattle.std.specs.Prelude.{◌≡◌, ◌++◌, [], ◌∷◌, IfOk, map};
+ghost use Rattle.std.specs.Prelude.{◌≡◌, ◌++◌, [], ◌∷◌, IfOk};
 ghost use Rattle.mirror_core.specs.Signers as signers;
 
 use authority_certs::Cert;

@@ -1,5 +1,5 @@
 // Documents of one kind, one behind the other to an input's end.
-ghost use Rattle.std.specs.Prelude.{◌≡◌, ◌<◌, ◌≤◌, ◌^◌, ℕ, List, length, drop, slice_range, MatchResult, IfOk, IfErr};
+ghost use Rattle.std.specs.Prelude.{◌≡◌, ◌<◌, ◌≤◌, ◌^◌, ℕ, List, length, slice_range, MatchResult, IfOk, IfErr};
 ghost use Rattle.std.specs.declared.result.Result.{Result};
 ghost use Rattle.frame_terms.specs.declared.fault.ReadRefusal.{ReadRefusal};
 ghost use Rattle.mirror_core.specs.Inputs.{AreAll};

@@ -1,5 +1,5 @@
 -- Acceptable votes with their consensus are not refused.
-use Rattle.std.proofs.Common.{◌≡◌, ◌∙◌, ℕ, List, Some, Ok, Err, ap, sym, subst, refl}
+use Rattle.std.proofs.Common.{◌≡◌, ◌∙◌, ℕ, List, Some, Err, ap, sym, subst, refl}
 use Rattle.std.specs.Prelude.{slice_get}
 use Rattle.frame_terms.specs.declared.fault.FrameFault.{FrameFault}
 use Rattle.key_port.specs.Answers.{Rules}

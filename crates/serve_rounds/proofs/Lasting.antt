@@ -14,7 +14,7 @@ use Rattle.period_laws.specs.Checked.{IsCheckedHistory}
 use Rattle.serve_board.specs.Boards.{Locks, Parts, Sees}
 use Rattle.serve_board.specs.Going.{Goes}
 use Rattle.serve_board.proofs.Going.{prefix_on, prefix_same}
-use Rattle.serve_rounds.specs.Duties.{IsAdvance, IsFetched, IsGathered, IsOwn, IsRound}
+use Rattle.serve_rounds.specs.Duties.{IsAdvance, IsOwn, IsRound}
 use Rattle.serve_rounds.specs.OwnVotes.{IsOwnVote, IsPeriodOf, IsTextOfBoard}
 use Rattle.serve_rounds.specs.Spans.{AddedKind, Anywhere, Since, WasSeen}
 

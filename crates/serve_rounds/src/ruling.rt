@@ -1,6 +1,5 @@
 // Rules that rule by themselves.
 ghost use Rattle.std.specs.Prelude.{IsTrue};
-ghost use Rattle.flag_rules.specs.Rules.{list_allows};
 
 use flag_rules::{OperatorList, RelayFacts, Rules, Ruling};
 

@@ -1,4 +1,4 @@
-use Rattle.std.proofs.Common.{ℕ, sym, subst}
+use Rattle.std.proofs.Common.{ℕ, subst}
 use Rattle.dir_bytes.specs.Causes.{Rose}
 use Rattle.compute_command.proofs.Faults.{no_fault}
 use Rattle.report_command.proofs.command.answer.Goals as goal
