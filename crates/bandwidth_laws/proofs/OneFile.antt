@@ -13,9 +13,7 @@ use Rattle.std.proofs.lemmas.Slice.Eq.{bytes_eq-Decides}
 use Rattle.dir_values.proofs.WordSets.{ties_as_one}
 use Rattle.dir_values.specs.Digests.{same_identity}
 use Rattle.dir_values.specs.declared.digest.Fingerprint.{Fingerprint}
-use Rattle.bandwidth_file.specs.Files.{IsBandFile}
 use Rattle.bandwidth_file.specs.Relays.{Ascend, bandwidth_in, identity_order}
-use Rattle.bandwidth_file.specs.declared.file.Header.{Header}
 use Rattle.bandwidth_laws.specs.Again.{BytesAreOneFile}
 use Rattle.bandwidth_laws.proofs.LastRows.{none_later}
 

@@ -1,24 +1,18 @@
 -- A certificate's own part alone is read as the same certificate.
-use Rattle.std.proofs.Common.{◌≡◌, ℕ, ◌+◌, true, List, [], ◌∷◌, ◌++◌, length, take, drop, Some, Result, Ok, Err, refl}
+use Rattle.std.proofs.Common.{◌≡◌, ℕ, ◌+◌, true, List, [], ◌∷◌, ◌++◌, length, take, drop, Result, Ok, Err, refl}
 use Rattle.std.proofs.Common.{sym}
-use Rattle.std.proofs.Common.{ap, subst, ◌∙◌, arith}
+use Rattle.std.proofs.Common.{ap, ◌∙◌, arith}
 use Rattle.std.proofs.lemmas.List.{length-take-le, take-append-drop}
 use Rattle.std.specs.Prelude.{is_some, map}
 use Rattle.std.specs.List.{AllByRecursion}
-use Rattle.item_terms.specs.Items.{Item, items_of}
-use Rattle.frame_terms.specs.Documents.{document_of, group}
+use Rattle.item_terms.specs.Items.{Item}
 use Rattle.frame_terms.specs.Keywords.{same}
-use Rattle.frame_terms.specs.Sections.{row_of}
 use Rattle.frame_terms.specs.declared.document.Group.{Group}
-use Rattle.frame_terms.specs.declared.document.Taken.{Taken}
-use Rattle.frame_terms.specs.declared.fault.FrameFault.{FrameFault}
 use Rattle.frame_terms.specs.declared.fault.ReadRefusal.{ReadRefusal}
-use Rattle.frame_terms.specs.declared.keyword.Keyword.{Keyword}
 use Rattle.frame_terms.specs.declared.keyword.Keyword.TheVariants as the
 use Rattle.frame_terms.specs.declared.row.Row.{Row}
 use Rattle.frame_values.specs.Faults.{at_place}
 use Rattle.frame_values.specs.declared.found.Span.{Span}
-use Rattle.frame_values.specs.declared.values.Value.{Value}
 use Rattle.frame_values.specs.declared.values.Value.TheVariants as value
 use Rattle.authority_certs.specs.Certs.{cert_in}
 use Rattle.authority_certs.specs.Heads.{head_of}

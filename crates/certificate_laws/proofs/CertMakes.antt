@@ -15,9 +15,8 @@ use Rattle.frame_terms.specs.Standing.{as_made, begins_again, by_keyword, by_row
 use Rattle.frame_terms.specs.Standing.{unless}
 use Rattle.frame_terms.specs.declared.document.Made.{Made}
 use Rattle.frame_terms.specs.declared.document.Made.TheVariants.{Passes, Pushes, Leaves, Ends, Opens, Enters, Stops}
-use Rattle.frame_terms.specs.declared.document.Taken.{Taken}
 use Rattle.frame_terms.specs.declared.fault.FrameFault.{FrameFault}
-use Rattle.frame_terms.specs.declared.fault.FrameReason.TheVariants.{Twice, Order}
+use Rattle.frame_terms.specs.declared.fault.FrameReason.TheVariants.{Twice}
 use Rattle.frame_terms.specs.declared.fault.ReadRefusal.{ReadRefusal}
 use Rattle.frame_terms.specs.declared.keyword.Keyword.{Keyword}
 use Rattle.frame_terms.specs.declared.keyword.Keyword.TheVariants as the
@@ -32,7 +31,6 @@ use Rattle.authority_certs.specs.Tables.{cert_tables, cert_value}
 use Rattle.authority_certs.specs.declared.frame.CertKind.{CertKind}
 use Rattle.authority_certs.specs.declared.frame.CertKind.TheVariants.{Version, Address, Fingerprint, Time, Key}
 use Rattle.authority_certs.specs.declared.frame.CertKind.TheVariants.{Crosscert, Certification}
-use Rattle.frame_values.specs.Values.{after_in, item_at}
 use Rattle.certificate_laws.proofs.Holding.{CertTaken, Said, alone_rows}
 use Rattle.certificate_laws.proofs.Simulated.{alone, never_beyond, order_if}
 

@@ -1,5 +1,5 @@
 -- The first item of a certificate, alone and inside another document.
-use Rattle.std.proofs.Common.{◌≡◌, ℕ, ◌+◌, ◌-◌, ◌≤◌, Bool, true, false, List, [], ◌∷◌, length, Option, Some, None, refl}
+use Rattle.std.proofs.Common.{◌≡◌, ℕ, ◌+◌, ◌-◌, ◌≤◌, Bool, true, false, List, [], ◌∷◌, Option, Some, None, refl}
 use Rattle.std.proofs.Common.{Result, Ok, Err, sym, ap, subst, ◌∙◌, arith}
 use Rattle.std.specs.Prelude.{nat_lt, if◌then◌else◌}
 use Rattle.std.proofs.lemmas.Bool.{le-ltb}
@@ -9,10 +9,10 @@ use Rattle.frame_terms.specs.Decisions.{unless_fault}
 use Rattle.frame_terms.specs.Decisions.{unless_refused}
 use Rattle.frame_terms.specs.Documents.{start}
 use Rattle.frame_terms.specs.Keywords.{same, word_of}
-use Rattle.frame_terms.specs.Order.{inner, is_keyword, opener}
+use Rattle.frame_terms.specs.Order.{inner, opener}
 use Rattle.frame_terms.specs.Refusals.{refused}
 use Rattle.frame_terms.specs.Rows.{row}
-use Rattle.frame_terms.specs.Sections.{accept, lacking_but, row_of, stands, taken_as, taken_of}
+use Rattle.frame_terms.specs.Sections.{accept, lacking_but, stands, taken_as, taken_of}
 use Rattle.frame_terms.specs.Standing.{as_made, begins_again, by_keyword, by_row, ends, enters, goes_on, in_section}
 use Rattle.frame_terms.specs.Standing.{unless}
 use Rattle.frame_terms.specs.Tables.{Tables}

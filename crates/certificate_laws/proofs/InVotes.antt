@@ -1,17 +1,13 @@
 -- Votes hold certificates.
-use Rattle.std.proofs.Common.{◌≡◌, ℕ, ◌+◌, List, refl, Ok}
+use Rattle.std.proofs.Common.{◌≡◌, ℕ, ◌+◌, refl, Ok}
 use Rattle.std.specs.Prelude.{}
 use Rattle.frame_terms.specs.Keywords.{same}
-use Rattle.frame_values.specs.declared.values.Value.{Value}
 use Rattle.frame_values.specs.declared.values.Value.TheVariants as value
-use Rattle.authority_certs.specs.declared.cert.Cert.{Cert}
 use Rattle.certificate_laws.proofs.CertRows.{HasCertificates}
-use Rattle.vote_frame.specs.Across.{nothing_across}
 use Rattle.vote_frame.specs.Tables.{note_value, vote_tables}
 use Rattle.vote_frame.specs.declared.across.Across.{Across}
 use Rattle.vote_frame.specs.declared.frame.VoteKind.TheVariants as kind
 use Rattle.vote_frame.specs.declared.frame.VoteSection.TheVariants.{Authority, Certificate}
-use Rattle.vote_frame.specs.declared.frame.VoteValue.{VoteValue}
 use Rattle.certificate_laws.specs.Inside.{GivenStandInside}
 use Rattle.certificate_laws.specs.Lifted.{lifted}
 use Rattle.certificate_laws.proofs.Holding.{HoldsCertificates, Said}

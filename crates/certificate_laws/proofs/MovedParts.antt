@@ -1,8 +1,8 @@
 -- What is taken of a certificate says the same where its bytes stand behind others.
 use Rattle.std.proofs.Common.{◌≡◌, ℕ, ◌+◌, ◌-◌, ◌≤◌, Bool, true, false, List, [], ◌∷◌, ◌++◌, length, take, drop, Option}
-use Rattle.std.proofs.Common.{Some, None, refl, sym, ap, subst, ◌∙◌, arith}
+use Rattle.std.proofs.Common.{Some, None, refl, ap, subst, ◌∙◌, arith}
 use Rattle.std.specs.Prelude.{map, option_map, is_some, slice_range, unwrap_or, if◌then◌else◌}
-use Rattle.std.specs.List.{AllByRecursion, find}
+use Rattle.std.specs.List.{AllByRecursion}
 use Rattle.std.proofs.Math.Seq.{drop-append-add}
 use Rattle.std.proofs.lemmas.List.{drop-append-le, length-drop, take-append-le}
 use Rattle.sha1.specs.Sha1.{sha1}
@@ -18,7 +18,7 @@ use Rattle.frame_values.specs.declared.found.Span.{Span}
 use Rattle.frame_values.specs.declared.values.Value.{Value}
 use Rattle.frame_values.specs.declared.values.Value.TheVariants as value
 use Rattle.dir_values.specs.declared.digest.Fingerprint.{Fingerprint}
-use Rattle.authority_certs.specs.Certs.{cert_in, covered_part, whole_part}
+use Rattle.authority_certs.specs.Certs.{cert_in, whole_part}
 use Rattle.authority_certs.specs.Heads.{head_of}
 use Rattle.certificate_laws.specs.Lifted.{lifted, moved_span, moved_taken}
 use Rattle.certificate_laws.specs.Within.{AreTakenIn, CertsSayTheSame, IsSpanIn, IsTakenIn, IsValueIn}

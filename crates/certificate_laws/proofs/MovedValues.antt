@@ -1,6 +1,6 @@
 -- What an item of a certificate says, so many bytes further on.
 use Rattle.std.proofs.Common.{◌≡◌, ℕ, ◌+◌, Bool, true, false, List, [], ◌∷◌, length, Option, Some, None, Result, Ok}
-use Rattle.std.proofs.Common.{Err, refl, sym, ap, ◌∙◌, arith}
+use Rattle.std.proofs.Common.{Err, refl, ap, ◌∙◌, arith}
 use Rattle.std.specs.Prelude.{map, option_map, codes, if◌then◌else◌, ◌||◌, ◌*◌}
 use Rattle.std.specs.Str.{bytes_eq}
 use Rattle.item_terms.specs.Items.{Item, Object}
@@ -11,7 +11,7 @@ use Rattle.dir_values.specs.Digests.{fingerprint}
 use Rattle.dir_values.specs.declared.digest.Fingerprint.{Fingerprint}
 use Rattle.frame_values.specs.Arguments.{arguments_of, field, front, next, others}
 use Rattle.frame_values.specs.Fields.{is_there, span, span_if, span_of}
-use Rattle.frame_values.specs.Signatures.{has_words, object_if, object_of}
+use Rattle.frame_values.specs.Signatures.{has_words, object_if}
 use Rattle.frame_values.specs.declared.found.Span.{Span}
 use Rattle.frame_values.specs.declared.values.Value.{Value}
 use Rattle.frame_values.specs.declared.values.Value.TheVariants as value

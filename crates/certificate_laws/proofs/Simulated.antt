@@ -4,9 +4,9 @@ use Rattle.std.proofs.Common.{Result, Ok, Err, sym, ap, ◌∙◌, arith}
 use Rattle.std.specs.Prelude.{IfSome, option_map, not, ◌&&◌, nat_lt, if◌then◌else◌}
 use Rattle.std.proofs.lemmas.Bool.{le-ltb}
 use Rattle.item_terms.specs.Items.{Item}
-use Rattle.frame_terms.specs.Decisions.{beyond, beyond_inner, beyond_inside, first_place, made_by, unless_fault}
+use Rattle.frame_terms.specs.Decisions.{beyond, beyond_inner, beyond_inside, made_by, unless_fault}
 use Rattle.frame_terms.specs.Keywords.{same, word_of}
-use Rattle.frame_terms.specs.Order.{inner, is_keyword, is_strange, opened_by}
+use Rattle.frame_terms.specs.Order.{is_strange, opened_by}
 use Rattle.frame_terms.specs.Refusals.{refused}
 use Rattle.frame_terms.specs.Rows.{is_many}
 use Rattle.frame_terms.specs.Sections.{accept, lacking_but, row_of, stands, taken_as, taken_of}

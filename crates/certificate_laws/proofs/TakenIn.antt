@@ -16,7 +16,7 @@ use Rattle.frame_values.specs.declared.values.Value.TheVariants as value
 use Rattle.authority_certs.specs.Tables.{cert_value}
 use Rattle.authority_certs.specs.declared.frame.CertKind.{CertKind}
 use Rattle.authority_certs.specs.declared.frame.CertKind.TheVariants as kind
-use Rattle.certificate_laws.specs.Within.{IsSpanIn, IsValueIn}
+use Rattle.certificate_laws.specs.Within.{IsValueIn}
 use Rattle.certificate_laws.proofs.MovedValues.{first_of, object_said, second_of, wanted_if}
 use Rattle.certificate_laws.proofs.Holding.{Said}
 use Rattle.grammar_laws.proofs.WithinLines.{IsIn}

@@ -1,7 +1,7 @@
 -- What is told of some lines of detached signatures, and of one line more.
 use Rattle.std.proofs.Common.{◌≡◌, ℕ, ◌+◌, ◌<◌, ◌≤◌, Bool, true, false, not, Option, Some, None, List, [], ◌∷◌, ◌++◌}
 use Rattle.std.proofs.Common.{length, map, take, drop, get_or, Ok, Err, inl, inr, ⊎_elim, refl, sym, ap, subst, ◌∙◌}
-use Rattle.std.proofs.Common.{arith, append_assoc, length-append}
+use Rattle.std.proofs.Common.{arith, length-append}
 use Rattle.std.specs.Prelude.{All, filter, is_none, if◌then◌else◌}
 use Rattle.std.specs.List.{cons_option, filter_map}
 use Rattle.std.proofs.lemmas.Bool.{cases_lt}
@@ -18,8 +18,8 @@ use Rattle.checked_sigs.specs.Asking.{offered_by, offered_lines}
 use Rattle.checked_sigs.specs.declared.report.SigRefusal.{SigRefusal}
 use Rattle.checked_sigs.specs.declared.report.SigRefusal.TheVariants as the
 use Rattle.checked_sigs.specs.Checks.{AddsLine, Asks, AsksEach, FailsAt, FailsAtLine, FailsLine, FailsLines}
-use Rattle.checked_sigs.specs.Checks.{IsJudgedBy, Judgement, Tally, TellsLines, accepted_lines, answer_of}
-use Rattle.checked_sigs.specs.Checks.{refused_count, skipped_count, tally_of, with_bad, with_checked, with_skipped}
+use Rattle.checked_sigs.specs.Checks.{IsJudgedBy, Judgement, Tally, TellsLines, answer_of}
+use Rattle.checked_sigs.specs.Checks.{skipped_count, tally_of, with_bad, with_checked, with_skipped}
 
 -- ---- what is asked
 

@@ -1,5 +1,5 @@
 -- What is computed of votes in range is in range, and its text is read again.
-use Rattle.std.proofs.Common.{ℕ, List, Option, arith}
+use Rattle.std.proofs.Common.{ℕ, List, Option}
 use Rattle.std.specs.Prelude.{All, IfSome}
 use Rattle.std.proofs.lemmas.List.Elements.{All-filter, All-weaker}
 use Rattle.dir_bytes.specs.Causes.{last_moment}

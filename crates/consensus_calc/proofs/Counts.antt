@@ -1,8 +1,8 @@
 -- Counting one vote after the other.
 use Rattle.std.proofs.Common.{◌≡◌, ℕ, zero, suc, ◌+◌, ◌<◌, ◌≤◌, Bool, true, false, cond, ◌&&◌, List, [], ◌∷◌, ◌++◌, Option, Some, None, length, get_or, set, take, drop, map, replicate, refl, sym, ap, ◌∙◌, add-one, drop-cons, append_assoc, length-append, arith}
-use Rattle.std.specs.Prelude.{count_by, filter, option_map, option_and_then, slice_get, IsSome}
+use Rattle.std.specs.Prelude.{count_by, filter, option_map, slice_get, IsSome}
 use Rattle.std.specs.List.{filter_map}
-use Rattle.std.proofs.lemmas.List.{take_more, take_more_set, drop-set-lt, map-append}
+use Rattle.std.proofs.lemmas.List.{take_more, take_more_set, drop-set-lt}
 use Rattle.std.proofs.lemmas.List.Sums.{length-filter}
 use Rattle.std.proofs.lemmas.List.Elements.{filter-append, filter_map-append}
 use Rattle.std.proofs.lemmas.Bool.{false≢true}

@@ -1,5 +1,5 @@
 -- The line of a relay, step by step.
-use Rattle.std.proofs.Common.{◌≡◌, ℕ, Bool, true, false, List, Option, Some, None, refl, sym, ap, ◌∙◌}
+use Rattle.std.proofs.Common.{◌≡◌, ℕ, Bool, true, false, List, Option, Some, None, sym, ap, ◌∙◌}
 use Rattle.std.specs.Prelude.{option_map, option_and_then, filter, map}
 use Rattle.std.specs.Prelude.{if◌then◌else◌}
 use Rattle.dir_values.specs.declared.digest.Fingerprint.{Fingerprint}
@@ -10,7 +10,7 @@ use Rattle.compute_terms.specs.declared.identity.EdPart.{EdPart}
 use Rattle.consensus_terms.specs.declared.router.Routerline.{Routerline}
 use Rattle.compute_terms.specs.Listings.{Listing, entries_of}
 use Rattle.compute_terms.specs.Identities.{eds_of, included_part}
-use Rattle.compute_terms.specs.Tuples.{Tuple, chosen_tuple}
+use Rattle.compute_terms.specs.Tuples.{chosen_tuple}
 use Rattle.compute_terms.specs.RelayFlags.{setting_count, knowing_count, is_set, set_flags, router_flags, is_running_and_valid}
 use Rattle.compute_terms.specs.Flags.{known_flags}
 use Rattle.compute_terms.specs.Routers.{belonging_listings, routerline_of, router_as, router_from, router_with}

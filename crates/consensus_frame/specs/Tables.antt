@@ -21,7 +21,6 @@ use Rattle.frame_values.specs.Lines.{literal, time_of, delays_of, flags_of, rest
 use Rattle.frame_values.specs.Signatures.{known_signature_of, space_of}
 use Rattle.value_groups.specs.ListLines.{params_of, protocols_of, versions_of}
 use Rattle.relay_entries.specs.declared.listed.Listed.{Listed}
-use Rattle.relay_entries.specs.declared.said.EntryKind.{EntryKind}
 use Rattle.relay_entries.specs.declared.said.EntryKind.TheVariants as entry
 use Rattle.relay_entries.specs.declared.said.EntryValue.TheVariants as said
 use Rattle.relay_entries.specs.Lines.{entry_value, is_ignored, lifted}

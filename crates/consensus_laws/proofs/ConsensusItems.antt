@@ -1,5 +1,5 @@
 -- Each item of a consensus that is written says what its row asks for.
-use Rattle.std.proofs.Common.{◌≡◌, ℕ, ◌≤◌, false, List, [], ◌∷◌, Option, Some, None, Result, Ok, refl, ap}
+use Rattle.std.proofs.Common.{◌≡◌, ℕ, ◌≤◌, false, List, [], ◌∷◌, Some, None, Result, Ok, refl, ap}
 use Rattle.std.proofs.Common.{arith}
 use Rattle.std.specs.Prelude.{codes, decimal}
 use Rattle.std.specs.List.{join_with_byte}
@@ -17,7 +17,7 @@ use Rattle.frame_terms.specs.Rows.{row}
 use Rattle.frame_terms.specs.declared.keyword.Keyword.{Keyword}
 use Rattle.frame_terms.specs.declared.keyword.Keyword.TheVariants as the
 use Rattle.frame_terms.specs.declared.row.Count.{Count}
-use Rattle.frame_terms.specs.declared.row.Count.TheVariants.{One, Optional}
+use Rattle.frame_terms.specs.declared.row.Count.TheVariants.{One}
 use Rattle.frame_terms.specs.declared.row.Row.{Row}
 use Rattle.frame_values.specs.Arguments.{arguments_of, next}
 use Rattle.frame_values.specs.Faults.{at_place}
@@ -29,7 +29,7 @@ use Rattle.frame_values.specs.declared.values.Value.{Value}
 use Rattle.frame_values.specs.declared.values.Value.TheVariants as value
 use Rattle.frame_laws.proofs.Entries.{AlwaysSuits, Entry, item_of}
 use Rattle.frame_laws.proofs.RowValues.{own_entry, silent_entry, text_entry}
-use Rattle.frame_laws.proofs.SaidRows.{IsSaid, RowSays, row_once}
+use Rattle.frame_laws.proofs.SaidRows.{IsSaid, RowSays}
 use Rattle.frame_laws.proofs.Sections.{Section}
 use Rattle.frame_laws.proofs.Words.{AreWords, IsWord, arguments_of_word, arguments_of_words, placed, two_words}
 use Rattle.frame_laws.proofs.Words.{word_of_identity, word_of_number}

@@ -1,7 +1,7 @@
 -- The shared random values of a consensus, row by row: each is read as it was written.
-use Rattle.std.proofs.Common.{◌≡◌, ℕ, false, List, [], ◌∷◌, ◌++◌, Option, Some, None, refl, ap}
+use Rattle.std.proofs.Common.{◌≡◌, ℕ, List, [], ◌∷◌, ◌++◌, Option, Some, None, refl, ap}
 use Rattle.std.specs.Prelude.{IfSome, decimal, map, option_map}
-use Rattle.dirdoc_grammar.specs.Writing.{NewItem, items_text}
+use Rattle.dirdoc_grammar.specs.Writing.{items_text}
 use Rattle.frame_terms.specs.Keywords.{text_of}
 use Rattle.frame_terms.specs.Rows.{row}
 use Rattle.frame_terms.specs.declared.document.Taken.{Taken}

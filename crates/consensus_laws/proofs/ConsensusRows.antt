@@ -1,5 +1,5 @@
 -- A consensus, row by row of its sections' tables: the preamble, the authorities and the footer.
-use Rattle.std.proofs.Common.{ℕ, List, [], ◌∷◌, ◌++◌, Option, Some, refl, ap}
+use Rattle.std.proofs.Common.{ℕ, List, [], ◌∷◌, ◌++◌, Option, Some, refl}
 use Rattle.std.specs.Prelude.{All, codes}
 use Rattle.dir_values.specs.FlagSets.{set_text}
 use Rattle.frame_terms.specs.Keywords.{same}

@@ -8,7 +8,6 @@ use Rattle.frame_terms.specs.declared.document.Taken.{Taken}
 use Rattle.frame_terms.specs.declared.keyword.Keyword.{Keyword}
 use Rattle.frame_terms.specs.declared.keyword.Keyword.TheVariants as the
 use Rattle.frame_terms.specs.declared.row.Count.TheVariants.{One}
-use Rattle.frame_values.specs.Parts.{part}
 use Rattle.frame_values.specs.Values.{number_in}
 use Rattle.frame_values.specs.declared.values.Value.{Value}
 use Rattle.frame_laws.proofs.ReadRows.{AreRead, IsRead, item_of_row, row_read}

@@ -1,5 +1,5 @@
 -- The items that the text of a consensus has (dir-spec, "Vote and consensus status document formats").
-use Rattle.std.specs.Prelude.{ℕ, List, [], ◌∷◌, ◌++◌, Option, Some, None, option_map, codes, decimal, map}
+use Rattle.std.specs.Prelude.{ℕ, List, [], ◌∷◌, ◌++◌, Option, None, option_map, codes, decimal, map}
 use Rattle.std.specs.List.{filter, flat_map, join_with_byte}
 use Rattle.item_terms.specs.Bytes.{space}
 use Rattle.dir_bytes.specs.FieldTexts.{base64_text, hex_text}

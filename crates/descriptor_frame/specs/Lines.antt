@@ -8,7 +8,6 @@ use Rattle.dir_values.specs.Names.{is_nickname}
 use Rattle.dir_values.specs.Numbers.{port_of}
 use Rattle.dir_values.specs.Ports.{Ports, port_summary}
 use Rattle.dir_values.specs.declared.digest.Fingerprint.{Fingerprint}
-use Rattle.dir_values.specs.declared.policy.PolicyItem.{PolicyItem}
 use Rattle.dir_values.specs.declared.refusal.ValueRefusal.{ValueRefusal}
 use Rattle.dir_values.specs.declared.refusal.ValueRefusal.TheVariants.{BadValue, Memory}
 use Rattle.dirdoc_grammar.specs.Bodies.{decoded}

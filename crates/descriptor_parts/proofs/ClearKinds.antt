@@ -11,7 +11,6 @@ use Rattle.consensus_terms.specs.declared.flavour.Flavour.TheVariants.{Ns, Micro
 use Rattle.descriptor_frame.specs.Tables.{descriptor_tables}
 use Rattle.detached_frame.specs.Tables.{detached_tables}
 use Rattle.micro_desc.specs.Tables.{micro_tables}
-use Rattle.document_laws.specs.Clear.{AreClear}
 use Rattle.document_laws.specs.Tests.{IsRegarded, PassTests, is_clear}
 use Rattle.document_laws.proofs.Exact.{are_exact}
 use Rattle.document_laws.proofs.Tested.{are_clear}

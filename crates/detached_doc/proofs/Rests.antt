@@ -3,7 +3,6 @@ use Rattle.std.proofs.Common.{◌≡◌, ℕ, ◌<◌, Bool, true, false, List, 
 use Rattle.std.proofs.Common.{Option, append_assoc}
 use Rattle.std.specs.Prelude.{codes, if◌then◌else◌}
 use Rattle.std.specs.Str.{bytes_eq}
-use Rattle.std.proofs.lemmas.List.{append-nil}
 use Rattle.dir_bytes.specs.FieldTexts.{hex_text}
 use Rattle.dir_bytes.proofs.Spelling.{length-hex_text}
 use Rattle.dirdoc_grammar.specs.Bodies.{object_text}

@@ -1,5 +1,5 @@
 -- The text of detached signatures is that of its parts, one after the other.
-use Rattle.std.proofs.Common.{◌≡◌, ℕ, List, [], ◌∷◌, ◌++◌, map, refl, sym, ap, ◌∙◌}
+use Rattle.std.proofs.Common.{◌≡◌, ℕ, List, [], ◌∷◌, ◌++◌, map, refl, ap, ◌∙◌}
 use Rattle.std.specs.List.{flat_map}
 use Rattle.dirdoc_grammar.specs.Writing.{NewItem, item_text, items_text}
 use Rattle.frame_values.proofs.ItemsTexts.{sections}

@@ -2,10 +2,9 @@
 -- ns flavour (dir-spec, "Serving and fetching detached signatures").
 use Rattle.std.specs.Prelude.{ℕ, List, [], ◌∷◌, ◌++◌, Option, Some, None, codes, map, if◌then◌else◌}
 use Rattle.std.specs.List.{flat_map}
-use Rattle.std.specs.Str.{bytes_eq}
 use Rattle.item_terms.specs.Bytes.{space}
 use Rattle.dir_bytes.specs.FieldTexts.{hex_text}
-use Rattle.dirdoc_grammar.specs.Writing.{NewItem, item_text, items_text}
+use Rattle.dirdoc_grammar.specs.Writing.{NewItem, items_text}
 use Rattle.frame_terms.specs.declared.keyword.Keyword.TheVariants as the
 use Rattle.frame_values.specs.Items.{bare, timed, with_object}
 use Rattle.consensus_terms.specs.Signed.{signature_item}

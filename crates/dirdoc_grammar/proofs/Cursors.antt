@@ -4,7 +4,7 @@ use Rattle.std.proofs.lemmas.Bool.{cases_lt, lt-ltb, false≢true}
 use Rattle.std.proofs.lemmas.List.{length-append, length-drop, drop-append-le}
 use Rattle.item_terms.specs.Words.{begins_dash}
 use Rattle.item_terms.specs.Items as model
-use Rattle.item_terms.specs.Items.{Open, nothing, keyword_line, object_lines, also, failed}
+use Rattle.item_terms.specs.Items.{Open, nothing, keyword_line, object_lines}
 use Rattle.item_terms.specs.Steps.{with_line}
 use Rattle.dirdoc_grammar.specs.declared.cursor.Cursor.{Cursor}
 use Rattle.dirdoc_grammar.specs.declared.item.Item.{Item}

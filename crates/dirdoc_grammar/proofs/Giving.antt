@@ -3,7 +3,7 @@ use Rattle.std.proofs.Common.{◌≡◌, ℕ, ◌-◌, ◌<◌, ◌≤◌, Bool,
 use Rattle.std.proofs.lemmas.List.{length-drop, drop-append-le, drop-drop, append-nil}
 use Rattle.item_terms.specs.declared.fault.DocFault.{DocFault}
 use Rattle.item_terms.specs.Items as model
-use Rattle.item_terms.specs.Items.{Open, nothing, keyword_line, object_lines, also, failed}
+use Rattle.item_terms.specs.Items.{Open, nothing, also, failed}
 use Rattle.dirdoc_grammar.specs.declared.cursor.Cursor.{Cursor}
 use Rattle.dirdoc_grammar.specs.declared.item.Item.{Item}
 use Rattle.dirdoc_grammar.specs.declared.take.Take.TheVariants as take_

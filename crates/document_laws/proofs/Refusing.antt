@@ -25,7 +25,6 @@ use Rattle.frame_terms.specs.Documents.{with_one, without_inner}
 use Rattle.frame_terms.specs.Keywords.{word_of}
 use Rattle.frame_terms.specs.Order.{begins_document, first_of, following, inner, is_keyword, is_strange, opened_by}
 use Rattle.frame_terms.specs.Order.{opener, passed_over}
-use Rattle.frame_terms.specs.Refusals.{refused}
 use Rattle.frame_terms.specs.Rows.{is_many, limit_number}
 use Rattle.frame_terms.specs.Sections.{accept, lacking, lacking_but, row_of, stands, taken_as}
 use Rattle.frame_terms.specs.Standing.{as_made, begins, begins_again, by_keyword, by_row, elsewhere, ends, enters}

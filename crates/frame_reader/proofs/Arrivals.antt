@@ -1,5 +1,5 @@
 -- How a document goes on whose bytes arrive.
-use Rattle.std.proofs.Common.{◌≡◌, ◌∙◌, ℕ, ◌≤◌, List, [], ◌∷◌, ◌++◌, length, drop, append_assoc, Option, Some, None, Result, Ok, Err, refl, sym, ap, subst}
+use Rattle.std.proofs.Common.{◌≡◌, ◌∙◌, ℕ, ◌≤◌, List, [], ◌∷◌, ◌++◌, length, drop, append_assoc, Some, None, Result, Ok, Err, sym, ap, subst}
 use Rattle.std.proofs.lemmas.List.{drop-append-le}
 use Rattle.item_terms.specs.Items.{Item, Contents, contents, nothing, also, failed}
 use Rattle.dirdoc_grammar.specs.declared.cursor.Cursor.{Cursor}
@@ -12,7 +12,7 @@ use Rattle.std.proofs.Common.{false}
 use Rattle.frame_terms.specs.declared.document.Open.{Open}
 use Rattle.frame_terms.specs.declared.document.Taken.{Taken}
 use Rattle.frame_terms.specs.declared.fault.ReadRefusal.{ReadRefusal}
-use Rattle.frame_terms.specs.Documents.{Document, read_items, finish}
+use Rattle.frame_terms.specs.Documents.{read_items, finish}
 use Rattle.frame_terms.specs.Refusals.{of_doc, Fails}
 use Rattle.frame_terms.specs.Tables.{Tables}
 use Rattle.frame_reader.specs.Arriving.{goes_on, whole_of, ReadsOn, Follows, Feeds}

@@ -1,5 +1,5 @@
 -- A document that is read while its bytes arrive.
-use Rattle.std.specs.Prelude.{◌≡◌, ℕ, List, ◌∷◌, ◌++◌, false, Option, Some, None, Result, Ok, Err}
+use Rattle.std.specs.Prelude.{◌≡◌, ℕ, List, ◌∷◌, ◌++◌, false, Option, Result, Ok, Err}
 use Rattle.item_terms.specs.Items.{Item, contents, nothing}
 use Rattle.dirdoc_grammar.specs.declared.cursor.Cursor.{Cursor}
 use Rattle.dirdoc_grammar.specs.Cursors.{fed_by}

@@ -1,8 +1,7 @@
 -- A line of who signed a document, and the signature, is read again, whatever algorithm it names.
-use Rattle.std.proofs.Common.{◌≡◌, ℕ, ◌+◌, ◌<◌, Bool, true, List, [], ◌∷◌, length, Option, Some, None, Result, Ok, Err}
+use Rattle.std.proofs.Common.{◌≡◌, ℕ, ◌+◌, ◌<◌, true, List, [], ◌∷◌, length, Option, Some, None, Ok}
 use Rattle.std.proofs.Common.{refl, ap, ◌∙◌, arith, length-append}
-use Rattle.std.specs.Prelude.{IfSome, codes, is_some, option_map, if◌then◌else◌}
-use Rattle.std.specs.List.{join_with_byte}
+use Rattle.std.specs.Prelude.{codes, option_map, if◌then◌else◌}
 use Rattle.std.proofs.lemmas.List.Elements.{All-cons}
 use Rattle.item_terms.specs.Items.{Item}
 use Rattle.dir_bytes.specs.FieldTexts.{hex_text}
@@ -21,10 +20,10 @@ use Rattle.frame_values.specs.Signatures.{after_algorithm, algorithm_if, has_wor
 use Rattle.frame_values.specs.Signatures.{object_of, signature_of, signed_by}
 use Rattle.frame_values.specs.declared.found.Span.{Span}
 use Rattle.frame_values.specs.declared.found.VoteSignature.{VoteSignature}
-use Rattle.frame_laws.proofs.Words.{AreWords, IsWord, arguments_of_words, placed, two_words, word_of_identity}
+use Rattle.frame_laws.proofs.Words.{AreWords, IsWord, arguments_of_words, two_words, word_of_identity}
 use Rattle.frame_laws.proofs.WrittenItems.{identity_again, key_again, lines_at, space_first, start_of, word_is_there}
 use Rattle.group_laws.specs.Again.{IsSignerInRange, SignatureLinesAreReadAgain, named, signature_at, signature_said}
-use Rattle.group_laws.specs.Again.{signer_text, signer_words}
+use Rattle.group_laws.specs.Again.{signer_text}
 
 -- ---- items whose arguments are known
 

@@ -6,7 +6,7 @@ use Rattle.frame_terms.specs.Tables.{Tables}
 use Rattle.frame_terms.specs.declared.keyword.Keyword.{Keyword}
 use Rattle.frame_terms.specs.declared.keyword.Keyword.TheVariants as the
 use Rattle.frame_terms.specs.declared.row.Count.{Count}
-use Rattle.frame_terms.specs.declared.row.Count.TheVariants.{One, Optional}
+use Rattle.frame_terms.specs.declared.row.Count.TheVariants.{Optional}
 use Rattle.frame_values.specs.Fields.{span}
 use Rattle.frame_values.specs.Lines.{rest_of, source_of}
 use Rattle.frame_values.specs.Parts.{part}

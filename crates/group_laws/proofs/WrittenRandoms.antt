@@ -1,5 +1,5 @@
 -- A line of a shared random value that was written is read again.
-use Rattle.std.proofs.Common.{◌≡◌, ℕ, ◌+◌, true, List, [], ◌∷◌, ◌++◌, length, take, Option, Some, Ok, refl, ap, subst, ◌∙◌, arith}
+use Rattle.std.proofs.Common.{◌≡◌, ℕ, ◌+◌, true, List, [], ◌∷◌, ◌++◌, length, take, Some, Ok, refl, ap, subst, ◌∙◌, arith}
 use Rattle.std.proofs.Common.{length-append}
 use Rattle.std.specs.Prelude.{decimal, option_map, slice_index}
 use Rattle.std.specs.List.{list_all}

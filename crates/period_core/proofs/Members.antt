@@ -1,5 +1,5 @@
 -- What is of members of a roster, each once: there are no more than the roster has members.
-use Rattle.std.proofs.Common.{◌≡◌, ℕ, ◌+◌, ◌<◌, ◌≤◌, Bool, true, false, ◌||◌, List, [], ◌∷◌, ◌++◌, length, refl, sym}
+use Rattle.std.proofs.Common.{◌≡◌, ◌+◌, ◌<◌, ◌≤◌, Bool, true, false, ◌||◌, List, [], ◌∷◌, ◌++◌, length, refl, sym}
 use Rattle.std.proofs.Common.{◌∙◌, subst, arith, cond}
 use Rattle.std.specs.List.{list_any, filter}
 use Rattle.std.specs.Prelude.{not}

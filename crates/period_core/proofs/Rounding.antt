@@ -1,5 +1,5 @@
 -- What each stage comes to.
-use Rattle.std.proofs.Common.{◌≡◌, ℕ, ◌<◌, ◌≤◌, Bool, true, false, List, length, Option, Some, None}
+use Rattle.std.proofs.Common.{◌≡◌, ℕ, ◌<◌, ◌≤◌, true, List, length, Option, Some, None}
 use Rattle.std.proofs.Common.{refl, sym, ap, ◌∙◌, subst, le-ltb, lt-ltb}
 use Rattle.std.specs.Prelude.{Result, Ok, Err, IfOk}
 use Rattle.key_port.specs.Answers.{Relation, Rules}

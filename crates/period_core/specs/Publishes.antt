@@ -1,5 +1,4 @@
 -- What is to be published.
-use Rattle.std.specs.Prelude.{ℕ}
 use Rattle.period_terms.specs.declared.answer.Advance.TheVariants as answer
 use Rattle.period_terms.specs.declared.state.State.{State}
 use Rattle.period_terms.specs.Advances as advances

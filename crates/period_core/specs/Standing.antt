@@ -1,5 +1,5 @@
 -- What an authority keeps, whatever comes to it.
-use Rattle.std.specs.Prelude.{◌≡◌, ℕ, ◌+◌, ◌*◌, ◌≤◌, Bool, true, false, List, [], ◌∷◌, length, All}
+use Rattle.std.specs.Prelude.{◌≡◌, ℕ, ◌+◌, ◌*◌, ◌≤◌, true, false, List, [], ◌∷◌, length, All}
 use Rattle.std.specs.List.{list_any}
 use Rattle.dir_bytes.specs.Causes.{last_moment}
 use Rattle.dir_values.specs.declared.digest.Fingerprint.{Fingerprint}

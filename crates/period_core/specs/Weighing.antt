@@ -1,5 +1,5 @@
 -- What is told of an offered signature, before anything is changed.
-use Rattle.std.specs.Prelude.{ℕ, ◌==◌, Bool, not, option_map, List, Option, Some, None, if◌then◌else◌}
+use Rattle.std.specs.Prelude.{ℕ, ◌==◌, not, option_map, List, Option, Some, None, if◌then◌else◌}
 use Rattle.std.specs.Str.{bytes_eq}
 use Rattle.consensus_terms.specs.declared.flavour.Flavour.{Flavour}
 use Rattle.consensus_terms.specs.declared.flavour.Flavour.TheVariants.{Ns, Microdesc}

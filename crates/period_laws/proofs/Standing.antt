@@ -1,5 +1,5 @@
 -- When there are texts.
-use Rattle.std.proofs.Common.{◌≡◌, ℕ, Bool, true, false, is_some, List, [], ◌∷◌, Option, Some, None, refl, sym, ap}
+use Rattle.std.proofs.Common.{◌≡◌, true, false, is_some, List, [], ◌∷◌, Option, Some, None, refl, sym, ap}
 use Rattle.std.proofs.Common.{◌∙◌, subst}
 use Rattle.std.proofs.lemmas.Bool.{false≢true}
 use Rattle.vote_terms.specs.Votes.{ReadVote}
@@ -15,7 +15,7 @@ use Rattle.period_terms.specs.declared.event.Event.TheVariants.{Offered, Advance
 use Rattle.period_terms.specs.declared.event.Signing.{Signing}
 use Rattle.period_terms.specs.declared.signature.OfferedSignature.{OfferedSignature}
 use Rattle.period_terms.specs.declared.stage.Stage.{Stage}
-use Rattle.period_terms.specs.declared.stage.Stage.TheVariants.{Voting, Frozen, Computed, Signed, Ended}
+use Rattle.period_terms.specs.declared.stage.Stage.TheVariants.{Signed, Ended}
 use Rattle.period_terms.specs.declared.state.State.{State}
 use Rattle.period_terms.specs.States.{Outcome}
 use Rattle.period_terms.specs.Offers.{offer}
@@ -23,7 +23,7 @@ use Rattle.period_terms.specs.Advances.{advance}
 use Rattle.period_terms.specs.SignIns.{sign_in, line_of, with_line}
 use Rattle.period_terms.specs.Steps.{step}
 use Rattle.period_terms.specs.Histories.{IsStart, run}
-use Rattle.period_laws.specs.Periods.{has_texts, has_none, HasTextsByStage, TextsStand}
+use Rattle.period_laws.specs.Periods.{has_texts, has_none, TextsStand}
 use Rattle.period_laws.proofs.Rows.{Offering, Advancing, SigningIn, offering, advancing, signing_in, refused, had}
 use Rattle.period_laws.proofs.Rows.{kept, stays, freezes, computes, gives_up, passes_over, signs, publishes, misses}
 use Rattle.period_laws.proofs.Rows.{begins, refuses, keeps}

@@ -1,50 +1,41 @@
 -- Each step of a station keeps it.
-use Rattle.std.proofs.Common.{◌≡◌, ℕ, ◌<◌, ◌≤◌, ◌⊎◌, ◌&&◌, Bool, true, false, not, cond, is_some, List, [], ◌∷◌, ◌++◌}
-use Rattle.std.proofs.Common.{length, count_by, Option, Some, None, refl, sym, ap, ◌∙◌, subst, inl, inr, ⊎_elim}
-use Rattle.std.proofs.Common.{arith, filter, ◌≢◌, bytes_eq}
-use Rattle.std.proofs.lemmas.Bool.{false≢true, false_from_ne_true}
-use Rattle.std.specs.Cmp.Lexicographic.{bytes_decides}
-use Rattle.dir_values.proofs.Orders.{same_text}
+use Rattle.std.proofs.Common.{◌≡◌, ℕ, ◌<◌, ◌≤◌, ◌⊎◌, ◌&&◌, true, false, not, List, [], ◌∷◌, ◌++◌}
+use Rattle.std.proofs.Common.{Option, Some, None, refl, sym, ap, ◌∙◌, subst, inl, inr, ⊎_elim}
+use Rattle.std.proofs.Common.{filter, ◌≢◌}
+use Rattle.std.proofs.lemmas.Bool.{false≢true}
 use Rattle.dir_values.specs.declared.digest.Fingerprint.{Fingerprint}
 use Rattle.dir_values.specs.Digests.{same_identity}
-use Rattle.dir_values.specs.Rosters.{has_member}
-use Rattle.vote_terms.proofs.Orders.{same_one}
 use Rattle.consensus_terms.specs.declared.consensus.Consensus.{Consensus}
 use Rattle.consensus_terms.specs.declared.flavour.Flavour.{Flavour}
 use Rattle.consensus_terms.specs.declared.flavour.Flavour.TheVariants.{Ns, Microdesc}
 use Rattle.consensus_terms.specs.declared.signature.SignatureLine.{SignatureLine}
-use Rattle.count_terms.specs.Counts.{over}
 use Rattle.period_terms.specs.declared.answer.Advance.{Advance}
 use Rattle.period_terms.specs.declared.answer.Advance.TheVariants as moments
 use Rattle.period_terms.specs.declared.event.Event.{Event}
 use Rattle.period_terms.specs.declared.event.Signing.{Signing}
 use Rattle.period_terms.specs.declared.event.Event.TheVariants.{Offered, Advanced, SignedIn, Read}
 use Rattle.period_terms.specs.declared.signature.OfferedSignature.{OfferedSignature}
-use Rattle.period_terms.specs.declared.stage.Stage.{Stage}
 use Rattle.period_terms.specs.declared.stage.Stage.TheVariants.{Voting, Frozen, Computed, Signed, Ended}
 use Rattle.period_terms.specs.declared.state.State.{State}
 use Rattle.period_terms.specs.declared.answer.Offer.{Offer}
 use Rattle.period_terms.specs.declared.answer.SignIn.{SignIn}
-use Rattle.consensus_terms.specs.Texts.{unsigned}
 use Rattle.vote_terms.specs.Votes.{ReadVote}
-use Rattle.period_terms.specs.States.{Outcome, consensus_of, digest_of, has_line, is_signed, signers_in, with_signature}
+use Rattle.period_terms.specs.States.{Outcome, consensus_of, digest_of, with_signature}
 use Rattle.period_terms.specs.Offers.{offer}
 use Rattle.period_terms.specs.Advances.{advance, own_line}
 use Rattle.period_terms.specs.SignIns.{sign_in, line_of, with_line}
-use Rattle.period_terms.specs.Steps.{step, moment_changes}
+use Rattle.period_terms.specs.Steps.{step}
 use Rattle.period_laws.specs.Worlds as w
-use Rattle.period_laws.specs.Worlds.{World, WorldEvent, At, Elsewhere, SignedDigest, Publication, signed_by}
-use Rattle.period_laws.specs.Worlds.{signs_both, signs_at, signs_in, publishes_at, publishes_in, publications}
-use Rattle.period_laws.specs.Worlds.{publication, published_as, is_among, may_come, IsWorldStart, StationsSignOnce}
-use Rattle.period_laws.specs.Worlds.{SignedTwice, PublishedAgree, AllHonestAgree}
-use Rattle.period_laws.proofs.Members.{In, in_from, in_to, in_both, in_either, any_from, in_filter, over_with, shared}
+use Rattle.period_laws.specs.Worlds.{SignedDigest, signed_by}
+use Rattle.period_laws.specs.Worlds.{signs_both, signs_at, signs_in}
+use Rattle.period_laws.specs.Worlds.{is_among, may_come}
+use Rattle.period_laws.proofs.Members.{In, in_both, in_either, in_filter}
 use Rattle.period_laws.proofs.Rows.{Offering, Advancing, SigningIn, offering, advancing, signing_in, refused, had}
 use Rattle.period_laws.proofs.Rows.{kept, stays, freezes, computes, gives_up, passes_over, signs, publishes, misses}
 use Rattle.period_laws.proofs.Rows.{begins, refuses, keeps}
-use Rattle.period_laws.proofs.Digests.{among, member_of, among_more, has, and_true, itself}
-use Rattle.vote_schedule.specs.Schedules.{Schedule, IsSchedule}
+use Rattle.period_laws.proofs.Digests.{among}
 use Rattle.period_laws.proofs.LaterPeriods.{later}
-use Rattle.period_laws.proofs.Soundness.{has_signed, Ours, Lined, Sound, SoundAt, lined_more, sound_more}
+use Rattle.period_laws.proofs.Soundness.{has_signed, Lined, Sound, SoundAt, lined_more, sound_more}
 use Rattle.period_laws.proofs.Soundness.{nothing_more, no_claim, goes_on, Keeps, quiet, computes_it, begins_it}
 
 -- both digests are signed

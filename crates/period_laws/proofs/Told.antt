@@ -1,48 +1,31 @@
 -- The stored changes tell the state.
-use Rattle.std.proofs.Common.{zero, suc, ◌*◌, slice_index, ◌≡◌, ℕ, ◌+◌, ◌&&◌, ◌||◌, Bool, true, false, cond, not}
-use Rattle.std.proofs.Common.{List, [], ◌∷◌, ◌++◌, length, count_by, filter, Option, Some, None, option_map, refl}
-use Rattle.std.proofs.Common.{sym, ap, ◌∙◌, subst, arith, length-append}
-use Rattle.std.specs.List.{list_any}
-use Rattle.std.specs.Int.{to_be_bytes, w32}
-use Rattle.sha1.specs.Sha1.{sha1, digest_bytes}
-use Rattle.consensus_terms.specs.Texts.{unsigned}
-use Rattle.sha2.proofs.Facts256.{length-sha256}
-use Rattle.dir_values.specs.declared.digest.Fingerprint.{Fingerprint}
-use Rattle.dir_values.specs.Digests.{same_identity}
-use Rattle.vote_terms.specs.Votes.{ReadVote, rank_of}
-use Rattle.vote_terms.specs.Held.{placed}
-use Rattle.vote_terms.proofs.Orders.{same_one}
-use Rattle.consensus_terms.specs.declared.consensus.Consensus.{Consensus}
-use Rattle.consensus_terms.specs.declared.flavour.Flavour.{Flavour}
+use Rattle.std.proofs.Common.{◌*◌, ◌≡◌, ℕ, ◌+◌, ◌&&◌, ◌||◌}
+use Rattle.std.proofs.Common.{List, [], ◌∷◌, ◌++◌, Some, None, refl}
+use Rattle.std.proofs.Common.{sym, ◌∙◌, subst, arith}
+use Rattle.vote_terms.specs.Votes.{ReadVote}
 use Rattle.consensus_terms.specs.declared.flavour.Flavour.TheVariants.{Ns, Microdesc}
-use Rattle.consensus_terms.specs.declared.signature.SignatureLine.{SignatureLine}
 use Rattle.period_terms.specs.declared.answer.Advance.{Advance}
 use Rattle.period_terms.specs.declared.answer.Offer.{Offer}
 use Rattle.period_terms.specs.declared.answer.SignIn.{SignIn}
-use Rattle.period_terms.specs.declared.change.Change.{Change}
 use Rattle.period_terms.specs.declared.change.ChangeKind.TheVariants as kind
 use Rattle.period_terms.specs.declared.event.Event.{Event}
 use Rattle.period_terms.specs.declared.event.Signing.{Signing}
 use Rattle.period_terms.specs.declared.event.Event.TheVariants.{Offered, Advanced, SignedIn, Read}
 use Rattle.period_terms.specs.declared.signature.OfferedSignature.{OfferedSignature}
-use Rattle.period_terms.specs.declared.stage.Stage.{Stage}
-use Rattle.period_terms.specs.declared.stage.Stage.TheVariants.{Voting, Frozen, Computed, Signed, Ended}
+use Rattle.period_terms.specs.declared.stage.Stage.TheVariants.{Frozen, Computed, Signed, Ended}
 use Rattle.period_terms.specs.declared.state.State.{State}
-use Rattle.period_terms.specs.States.{Outcome, consensus_of, is_signed, with_change, vote_of, lines_of, has_line}
-use Rattle.period_terms.specs.States.{with_signature, text_digest, digest_of, both_digests, change}
-use Rattle.period_terms.specs.Offers.{offer, vote_change, with_vote}
-use Rattle.period_terms.specs.Advances.{advance, own_line, published_digests}
-use Rattle.period_terms.specs.SignIns.{sign_in, line_of, with_line}
+use Rattle.period_terms.specs.States.{Outcome, consensus_of, is_signed}
+use Rattle.period_terms.specs.States.{both_digests, change}
+use Rattle.period_terms.specs.Offers.{offer}
+use Rattle.period_terms.specs.Advances.{advance, published_digests}
+use Rattle.period_terms.specs.SignIns.{sign_in}
 use Rattle.period_terms.specs.Steps.{step}
 use Rattle.period_terms.specs.Histories.{IsStart, run}
 use Rattle.period_laws.specs.KeptLaws.{StepsKeepIt, ChangesTell}
-use Rattle.period_terms.specs.KeptFacts.{AgreesWithChanges, is_of, keeps_vote, keeps_vote_of, rank_told, last_of}
-use Rattle.period_terms.specs.KeptFacts.{last_rank, stage_by, last_stage, has_flavour, keeps_signature, keeps_line}
-use Rattle.period_terms.specs.KeptFacts.{was_kept}
 use Rattle.period_terms.proofs.Telling.{TellsAt, to_parts, from_parts, plain}
 use Rattle.period_terms.proofs.TellingVotes.{vote_tells}
 use Rattle.period_terms.proofs.TellingSigners.{sign_tells, signature_tells}
-use Rattle.period_laws.proofs.Rows.{Offering, Advancing, SigningIn, Beats, offering, advancing, signing_in, refused}
+use Rattle.period_laws.proofs.Rows.{Offering, Advancing, SigningIn, offering, advancing, signing_in, refused}
 use Rattle.period_laws.proofs.Rows.{had, kept, stays, freezes, computes, gives_up, passes_over, signs, publishes}
 use Rattle.period_laws.proofs.Rows.{misses, begins, refuses, keeps}
 

@@ -2,7 +2,6 @@
 use Rattle.std.specs.Prelude.{◌≡◌, ℕ, Bool, true, false, List, [], ◌∷◌, ◌++◌, Option, Some, None, if◌then◌else◌}
 use Rattle.vote_terms.specs.Votes.{ReadVote, rank_of}
 use Rattle.consensus_terms.specs.declared.consensus.Consensus.{Consensus}
-use Rattle.consensus_terms.specs.declared.flavour.Flavour.TheVariants.{Ns, Microdesc}
 use Rattle.period_terms.specs.declared.answer.Advance.{Advance}
 use Rattle.period_terms.specs.declared.answer.Advance.TheVariants as moments
 use Rattle.period_terms.specs.declared.answer.Answer.{Answer}

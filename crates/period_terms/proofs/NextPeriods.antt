@@ -7,7 +7,7 @@ use Rattle.dir_bytes.specs.Causes.{last_moment}
 use Rattle.vote_schedule.specs.Schedules.{Schedule, IsSchedule}
 use Rattle.vote_schedule.specs.Moments.{IsNext, AnswersNext, valid_until}
 use Rattle.vote_schedule.proofs.Multiples.{next_as_answered}
-use Rattle.period_terms.specs.Schedules.{multiple_from, next_begin, next_valid_after, NextIsNext}
+use Rattle.period_terms.specs.Schedules.{multiple_from, next_begin, NextIsNext}
 
 -- the first begin is the least multiple that serves
 begin_is_next : (s : Schedule) (after now : ℕ) → IsSchedule s → IsNext s after now (next_begin s after now)

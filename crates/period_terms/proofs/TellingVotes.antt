@@ -1,31 +1,17 @@
 -- What the change of a vote tells.
-use Rattle.std.proofs.Common.{◌≡◌, ℕ, ◌+◌, ◌&&◌, ◌||◌, Bool, true, false, cond, not, List, [], ◌∷◌, ◌++◌, length}
-use Rattle.std.proofs.Common.{count_by, filter, Option, Some, None, option_map, refl, sym, ap, ◌∙◌, subst, arith}
-use Rattle.std.proofs.Common.{length-append}
-use Rattle.std.specs.List.{list_any}
+use Rattle.std.proofs.Common.{◌≡◌, ℕ, ◌+◌, ◌&&◌, ◌||◌, Bool, true, false, cond, [], ◌∷◌, ◌++◌}
+use Rattle.std.proofs.Common.{Option, Some, option_map, refl, sym, ap, ◌∙◌, subst}
 use Rattle.dir_values.specs.declared.digest.Fingerprint.{Fingerprint}
 use Rattle.dir_values.specs.Digests.{same_identity}
 use Rattle.vote_terms.specs.Votes.{ReadVote, rank_of}
-use Rattle.consensus_terms.specs.declared.consensus.Consensus.{Consensus}
-use Rattle.consensus_terms.specs.declared.flavour.Flavour.{Flavour}
 use Rattle.consensus_terms.specs.declared.flavour.Flavour.TheVariants.{Ns, Microdesc}
-use Rattle.consensus_terms.specs.declared.signature.SignatureLine.{SignatureLine}
-use Rattle.period_terms.specs.declared.change.Change.{Change}
 use Rattle.period_terms.specs.declared.change.ChangeKind.TheVariants as kind
-use Rattle.period_terms.specs.declared.signature.OfferedSignature.{OfferedSignature}
-use Rattle.period_terms.specs.declared.stage.Stage.{Stage}
-use Rattle.period_terms.specs.declared.stage.Stage.TheVariants.{Voting, Signed}
 use Rattle.period_terms.specs.declared.state.State.{State}
 use Rattle.vote_terms.specs.Held.{placed}
 use Rattle.vote_terms.proofs.Orders.{same_one}
-use Rattle.period_terms.specs.States.{with_change, vote_of, lines_of, has_line}
-use Rattle.period_terms.specs.States.{with_signature, text_digest, digest_of, both_digests, change}
+use Rattle.period_terms.specs.States.{vote_of}
 use Rattle.period_terms.specs.Offers.{vote_change, with_vote}
-use Rattle.period_terms.specs.Advances.{own_line}
-use Rattle.period_terms.specs.SignIns.{with_line}
-use Rattle.period_terms.specs.KeptFacts.{AgreesWithChanges, is_of, keeps_vote, keeps_vote_of, rank_told, last_of}
-use Rattle.period_terms.specs.KeptFacts.{last_rank, stage_by, last_stage, has_flavour, keeps_signature, keeps_line}
-use Rattle.period_terms.specs.KeptFacts.{was_kept}
+use Rattle.period_terms.specs.KeptFacts.{keeps_vote_of, rank_told, last_of}
 use Rattle.period_terms.proofs.Placing.{Beats, placed_new, placed_other}
 use Rattle.period_terms.proofs.Telling.{TellsAt, signers_stay, rank_push, stage_push, count_push, length_push}
 

@@ -1,5 +1,5 @@
 -- What one thing that comes to an authority is answered, and what a whole list of them is.
-use Rattle.std.specs.Prelude.{◌≡◌, ℕ, List, [], ◌∷◌}
+use Rattle.std.specs.Prelude.{◌≡◌, List, [], ◌∷◌}
 use Rattle.key_port.specs.Answers.{Relation, Rules}
 use Rattle.vote_terms.specs.Votes.{ReadVote}
 use Rattle.period_terms.specs.declared.answer.Answer.{Answer}

@@ -1,8 +1,7 @@
 -- The places of the entries that belong to an identity, one vote after the other.
-use Rattle.std.proofs.Common.{◌≡◌, ℕ, zero, suc, ◌+◌, ◌<◌, ◌≤◌, Bool, true, false, cond, List, [], ◌∷◌, ◌++◌, Option, Some, None, length, get_or, drop, refl, sym, ap, ◌∙◌, subst, add-one, drop-cons, append_assoc, arith}
+use Rattle.std.proofs.Common.{◌≡◌, ℕ, ◌+◌, ◌<◌, ◌≤◌, Bool, true, false, cond, List, [], ◌∷◌, ◌++◌, Option, Some, None, length, drop, refl, sym, ap, ◌∙◌, subst, add-one, drop-cons, append_assoc}
 use Rattle.std.specs.Prelude.{All, IsSome, filter, slice_get}
-use Rattle.std.specs.Option.{option_to_list, option_map_or}
-use Rattle.std.specs.List.{filter_map}
+use Rattle.std.specs.Option.{option_to_list}
 use Rattle.std.proofs.lemmas.List.Elements.{filter-append, All-nil, All-cons, All-head, All-tail}
 use Rattle.std.proofs.lemmas.List.{append-nil, drop_all}
 use Rattle.std.proofs.lemmas.Option.{get_or_from_slice_get, slice_get_within}
@@ -17,7 +16,7 @@ use Rattle.compute_terms.specs.Identities.{belongs}
 use Rattle.compute_terms.specs.Routers.{belonging_listings}
 use Rattle.relay_select.specs.Walks.{place_from, member_in, members_from}
 use Rattle.relay_select.specs.Choices.{belongs_at, belonging_places}
-use Rattle.relay_select.proofs.Steps.{AreListings, members_list}
+use Rattle.relay_select.proofs.Steps.{members_list}
 
 -- ---- one vote
 

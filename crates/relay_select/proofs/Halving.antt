@@ -1,9 +1,8 @@
 -- Halving the entries of a vote, which ascend.
-use Rattle.std.proofs.Common.{◌≡◌, ℕ, zero, suc, ◌+◌, ◌-◌, ◌<◌, ◌≤◌, ◌⊎◌, Bool, true, false, List, [], ◌∷◌, Option, Some, None, length, get_or, drop, refl, sym, ap, ◌∙◌, subst, ⊎_elim, add-one, drop-cons, arith}
-use Rattle.std.specs.Str.{bytes_eq}
+use Rattle.std.proofs.Common.{◌≡◌, ℕ, zero, suc, ◌+◌, ◌-◌, ◌<◌, ◌≤◌, ◌⊎◌, true, false, List, [], ◌∷◌, Some, None, length, get_or, drop, refl, sym, ap, ◌∙◌, subst, ⊎_elim, add-one, drop-cons, arith}
 use Rattle.std.proofs.lemmas.Bool.{cases_lt}
 use Rattle.dir_values.specs.declared.digest.Fingerprint.{Fingerprint}
-use Rattle.dir_values.specs.Digests.{bytes_below, identity_below, same_identity}
+use Rattle.dir_values.specs.Digests.{identity_below, same_identity}
 use Rattle.dir_values.proofs.Orders.{below-trans, below_or_same, same_text}
 use Rattle.vote_terms.specs.declared.entry.EntryFacts.{EntryFacts}
 use Rattle.vote_terms.specs.Entries.{Ascending}

@@ -1,6 +1,6 @@
 -- The groups of a walk, and the lines that they give.
-use Rattle.std.proofs.Common.{◌≡◌, ℕ, zero, suc, ◌+◌, ◌<◌, Bool, true, false, List, [], ◌∷◌, ◌++◌, Option, Some, None, length, get_or, drop, map, refl, sym, ap, ◌∙◌, subst, add-one, append_assoc, arith}
-use Rattle.std.specs.Prelude.{All, IsSome, option_map, option_and_then, slice_get}
+use Rattle.std.proofs.Common.{◌≡◌, ℕ, zero, suc, ◌+◌, ◌<◌, Bool, true, false, List, [], ◌∷◌, ◌++◌, Option, Some, None, drop, map, refl, sym, ap, ◌∙◌, subst, add-one, append_assoc, arith}
+use Rattle.std.specs.Prelude.{All, IsSome, slice_get}
 use Rattle.std.specs.Option.{option_to_list}
 use Rattle.std.specs.List.{filter_map, find, cons_option}
 use Rattle.dir_values.specs.declared.digest.Fingerprint.{Fingerprint}

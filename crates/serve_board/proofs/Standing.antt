@@ -1,7 +1,7 @@
 -- What a value under a lock stands for after an event, and what the pass then knows.
 use Rattle.std.proofs.Common.{◌≡◌, ℕ, List, ◌++◌, None, Option, sym, ap, ◌∙◌, subst, append-nil, option_to_list}
 use mathlib.Core.List.{IsPrefix}
-use Rattle.period_lock.specs.Turns.{Lock, Knowledge, IsOf, OwnsItsPart, TakesTurn, entries, entry_by}
+use Rattle.period_lock.specs.Turns.{Lock, Knowledge, OwnsItsPart, TakesTurn, entries, entry_by}
 use Rattle.period_lock.proofs.Entries.{entries-entry_by}
 use Rattle.serve_board.specs.Turns.{Stands, TakesEvent, TakesReading, AnswersThere, FindsThere}
 

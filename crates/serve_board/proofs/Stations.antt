@@ -1,5 +1,5 @@
 -- A station under its lock after one more event.
-use Rattle.std.proofs.Common.{◌≡◌, ℕ, ◌+◌, List, ◌++◌, length, sym, ap, ◌∙◌, subst, option_to_list}
+use Rattle.std.proofs.Common.{◌≡◌, ◌+◌, List, ◌++◌, length, sym, ap, ◌∙◌, subst, option_to_list}
 use Rattle.key_port.specs.Answers.{Rules}
 use Rattle.period_terms.specs.declared.answer.Answer.{Answer}
 use Rattle.period_terms.specs.declared.entry.Entry.{Entry}

@@ -1,5 +1,5 @@
 -- Boards and their passes, and what one event says.
-use Rattle.std.specs.Prelude.{◌≡◌, ◌+◌, ℕ, List, All, map, length, Option, Some, None, Result, Ok, Err}
+use Rattle.std.specs.Prelude.{◌≡◌, ◌+◌, ℕ, List, map, length, Option, Some, None, Result, Ok, Err}
 use Rattle.dir_bytes.specs.declared.fault.Memory.{Memory}
 use Rattle.key_port.specs.Answers.{Relation, Rules}
 use Rattle.descriptor_doc.specs.declared.descriptor.Descriptor.{Descriptor}

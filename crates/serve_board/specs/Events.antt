@@ -9,12 +9,10 @@ use Rattle.vote_pool.specs.declared.answers.Keep.{Keep}
 use Rattle.vote_pool.specs.Pools.{Pooled, answer_to}
 use Rattle.period_terms.specs.declared.answer.Advance.{Advance}
 use Rattle.period_terms.specs.declared.answer.Advance.TheVariants as moments
-use Rattle.period_terms.specs.declared.answer.Answer.{Answer}
 use Rattle.period_terms.specs.declared.answer.Answer.TheVariants.{Vote, Moment, Signature}
 use Rattle.period_terms.specs.declared.answer.Offer.{Offer}
 use Rattle.period_terms.specs.declared.answer.SignIn.{SignIn}
 use Rattle.period_terms.specs.declared.entry.Entry.{Entry}
-use Rattle.period_terms.specs.declared.event.Event.{Event}
 use Rattle.period_terms.specs.declared.event.Event.TheVariants.{Offered, Advanced, SignedIn}
 use Rattle.period_terms.specs.declared.event.Via.{Via}
 use Rattle.period_terms.specs.declared.signature.OfferedSignature.{OfferedSignature}

@@ -18,7 +18,6 @@ use Rattle.http_words.specs.declared.asked.Asked.{Asked}
 use Rattle.http_words.specs.declared.asked.Asked.TheVariants as asked
 use Rattle.http_words.specs.declared.replies.Reply.{Reply}
 use Rattle.http_words.specs.Paths.{asked_by}
-use Rattle.vote_pool.specs.declared.answers.Keep.{Keep}
 use Rattle.vote_pool.specs.Pools.{Pooled, is_change}
 use Rattle.period_terms.specs.declared.answer.Answer.TheVariants.{Signature, Vote}
 use Rattle.period_terms.specs.declared.answer.SignIn.{SignIn}
@@ -31,7 +30,6 @@ use Rattle.period_terms.specs.Histories.{entry_if}
 use Rattle.period_terms.specs.declared.name.Name.TheVariants as names
 use Rattle.period_terms.specs.Readings.{document_of}
 use Rattle.serve_board.specs.Boards.{Locks, Parts, Looks, Sees}
-use Rattle.serve_board.specs.Stocks.{kept_if}
 use Rattle.serve_board.proofs.Going.{goes_looks, goes_sees}
 use Rattle.serve_answers.specs.Answers.{TakesDescriptor, TakesRuled, TakesVote}
 use Rattle.http_words.specs.Connections.{DoesFor, Handles}

@@ -10,7 +10,7 @@ use Rattle.std.proofs.lemmas.List.Elements.{All-cons, All-head, All-nil, All-tai
 use Rattle.dir_bytes.proofs.ReadAgain.{signed-signed_decimal}
 use Rattle.dir_bytes.specs.Fields.{signed}
 use Rattle.dir_values.specs.Arguments.{texts_of}
-use Rattle.dir_values.specs.FlagSets.{is_name, is_name_byte, unless_wrong, wrong_flag}
+use Rattle.dir_values.specs.FlagSets.{is_name, is_name_byte, unless_wrong}
 use Rattle.dir_values.specs.FlagSets as flag_sets
 use Rattle.dirdoc_grammar.specs.Writers.{is_argument}
 use Rattle.frame_laws.proofs.WordTexts.{AreWords, Dark, IsWord, all_three, both_dark, bytes_of, is_word, number_dark}

@@ -38,7 +38,7 @@ use Rattle.vote_feed.specs.Feeding.{EndsSo, IsFaulty, IsOpen, IsWhole, end_of}
 use Rattle.vote_feed.specs.Lending.{Comes, IsKeptOf, TakesIn, VoteSoFar, VoteWaits}
 use Rattle.vote_feed.specs.declared.intake.Intake.TheVariants as intake
 use Rattle.vote_feed.proofs.Going as going
-use Rattle.vote_feed.proofs.Going.{Late, Left, ends_late, ends_within}
+use Rattle.vote_feed.proofs.Going.{Late, ends_late, ends_within}
 use Rattle.vote_feed.proofs.LastItem.{last_item, whole_part}
 use Rattle.vote_feed.proofs.Opening.{not_beyond, open_now}
 use Rattle.vote_kinds.proofs.NoDocVotes.{vote_kinds_have_no_doc}

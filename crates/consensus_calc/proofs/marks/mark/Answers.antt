@@ -1,4 +1,4 @@
-use Rattle.std.proofs.Common.{◌≡◌, rules, List, [], ◌∷◌, ℕ, Bool, false, map, length, replicate, ap, sym, ◌∙◌, arith}
+use Rattle.std.proofs.Common.{◌≡◌, List, [], ◌∷◌, ℕ, Bool, false, map, length, replicate, ap, sym, ◌∙◌}
 use Rattle.dir_values.specs.Arguments.{Argument}
 use Rattle.dir_values.specs.FlagSets.{has_flag}
 use Rattle.dir_values.proofs.ArgumentWords.{arguments_words}

@@ -1,4 +1,3 @@
-use Rattle.std.proofs.Common.{rules}
 use Rattle.consensus_calc.proofs.Marking.{marked_at, marked_absent}
 use Rattle.consensus_calc.proofs.marks.mark_one.Goals as goal
 

@@ -1,6 +1,6 @@
-use Rattle.std.proofs.Common.{◌≡◌, ◌≤◌, ◌+◌, rules, ◌∙◌, ap, ℕ, List, Bool, length, map, replicate, get_or, arith}
+use Rattle.std.proofs.Common.{◌≡◌, ◌≤◌, ◌+◌, ◌∙◌, ap, ℕ, List, Bool, length, map, replicate, arith}
 use Rattle.std.proofs.lemmas.List.{length-map}
-use Rattle.consensus_calc.proofs.Counts.{knowing_more, none_known, zeros_few, added_few, VoteRow, vote_row}
+use Rattle.consensus_calc.proofs.Counts.{knowing_more, none_known, zeros_few, added_few, vote_row}
 use Rattle.consensus_calc.proofs.setting.count_knowing.Goals as goal
 
 pub votes-init : goal.votes-init

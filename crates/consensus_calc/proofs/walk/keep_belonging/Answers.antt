@@ -1,7 +1,7 @@
-use Rattle.std.proofs.Common.{◌≡◌, Some, ap, sym, ◌∙◌, arith, rules}
+use Rattle.std.proofs.Common.{◌≡◌, ap, sym, ◌∙◌, arith, rules}
 use Rattle.vote_terms.specs.declared.entry.EntryFacts.{EntryFacts}
 use Rattle.compute_terms.specs.Identities.{belongs}
-use Rattle.consensus_calc.proofs.Belonging.{kept_more, members_more, Standing, standing}
+use Rattle.consensus_calc.proofs.Belonging.{kept_more, members_more, standing}
 use Rattle.consensus_calc.proofs.walk.keep_belonging.Goals as goal
 
 pub group-preserved : goal.group-preserved

@@ -1,4 +1,4 @@
-use Rattle.std.proofs.Common.{List, ℕ, [], ◌++◌, sym}
+use Rattle.std.proofs.Common.{[], ◌++◌, sym}
 use Rattle.dir_bytes.specs.FieldTexts.{hex_text}
 use Rattle.dirdoc_grammar.specs.Writing.{item_text}
 use Rattle.frame_terms.specs.declared.keyword.Keyword.TheVariants as the

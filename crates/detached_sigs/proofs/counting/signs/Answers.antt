@@ -1,6 +1,5 @@
-use Rattle.std.proofs.Common.{◌≡◌, ◌∙◌, true, sym, subst}
+use Rattle.std.proofs.Common.{◌≡◌, ◌∙◌, true}
 use Rattle.key_port.specs.Answers.{rules}
-use Rattle.detached_sigs.specs.Signers.{has_bad_lines}
 use Rattle.detached_sigs.proofs.Asking.{answers_at, refused_next}
 use Rattle.detached_sigs.proofs.Signing.{bad_next}
 use Rattle.detached_sigs.proofs.counting.signs.Goals as goal

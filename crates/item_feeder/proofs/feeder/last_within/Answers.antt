@@ -1,7 +1,6 @@
-use Rattle.std.proofs.Common.{◌≡◌, ◌≤◌, Bool, true, false, eqb, List, ℕ, Some, refl, sym, ap, ◌∙◌, arith, length}
+use Rattle.std.proofs.Common.{◌≡◌, ◌≤◌, Bool, true, false, eqb, ap, ◌∙◌, arith}
 use Rattle.std.specs.Prelude.{◌&&◌}
 use Rattle.std.proofs.lemmas.Bool.{eq-eqb, ne_eqb}
-use Rattle.std.proofs.lemmas.List.{length-drop}
 use Rattle.item_terms.specs.declared.fault.DocReason.{DocReason}
 use Rattle.dirdoc_grammar.specs.Cursors.{fed_by}
 use Rattle.item_feeder.proofs.LastWithin.{over_by, settled_by}

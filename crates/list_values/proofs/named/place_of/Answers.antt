@@ -1,4 +1,4 @@
-use Rattle.std.proofs.Common.{rules, ℕ, List, sym, arith}
+use Rattle.std.proofs.Common.{rules, sym, arith}
 use Rattle.std.proofs.lemmas.List.Sorted.{IsPartitionPoint-from_clause}
 use Rattle.dir_values.specs.Digests.{bytes_below}
 use Rattle.list_values.specs.declared.named.Named.{Named}

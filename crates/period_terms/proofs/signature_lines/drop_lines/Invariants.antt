@@ -1,4 +1,4 @@
-use Rattle.std.proofs.Common.{◌≡◌, ◌≤◌, ◌-◌, length, vec_len, vec_capacity}
+use Rattle.std.proofs.Common.{◌≡◌, ◌≤◌, ◌-◌, vec_len, vec_capacity}
 use Rattle.period_terms.specs.Dropping.{dropped_from, lines_but}
 use Rattle.period_terms.proofs.signature_lines.drop_lines.Given as goal
 

@@ -2,7 +2,7 @@ use Rattle.std.proofs.Common.{◌≡◌, ◌∙◌, ap}
 use Rattle.std.specs.List.{filter_map}
 use Rattle.dir_values.specs.declared.digest.Digest1.{Digest1}
 use Rattle.count_terms.specs.Choosing.{chosen, text_order}
-use Rattle.compute_terms.specs.Lines.{policy_with, chosen_policy, chosen_micro}
+use Rattle.compute_terms.specs.Lines.{policy_with, chosen_micro}
 use Rattle.relay_select.proofs.choice.choice_with.Goals as goal
 
 pub returns-clause-value : goal.returns-clause-value

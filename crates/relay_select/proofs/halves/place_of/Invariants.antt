@@ -1,4 +1,4 @@
-use Rattle.std.proofs.Common.{◌≡◌, ◌≤◌, ◌-◌, None, true, drop, length}
+use Rattle.std.proofs.Common.{◌≡◌, ◌≤◌, ◌-◌, None, drop, length}
 use Rattle.vote_terms.specs.Entries.{Ascending}
 use Rattle.relay_select.specs.Walks.{place_from}
 use Rattle.relay_select.proofs.halves.place_of.Given as goal

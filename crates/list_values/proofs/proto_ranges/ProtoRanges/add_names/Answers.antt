@@ -1,4 +1,4 @@
-use Rattle.std.proofs.Common.{rules, ◌≡◌, ℕ, List, subst, ap, ◌∙◌}
+use Rattle.std.proofs.Common.{◌≡◌, ℕ, List, subst, ap, ◌∙◌}
 use Rattle.std.specs.Prelude.{OnOk, OnErr}
 use Rattle.std.specs.List.{fold}
 use Rattle.dir_values.specs.FlagSets.{with_flag}

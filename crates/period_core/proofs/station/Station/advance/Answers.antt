@@ -1,4 +1,4 @@
-use Rattle.std.proofs.Common.{◌≡◌, ◌<◌, ◌≤◌, ℕ, ap, sym, ◌∙◌, subst, arith}
+use Rattle.std.proofs.Common.{◌≡◌, ◌<◌, ◌≤◌, ℕ, ap, sym, ◌∙◌, subst}
 use Rattle.period_terms.specs.declared.state.State.{State}
 use Rattle.vote_schedule.specs.Moments as schedule_moments
 use Rattle.period_core.proofs.Rounding.{voting_early, voting_late, frozen, signed_early, signed_late, ended_early}

@@ -1,4 +1,4 @@
-use Rattle.std.proofs.Common.{◌<◌, ◌≤◌, inr, refl, sym, subst, arith, true, ◌≡◌}
+use Rattle.std.proofs.Common.{◌<◌, ◌≤◌, inr, sym, subst, arith, true, ◌≡◌}
 use Rattle.dir_values.specs.Rosters.{has_member}
 use Rattle.period_terms.specs.declared.state.State.{State}
 use Rattle.period_terms.specs.Offers.{most_vote_changes}

@@ -1,4 +1,4 @@
-use Rattle.std.proofs.Common.{◌≡◌, ◌∙◌, ◌++◌, ap, List, ℕ, length, take, arith}
+use Rattle.std.proofs.Common.{◌≡◌, ◌∙◌, ◌++◌, ap, List, ℕ, length, arith}
 use Rattle.std.proofs.lemmas.List.{take_all, length-append}
 use Rattle.period_terms.proofs.short_bytes.ShortBytes.of_two.Goals as goal
 
