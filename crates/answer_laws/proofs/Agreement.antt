@@ -33,9 +33,9 @@ same_truth true b there back = sym (there refl)
 same_truth false true there back = back refl
 same_truth false false there back = refl
 
-both : (a b : Bool) → a ≡ true → b ≡ true → (a && b) ≡ true
-both true b h k = k
-both false b h k = absurd (false≢true h)
+tests_hold_together : (a b : Bool) → a ≡ true → b ≡ true → (a && b) ≡ true
+tests_hold_together true b h k = k
+tests_hold_together false b h k = absurd (false≢true h)
 
 first_of : (a b : Bool) → (a && b) ≡ true → a ≡ true
 first_of true b h = refl
@@ -57,7 +57,7 @@ there rules digest keys lines signers member are some =
     let in_keys : Contains keys any.1 = subst (Contains keys) any.3 (are.members any.0 any.1 any.2) in
     let good : has_good_line rules digest lines any.1 ≡ true =
     subst (λ (k : SignerKey). has_good_line rules digest lines k ≡ true) any.3 (are.signed any.0 any.1 any.2) in
-    among (signs rules digest lines member) keys any.1 in_keys (both (is_of member any.1) _ any.4 good)
+    among (signs rules digest lines member) keys any.1 in_keys (tests_hold_together (is_of member any.1) _ any.4 good)
 
 back : (rules : Rules) (digest : List ℕ) (keys : List SignerKey) (lines : List SignatureLine)
     (signers : List SignerKey) (member : List ℕ) → ExactlyOneHolds rules.may_accept rules.may_refuse

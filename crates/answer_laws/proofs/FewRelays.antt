@@ -8,7 +8,7 @@ use Rattle.std.proofs.lemmas.List.Elements.{All-head, All-tail, All-weaker}
 use Rattle.dir_values.specs.Digests.{identity_below}
 use Rattle.dir_values.specs.FlagSets.{as_set}
 use Rattle.dir_values.specs.declared.digest.Fingerprint.{Fingerprint}
-use Rattle.vote_terms.specs.Held.{held, outranks, placed, same_authority}
+use Rattle.vote_terms.specs.Held.{held, outranks, votes_with, same_authority}
 use Rattle.vote_terms.specs.Votes.{ReadVote}
 use Rattle.vote_terms.specs.declared.entry.EntryFacts.{EntryFacts}
 use Rattle.compute_terms.specs.Consensuses.{facts_of}
@@ -46,14 +46,14 @@ module _ {X Y : Type 0} where
 
 -- ---- votes that are held
 
-placed_within : (votes : List ReadVote) (vote : ReadVote) → length (placed votes vote) ≤ suc (length votes)
+placed_within : (votes : List ReadVote) (vote : ReadVote) → length (votes_with votes vote) ≤ suc (length votes)
 placed_within [] vote = omega arith
 placed_within (first ∷ rest) vote =
     by (identity_below first.says.identity vote.says.identity) (same_authority first vote) (outranks vote first)
     (placed_within rest vote)
   where
-    by : (a b c : Bool) → length (placed rest vote) ≤ suc (length rest)
-        → length (if a then first ∷ placed rest vote
+    by : (a b c : Bool) → length (votes_with rest vote) ≤ suc (length rest)
+        → length (if a then first ∷ votes_with rest vote
         else if b then (if c then vote ∷ rest else first ∷ rest) else vote ∷ first ∷ rest)
         ≤ suc (length (first ∷ rest))
     by true b c more = omega (arith, more)
@@ -61,9 +61,9 @@ placed_within (first ∷ rest) vote =
     by false true false more = omega arith
     by false false c more = omega arith
 
-held_behind : (list votes : List ReadVote) → length (fold placed votes list) ≤ length votes + length list
+held_behind : (list votes : List ReadVote) → length (fold votes_with votes list) ≤ length votes + length list
 held_behind [] votes = omega arith
-held_behind (vote ∷ list) votes = omega (arith, held_behind list (placed votes vote), placed_within votes vote)
+held_behind (vote ∷ list) votes = omega (arith, held_behind list (votes_with votes vote), placed_within votes vote)
 
 -- no more votes are held than there are
 held_within : (list : List ReadVote) → length (held list) ≤ length list

@@ -8,7 +8,7 @@ use Rattle.descriptor_doc.specs.declared.descriptor.Descriptor.{Descriptor}
 use Rattle.vote_pool.specs.Pools.{Pooled, descriptor_for, most_changes, pool_after}
 use Rattle.answer_laws.specs.Newest.{AreNewest, AscendAndFit, IsNewest, NewestAreHeld, PoolRanksAgree, pool_of}
 use Rattle.answer_laws.proofs.Answers.{changes_once}
-use Rattle.answer_laws.proofs.OneMoreHeld.{fits_after, none_fit, Also, one_more}
+use Rattle.answer_laws.proofs.OneMoreHeld.{fits_after, none_fit, Also, newest_after_one_descriptor}
 
 -- ---- all that came
 
@@ -60,7 +60,7 @@ all_by such pool (new ∷ list) few fit are =
     (λ (c : Contains (new ∷ list) x). ⊎_elim (λ (is : x ≡ new). inl (inr is)) (λ (d : Contains list x). inr d)
     (front_or new x list c)) t)
     (all_by (Also such new) (pool_after pool new) list (omega (arith, changes_once pool new, few))
-    (fits_after pool new fit) (one_more such pool new (omega (arith, few)) fit are))
+    (fits_after pool new fit) (newest_after_one_descriptor such pool new (omega (arith, few)) fit are))
 
 none_such : AreNewest (λ (x : Descriptor). ⊥) []
 none_such = record { each = λ identity. inl (λ x s. absurd s) }

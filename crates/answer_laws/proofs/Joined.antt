@@ -52,9 +52,9 @@ same_head w x l m e = cc e
 same_tail : (w x : ReadVote) (l m : List ReadVote) → w ∷ l ≡ x ∷ m → l ≡ m
 same_tail w x l m e = cc e
 
-one_more : (w x : ReadVote) (l m before : List ReadVote) (v : ReadVote) (after : List ReadVote) → w ≡ x
+one_more_vote_in_front : (w x : ReadVote) (l m before : List ReadVote) (v : ReadVote) (after : List ReadVote) → w ≡ x
     → Place l m before v after → Place (w ∷ l) m (x ∷ before) v after
-one_more w x l m before v after e place = elim place [
+one_more_vote_in_front w x l m before v after e place = elim place [
   | in_first behind is ↦ in_first behind (ap (λ (y : ReadVote). y ∷ l) e ∙ ap (λ (t : List ReadVote). x ∷ t) is)
   | in_second ahead is at ↦ in_second ahead (ap (λ (t : List ReadVote). x ∷ t) is ∙ ap (λ (y : ReadVote). y ∷ (l ++ ahead)) (sym e)) at
 ]
@@ -63,7 +63,7 @@ place_of : (l m before : List ReadVote) (v : ReadVote) (after : List ReadVote) �
 place_of [] m before v after split = in_second before refl split
 place_of (w ∷ l) m [] v after split = in_first l (ap (λ (x : ReadVote). x ∷ l) (same_head w v (l ++ m) after split))
 place_of (w ∷ l) m (x ∷ before) v after split =
-    one_more w x l m before v after (same_head w x (l ++ m) (before ++ v ∷ after) split)
+    one_more_vote_in_front w x l m before v after (same_head w x (l ++ m) (before ++ v ∷ after) split)
     (place_of l m before v after (same_tail w x (l ++ m) (before ++ v ∷ after) split))
 
 -- a vote of the authority is held of the list in words, and is no lower than those of the list

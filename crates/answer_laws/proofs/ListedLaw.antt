@@ -57,9 +57,9 @@ some_if false t g h = refl
 some_if true (Some t) g h = refl
 some_if true None g h = h refl
 
-there : (votes : List ReadVote) (ed : EdPart) (members : List Listing) → is_running_and_valid (router_flags votes ed members) ≡ true → is_some (chosen_tuple (entries_of members)) ≡ true
-there votes ed [] h = absurd (false≢true (sym (not_running votes ed) ∙ h))
-there votes ed (l ∷ members) h = one_is_chosen tuple_order tuple_total tuple_ties (tuple_of l.entry) (map tuple_of (entries_of members))
+running_has_chosen_tuple : (votes : List ReadVote) (ed : EdPart) (members : List Listing) → is_running_and_valid (router_flags votes ed members) ≡ true → is_some (chosen_tuple (entries_of members)) ≡ true
+running_has_chosen_tuple votes ed [] h = absurd (false≢true (sym (not_running votes ed) ∙ h))
+running_has_chosen_tuple votes ed (l ∷ members) h = one_is_chosen tuple_order tuple_total tuple_ties (tuple_of l.entry) (map tuple_of (entries_of members))
 
 some_by : (roster m limit : ℕ) (votes : List ReadVote) (rsa : Fingerprint) (o : Option EdPart)
     → is_some (option_and_then (λ ed. router_as m (cap_of limit votes) votes rsa ed (belonging_listings ed (listings votes rsa))) o)
@@ -67,7 +67,7 @@ some_by : (roster m limit : ℕ) (votes : List ReadVote) (rsa : Fingerprint) (o 
 some_by roster m limit votes rsa None = refl
 some_by roster m limit votes rsa (Some ed) =
     let members = belonging_listings ed (listings votes rsa) in
-    some_if (is_running_and_valid (router_flags votes ed members)) (chosen_tuple (entries_of members)) (routerline_of m (cap_of limit votes) rsa (router_flags votes ed members) (entries_of members)) (there votes ed members)
+    some_if (is_running_and_valid (router_flags votes ed members)) (chosen_tuple (entries_of members)) (routerline_of m (cap_of limit votes) rsa (router_flags votes ed members) (entries_of members)) (running_has_chosen_tuple votes ed members)
 
 -- what is said of an identity is there exactly where it is listed
 some_is : (roster m limit : ℕ) (votes : List ReadVote) (rsa : Fingerprint) → is_some (router_of roster m limit votes rsa) ≡ is_listed_relay roster votes rsa

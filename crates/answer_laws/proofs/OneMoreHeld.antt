@@ -243,10 +243,10 @@ one_by false such pool new identity other few fit is = elim (case pool new) [
       other_by such pool new identity fit (grown pool new (Some held) _ fit c e refl) other is
 ]
 
-pub one_more : (such : Descriptor → Type 0) (pool : Pooled) (new : Descriptor) → pool.changes < most_changes
+pub newest_after_one_descriptor : (such : Descriptor → Type 0) (pool : Pooled) (new : Descriptor) → pool.changes < most_changes
     → AscendAndFit pool.descriptors → AreNewest such pool.descriptors
     → AreNewest (Also such new) (pool_after pool new).descriptors
-one_more such pool new few fit are = record {
+newest_after_one_descriptor such pool new few fit are = record {
   each = λ identity.
       one_by _ such pool new identity refl (grind (arith, nat_tests, few)) fit (are.each identity);
 }

@@ -30,8 +30,8 @@ there_by false false false false true s va now a b c d e =
     rw (a, b, c, d, e) (grind (arith, nat_tests, e), grind (arith, nat_tests, d))
 there_by false false false false false s va now a b c d e = rw (a, b, c, d, e) (grind (arith, nat_tests, e))
 
-there : (s : Schedule) (va now : ℕ) → IsPhase s va now (phase_of s va now)
-there s va now = there_by _ _ _ _ _ s va now refl refl refl refl refl
+moment_is_in_its_phase : (s : Schedule) (va now : ℕ) → IsPhase s va now (phase_of s va now)
+moment_is_in_its_phase s va now = there_by _ _ _ _ _ s va now refl refl refl refl refl
 
 -- no moment is in two phases
 one_phase : (s : Schedule) (va now : ℕ) → Ascend s va → (a b : Phase) → IsPhase s va now a → IsPhase s va now b → a ≡ b
@@ -82,7 +82,7 @@ one_phase s va now up phase.Past phase.Past i j = refl
 
 pub between : PhasesAreBetween
 between s va now is schedule fits = (
-  λ (same : phase_of s va now ≡ is). subst (IsPhase s va now) same (there s va now),
+  λ (same : phase_of s va now ≡ is). subst (IsPhase s va now) same (moment_is_in_its_phase s va now),
   λ (stands : IsPhase s va now is).
-      one_phase s va now (ascend s va schedule fits) (phase_of s va now) is (there s va now) stands,
+      one_phase s va now (ascend s va schedule fits) (phase_of s va now) is (moment_is_in_its_phase s va now) stands,
 )

@@ -81,16 +81,16 @@ split_by (Ok (vote, end)) more votes behind is =
 split_by (Err (read.Frame fault)) more votes behind is = absurd (cc is)
 split_by (Err read.Memory) more votes behind is = absurd (cc is)
 
-there : (room place : ℕ) (bytes : List ℕ) (votes : List ReadVote) (behind : ℕ)
+votes_stand_before : (room place : ℕ) (bytes : List ℕ) (votes : List ReadVote) (behind : ℕ)
     → votes_from room place bytes ≡ read_as votes behind
     → AreVotesBefore place votes behind bytes × (length votes ≤ room)
 unfolding votes_from
-there zero place bytes votes behind is =
+votes_stand_before zero place bytes votes behind is =
     elim (comes_by place bytes too_many votes behind is) [
       | line_comes line none ↦ rw none (line, omega arith)
       | vote_comes why other none ↦ absurd (cc none)
     ]
-there (suc room) place bytes votes behind is =
+votes_stand_before (suc room) place bytes votes behind is =
     elim (comes_by place bytes
     (λ (f : FrameFault). then_votes (of_vote (vote_from place bytes))
     (λ r. with_front (r.0 ∷ []) (votes_from room r.1 bytes))) votes behind is) [
@@ -98,7 +98,7 @@ there (suc room) place bytes votes behind is =
       | vote_comes why other more ↦
           elim (split_by (vote_from place bytes) (λ r. votes_from room r.1 bytes) votes behind more) [
             | splits vote end others found rest are ↦
-                let t = there room end bytes others behind rest in
+                let t = votes_stand_before room end bytes others behind rest in
                 rw are ((other, end, found, t.0), omega (arith, t.1))
           ]
     ]
@@ -134,4 +134,4 @@ back (suc room) place bytes (vote ∷ votes) behind are le =
 
 pub report_inputs_are_votes : ReportInputsAreVotes
 report_inputs_are_votes bytes votes behind =
-    (there most_votes 0 bytes votes behind, λ are. back most_votes 0 bytes votes behind are.0 are.1)
+    (votes_stand_before most_votes 0 bytes votes behind, λ are. back most_votes 0 bytes votes behind are.0 are.1)

@@ -37,19 +37,19 @@ either_by : (next : Option ReadRefusal) (read : Result (List ReadVote) ReadRefus
 either_by None read votes e = nothing refl (cc e)
 either_by (Some refusal) read votes e = something (λ n. cc n) e
 
-pub there : (room place : ℕ) (bytes : List ℕ) (votes : List ReadVote) → votes_from room place bytes ≡ Ok votes
+pub votes_stand : (room place : ℕ) (bytes : List ℕ) (votes : List ReadVote) → votes_from room place bytes ≡ Ok votes
     → AreVotes place votes bytes × (length votes ≤ room)
 unfolding votes_from
-there zero place bytes votes e =
+votes_stand zero place bytes votes e =
     let n = ends_by (one_more place bytes) votes e in
     rw n.1 (n.0, omega arith)
-there (suc room) place bytes votes e =
+votes_stand (suc room) place bytes votes e =
     elim (either_by (one_more place bytes) (then_votes (vote_from place bytes) (λ r. with_front (r.0 ∷ []) (votes_from room r.1 bytes))) votes e) [
       | nothing n is ↦ rw is (n, omega arith)
       | something n is ↦
           elim (split_by (vote_from place bytes) (λ r. votes_from room r.1 bytes) votes is) [
             | splits vote end rest read more whole ↦
-                let t = there room end bytes rest more in
+                let t = votes_stand room end bytes rest more in
                 rw whole ((n, end, read, t.0), omega (arith, t.1))
           ]
     ]
@@ -73,4 +73,4 @@ back (suc room) place bytes (vote ∷ votes) are le =
     ∙ ap (with_front (vote ∷ [])) (back room are.1 bytes votes are.3 (omega (arith, le)))
 
 pub inputs_are_votes : InputsAreVotes
-inputs_are_votes bytes votes = (there most_votes 0 bytes votes, λ are. back most_votes 0 bytes votes are.0 are.1)
+inputs_are_votes bytes votes = (votes_stand most_votes 0 bytes votes, λ are. back most_votes 0 bytes votes are.0 are.1)

@@ -4,7 +4,7 @@ use Rattle.std.specs.Prelude.{ℕ, List, [], ◌∷◌, ◌++◌, codes}
 use Rattle.dir_bytes.specs.FieldTexts.{hex_text}
 use Rattle.dirdoc_grammar.specs.Writing.{NewItem, items_text}
 use Rattle.frame_terms.specs.declared.keyword.Keyword.TheVariants as the
-use Rattle.frame_values.specs.Items.{bare, with_object, item_if, timed}
+use Rattle.frame_values.specs.Items.{bare, with_object, item_if, moment_item}
 use Rattle.authority_certs.specs.declared.cert.Cert.{Cert}
 
 -- whose certificate it is
@@ -17,7 +17,7 @@ holder_items cert =
 abbrev pub key_items : Cert → List NewItem
 key_items cert =
     with_object the.DirIdentityKey [] (codes "RSA PUBLIC KEY") cert.identity_key
-    ∷ timed the.DirKeyPublished cert.published ∷ timed the.DirKeyExpires cert.expires
+    ∷ moment_item the.DirKeyPublished cert.published ∷ moment_item the.DirKeyExpires cert.expires
     ∷ with_object the.DirSigningKey [] (codes "RSA PUBLIC KEY") cert.signing_key ∷ []
 
 -- its signatures

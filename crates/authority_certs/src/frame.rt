@@ -1,6 +1,6 @@
 // The frame of a certificate: the table of its items, and what they say.
 ghost use Rattle.std.specs.Prelude.{◌≡◌};
-ghost use Rattle.dirdoc_grammar.specs.Seen.{seen, IsInside};
+ghost use Rattle.dirdoc_grammar.specs.Seen.{seen_item, IsInside};
 ghost use Rattle.authority_certs.specs.Tables as tables;
 
 use dirdoc_grammar::Item;
@@ -86,7 +86,7 @@ pub fn cert_shape<S>() -> Shape<S>
 /// The place of what is wrong.
 pub fn cert_value<V>(kind: CertKind, item: &Item<'_>) -> Result<Value<V>, u64>
     requires { IsInside item.now }
-    ensures { result ≡ tables.cert_value kind (seen item.now) }
+    ensures { result ≡ tables.cert_value kind (seen_item item.now) }
 {
     match kind {
         CertKind::Version => {

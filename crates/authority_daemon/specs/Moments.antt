@@ -46,5 +46,5 @@ pub record Telling (C G : Type 0) : Type 0 where
   pub closed : G → Bool
 
 -- these
-abbrev pub telling : {C G : Type 0} → (C → ℕ) → (C → ℕ) → (G → ℕ) → (G → Bool) → Telling C G
-telling last asks faults closed = record { last = last; asks = asks; faults = faults; closed = closed }
+abbrev pub telling_of : {C G : Type 0} → (C → ℕ) → (C → ℕ) → (G → ℕ) → (G → Bool) → Telling C G
+telling_of last asks faults closed = record { last = last; asks = asks; faults = faults; closed = closed }

@@ -5,7 +5,7 @@ ghost use Rattle.daemon_words.specs.Words as grammar;
 ghost use Rattle.exit_status.specs.Lines.{line_of};
 ghost use Rattle.exit_status.specs.Reports.{Reports};
 ghost use Rattle.serve_command.specs.Serving.{HasWorkers};
-ghost use Rattle.authority_daemon.specs.Moments.{telling};
+ghost use Rattle.authority_daemon.specs.Moments.{telling_of};
 ghost use Rattle.authority_daemon.specs.Commands.{may};
 ghost use Rattle.authority_daemon.specs.World.{AnswersWhatItMust, Runs};
 
@@ -46,7 +46,7 @@ pub fn run<
     requires workers { HasWorkers outside.old }
     // The words, the input, the text, the faults, and what is asked.
     ensures run { let at = ⟦<Outside<S, K, E, C, V, N, G, L> as Stands<S, C, V, N, G, L>>⟧.at in
-        Runs (may V.may_accept V.may_refuse N.may_give N.steps) (telling C.last C.asks G.faults G.closed)
+        Runs (may V.may_accept V.may_refuse N.may_give N.steps) (telling_of C.last C.asks G.faults G.closed)
         (grammar.command_of words.now) (at outside.old) (at outside.new) result }
     // The errors sink gets the line of the status.
     ensures errors { Reports (E.written outside.old.errors) (E.written outside.new.errors)
@@ -76,7 +76,7 @@ fn run_command<
 >(rt: &H, alloc: Global, words: &[String], outside: &mut Outside<S, K, E, C, V, N, G, L>) -> Status
     requires workers { HasWorkers outside.old }
     ensures run { let at = ⟦<Outside<S, K, E, C, V, N, G, L> as Stands<S, C, V, N, G, L>>⟧.at in
-        Runs (may V.may_accept V.may_refuse N.may_give N.steps) (telling C.last C.asks G.faults G.closed)
+        Runs (may V.may_accept V.may_refuse N.may_give N.steps) (telling_of C.last C.asks G.faults G.closed)
         (grammar.command_of words.now) (at outside.old) (at outside.new) result }
     ensures quiet { outside.new.errors ≡ outside.old.errors }
 {

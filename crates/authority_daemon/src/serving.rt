@@ -2,7 +2,7 @@
 ghost use Rattle.std.specs.Prelude.{◌≡◌};
 ghost use Rattle.serve_command.specs.Serving.{HasWorkers};
 ghost use Rattle.authority_daemon.specs.Commands.{may};
-ghost use Rattle.authority_daemon.specs.Moments.{telling};
+ghost use Rattle.authority_daemon.specs.Moments.{telling_of};
 ghost use Rattle.authority_daemon.specs.Served as its;
 ghost use Rattle.authority_daemon.specs.Served.{IsServed};
 
@@ -45,7 +45,7 @@ pub(crate) fn run_serving<
 >(rt: &H, alloc: Global, wanted: &Serve, outside: &mut Outside<S, K, E, C, V, N, G, L>) -> Status
     requires workers { HasWorkers outside.old }
     ensures run { let at = ⟦<Outside<S, K, E, C, V, N, G, L> as Stands<S, C, V, N, G, L>>⟧.at in
-        IsServed (may V.may_accept V.may_refuse N.may_give N.steps) (telling C.last C.asks G.faults G.closed) wanted.now
+        IsServed (may V.may_accept V.may_refuse N.may_give N.steps) (telling_of C.last C.asks G.faults G.closed) wanted.now
         (at outside.old) (at outside.new) result }
     ensures quiet { outside.new.errors ≡ outside.old.errors }
 {

@@ -32,9 +32,9 @@ abbrev line_with : List ℕ → Bool → Line
 line_with text ended = record { text = text; ended = ended }
 
 -- the lines before the first that ends it, with one more in front
-one_more : (line : Line) (rest : List Line)
+lines_before_one_more_in_front : (line : Line) (rest : List Line)
     → lines_before (line ∷ rest) ≡ (if not (is_end line) then line ∷ lines_before rest else [])
-one_more line rest = take_while-cons (λ (other : Line). not (is_end other)) line rest
+lines_before_one_more_in_front line rest = take_while-cons (λ (other : Line). not (is_end other)) line rest
 
 -- none of some lines ends it: all of them stand before the first that does
 all_before : (before rest : List Line) → list_any is_end before ≡ false
@@ -47,7 +47,7 @@ all_before (line ∷ before) rest none = by (is_end line) refl none (all_before 
         → lines_before ((line ∷ before) ++ rest) ≡ (line ∷ before) ++ lines_before rest
     by true is wrong later = absurd cc
     by false is none later =
-        one_more line (before ++ rest)
+        lines_before_one_more_in_front line (before ++ rest)
         ∙ ap (λ (b : Bool). if not b then line ∷ lines_before (before ++ rest) else []) is
         ∙ ap (λ (l : List Line). line ∷ l) (later none)
 
@@ -63,7 +63,7 @@ found_there before rest line none is =
     let any : list_any is_end (before ++ line ∷ rest) ≡ true =
     any_behind before (line ∷ rest) none ∙ ap (λ (b : Bool). b || list_any is_end rest) is in
     let front : lines_before (before ++ line ∷ rest) ≡ before =
-    all_before before (line ∷ rest) none ∙ ap (λ (l : List Line). before ++ l) (one_more line rest)
+    all_before before (line ∷ rest) none ∙ ap (λ (l : List Line). before ++ l) (lines_before_one_more_in_front line rest)
     ∙ ap (λ (b : Bool). before ++ (if not b then line ∷ lines_before rest else [])) is ∙ append-nil before in
     ap₂ (λ (b : Bool) (l : List Line). if b then Some (place_of l) else None) any front
 

@@ -15,7 +15,7 @@ use Rattle.bandwidth_file.specs.declared.said.Row.{Row}
 use Rattle.bandwidth_file.specs.declared.refusal.BandReason.TheVariants as reason
 use Rattle.bandwidth_file.specs.Files.{max_relays, many_fault}
 use Rattle.bandwidth_file.specs.Lines.{at}
-use Rattle.bandwidth_file.specs.Gathered.{gathered}
+use Rattle.bandwidth_file.specs.Gathered.{gathered_values}
 use Rattle.bandwidth_file.specs.Relays.{last_bandwidth, new_row, number_of_identities, bandwidth_in}
 use Rattle.bandwidth_file.specs.Lending.{one_if_new, is_over, HasRow, HasRows}
 use Rattle.bandwidth_file.proofs.Gathering.{gathered_one}
@@ -44,7 +44,7 @@ pub number_with_row : (rows : List Row) (row : Row)
     → number_of_identities (rows ++ row ∷ []) ≡ number_of_identities rows + (if is_some (last_bandwidth rows row.identity) then 0 else 1)
 number_with_row rows row =
     ap (λ (l : List Row). length l) (gathered_one new_row rows row)
-    ∙ length-append (gathered new_row rows) (option_to_list (new_row rows row))
+    ∙ length-append (gathered_values new_row rows) (option_to_list (new_row rows row))
     ∙ ap (λ (n : ℕ). number_of_identities rows + n) (counted (is_some (last_bandwidth rows row.identity)) row)
 
 -- what a tree finds of an identity

@@ -13,8 +13,8 @@ use Rattle.bandwidth_file.specs.Lines.{place_of}
 use Rattle.bandwidth_file.specs.Files.{is_filled, ends_header, section_behind, section_of}
 use Rattle.bandwidth_file.specs.Lending.{next_section}
 
-abbrev ends : Line → Bool
-ends line = ends_header line.text
+abbrev line_ends_header : Line → Bool
+line_ends_header line = ends_header line.text
 
 abbrev by_ends : Bool → Section
 by_ends ended = if ended then section.Relays else section.Headers
@@ -29,7 +29,7 @@ either false text = elim (ends_header text) as (λ b. by_ends (b || false) ≡ b
 -- one more line with more than blanks
 filled : (before : List Line) (line : Line) → section_behind (before ++ line ∷ []) ≡ next_section (section_behind before) line.text
 filled [] line = refl
-filled (first ∷ rest) line = ap by_ends (list_any-append ends rest (line ∷ [])) ∙ either (list_any ends rest) line.text
+filled (first ∷ rest) line = ap by_ends (list_any-append line_ends_header rest (line ∷ [])) ∙ either (list_any line_ends_header rest) line.text
 
 -- one more line
 pub section_grows : (before : List Line) (line : Line) (blank : Bool) → is_blank_line line.text ≡ blank

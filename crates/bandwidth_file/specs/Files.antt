@@ -17,7 +17,7 @@ use Rattle.bandwidth_file.specs.declared.said.Said.{Said}
 use Rattle.bandwidth_file.specs.declared.said.Said.TheVariants as said
 use Rattle.bandwidth_file.specs.declared.section.Section.{Section}
 use Rattle.bandwidth_file.specs.declared.section.Section.TheVariants as section
-use Rattle.bandwidth_file.specs.Gathered.{gathered}
+use Rattle.bandwidth_file.specs.Gathered.{gathered_values}
 use Rattle.bandwidth_file.specs.Lines.{at, place_of, line_fault, last_value, node_id}
 use Rattle.bandwidth_file.specs.Relays.{relay_line, last_bandwidth, number_of_identities, bandwidth_in, Ascend}
 
@@ -115,15 +115,15 @@ row_in (said.Wrong fault) = None
 
 -- the time of measuring
 abbrev pub times_of : List Line → List ℕ
-times_of file = gathered (λ before line. time_in (said_by before line)) file
+times_of file = gathered_values (λ before line. time_in (said_by before line)) file
 
 -- the headers, in their order
 abbrev pub headers_of : List Line → List Header
-headers_of file = gathered (λ before line. header_in line.text (said_by before line)) file
+headers_of file = gathered_values (λ before line. header_in line.text (said_by before line)) file
 
 -- the rows of relay lines, in their order
 abbrev pub rows_of : List Line → List Row
-rows_of file = gathered (λ before line. row_in (said_by before line)) file
+rows_of file = gathered_values (λ before line. row_in (said_by before line)) file
 
 -- ---- faults
 
@@ -147,7 +147,7 @@ fault_of before line = fault_in (rows_of before) (place_of before) (said_by befo
 
 -- what is wrong with the lines of a file, in their order
 abbrev pub faults_of : List Line → List BandFault
-faults_of file = gathered fault_of file
+faults_of file = gathered_values fault_of file
 
 -- a file without a line has no time of measuring
 abbrev pub end_fault : List Line → Option BandFault

@@ -10,5 +10,5 @@ module _ {A B : Type 0} where
       cons_option (says before item) (gathered_behind says (before ++ item ∷ []) rest)
 
   -- what the items of a list say, each by those before it
-  abbrev pub gathered : (List A → A → Option B) → List A → List B
-  gathered says items = gathered_behind says [] items
+  abbrev pub gathered_values : (List A → A → Option B) → List A → List B
+  gathered_values says items = gathered_behind says [] items

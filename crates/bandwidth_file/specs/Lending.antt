@@ -19,8 +19,8 @@ use Rattle.bandwidth_file.specs.Files.{max_relays, ends_header, section_of, time
 use Rattle.bandwidth_file.specs.Files.{headers_of, rows_of, fault_in, faults_of}
 
 -- a line as a contract sees it
-abbrev pub seen : LineText → Line
-seen line = record { text = line.text.now; ended = line.ended }
+abbrev pub line_seen : LineText → Line
+line_seen line = record { text = line.text.now; ended = line.ended }
 
 -- an item, if there is one, as a contract sees it
 abbrev pub item_seen : Option TextAt → Option Argument

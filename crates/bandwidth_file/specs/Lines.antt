@@ -26,14 +26,14 @@ abbrev pub too_long : ℕ → Line → Option BandFault
 too_long place line = if nat_lt max_line (size line) then Some (at (place + max_line) LineTooLong) else None
 
 -- a line without its NL: the input ends there
-abbrev pub unterminated : ℕ → Line → Option BandFault
-unterminated place line = if line.ended then None else Some (at (place + length line.text) Unterminated)
+abbrev pub unterminated_fault : ℕ → Line → Option BandFault
+unterminated_fault place line = if line.ended then None else Some (at (place + length line.text) Unterminated)
 
 -- the first fault of a line at a place, whatever stands in it
 abbrev pub line_fault : ℕ → Line → Option BandFault
 line_fault place line =
     option_or (too_long place line)
-    (option_or (unterminated place line) (option_map (λ offset. at (place + offset) Nul) (nul_in line.text)))
+    (option_or (unterminated_fault place line) (option_map (λ offset. at (place + offset) Nul) (nul_in line.text)))
 
 -- ---- items `key=value`, with blanks between them
 

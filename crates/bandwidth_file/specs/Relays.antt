@@ -17,7 +17,7 @@ use Rattle.bandwidth_file.specs.declared.refusal.BandReason.TheVariants as reaso
 use Rattle.bandwidth_file.specs.declared.said.Row.{Row}
 use Rattle.bandwidth_file.specs.declared.said.Said.{Said}
 use Rattle.bandwidth_file.specs.declared.said.Said.TheVariants as said
-use Rattle.bandwidth_file.specs.Gathered.{gathered}
+use Rattle.bandwidth_file.specs.Gathered.{gathered_values}
 use Rattle.bandwidth_file.specs.Lines.{at, last_value, node_id, bw, vote}
 
 -- the text without a `$` in front
@@ -68,7 +68,7 @@ new_row before row = if is_some (last_bandwidth before row.identity) then None e
 
 -- how many identities some rows have
 abbrev pub number_of_identities : List Row → ℕ
-number_of_identities rows = length (gathered new_row rows)
+number_of_identities rows = length (gathered_values new_row rows)
 
 -- the bandwidth of an identity in a list of identities with bandwidths
 abbrev pub bandwidth_in : List (Fingerprint × ℕ) → Fingerprint → Option ℕ

@@ -2,7 +2,7 @@
 ghost use Rattle.std.specs.Prelude.{◌≡◌, ◌+◌, ◌<◌, ◌≤◌, ◌^◌, length, drop, ◌∷◌, IfSome};
 ghost use Rattle.item_terms.specs.Lines.{lines, size};
 ghost use Rattle.item_terms.specs.Words as words;
-ghost use Rattle.bandwidth_file.specs.Lending.{seen};
+ghost use Rattle.bandwidth_file.specs.Lending.{line_seen};
 ghost use Rattle.bandwidth_file.specs.Lines as its;
 
 use crate::refusal::{BandFault, BandReason, at};
@@ -21,8 +21,8 @@ pub(crate) struct LineText<'a> {
 /// The first line of some bytes.
 pub(crate) fn first_line(rest: &[u8]) -> LineText<'_>
     requires { 0 < length rest.now }
-    ensures line { lines rest.now ≡ seen result ∷ lines (drop (size (seen result)) rest.now) }
-    ensures within { size (seen result) ≤ length rest.now }
+    ensures line { lines rest.now ≡ line_seen result ∷ lines (drop (size (line_seen result)) rest.now) }
+    ensures within { size (line_seen result) ≤ length rest.now }
 {
     match memchr(b'\n', rest) {
         Some(len) => LineText {
@@ -38,8 +38,8 @@ pub(crate) fn first_line(rest: &[u8]) -> LineText<'_>
 
 /// How many bytes a line has, with its NL.
 pub(crate) fn size_of(line: LineText<'_>) -> u64
-    requires { size (seen line) < 2 ^ 64 }
-    ensures { result ≡ size (seen line.entry) }
+    requires { size (line_seen line) < 2 ^ 64 }
+    ensures { result ≡ size (line_seen line.entry) }
 {
     if line.ended {
         line.text.len() as u64 + 1
@@ -50,8 +50,8 @@ pub(crate) fn size_of(line: LineText<'_>) -> u64
 
 /// The first fault of a line at a place, whatever stands in it.
 pub(crate) fn line_fault(place: u64, line: LineText<'_>) -> Option<BandFault>
-    requires { place + size (seen line) < 2 ^ 64 }
-    ensures { result ≡ its.line_fault place (seen line.entry) }
+    requires { place + size (line_seen line) < 2 ^ 64 }
+    ensures { result ≡ its.line_fault place (line_seen line.entry) }
 {
     if size_of(line) > MAX_LINE {
         return Some(at(place + MAX_LINE, BandReason::LineTooLong));

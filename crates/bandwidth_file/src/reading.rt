@@ -7,7 +7,7 @@ ghost use Rattle.bandwidth_file.specs.Files.{IsBandFile};
 ghost use Rattle.bandwidth_file.specs.Lines as its;
 ghost use Rattle.bandwidth_file.specs.Lending as lending;
 ghost use Rattle.bandwidth_file.specs.Refusals.{RefusedAs};
-ghost use Rattle.bandwidth_file.specs.Lending.{Holds, HasRows, Keeps, seen};
+ghost use Rattle.bandwidth_file.specs.Lending.{Holds, HasRows, Keeps, line_seen};
 
 use crate::file::{BandFile, Header};
 use crate::line::{LineText, first_line, is_blank_line, line_fault, size_of};
@@ -67,11 +67,11 @@ impl Reading {
     /// # Errors
     /// `Fault` is what is wrong with it. `Memory` is want of memory.
     fn take(&mut self, alloc: Global, place: u64, line: LineText<'_>) -> Result<(), BandRefusal>
-        requires { place + size (seen line) < 2 ^ 64 }
+        requires { place + size (line_seen line) < 2 ^ 64 }
         ensures ok { (before : List Line) → place ≡ its.place_of before → Holds before self.old
-            → OnOk result (Holds (before ++ seen line.entry ∷ []) self.new) }
+            → OnOk result (Holds (before ++ line_seen line.entry ∷ []) self.new) }
         ensures err { (before : List Line) → place ≡ its.place_of before → Holds before self.old
-            → IfErr result (λ refusal. RefusedAs (files.fault_of before (seen line.entry)) refusal) }
+            → IfErr result (λ refusal. RefusedAs (files.fault_of before (line_seen line.entry)) refusal) }
     {
         let said = said_by(self.section, place, line);
         self.keep(alloc, place, line.text, said)?;
@@ -157,8 +157,8 @@ fn is_over(relays: &Relays, identity: &Fingerprint) -> bool
 
 /// What a line of a section says.
 fn said_by(section: Section, place: u64, line: LineText<'_>) -> Said
-    requires { place + size (seen line) < 2 ^ 64 }
-    ensures { result ≡ files.said_if (its.line_fault place (seen line.entry)) section place line.entry.text.now }
+    requires { place + size (line_seen line) < 2 ^ 64 }
+    ensures { result ≡ files.said_if (its.line_fault place (line_seen line.entry)) section place line.entry.text.now }
 {
     if let Some(fault) = line_fault(place, line) {
         return Said::Wrong { fault };

@@ -26,8 +26,8 @@ by_none : (b : Bool) (n place : ℕ) (after : ℕ → Option ℕ) → None ≡ (
 by_none true n place after is = absurd cc
 by_none false n place after is = refl
 
-behind : (place k : ℕ) (bytes : List ℕ) → first_other (place + k) (lines (drop k (drop place bytes))) ≡ after_blanks (place + k) bytes
-behind place k bytes = ap (λ (rest : List ℕ). first_other (place + k) (lines rest)) (drop-drop k place bytes)
+first_other_is_after_blanks : (place k : ℕ) (bytes : List ℕ) → first_other (place + k) (lines (drop k (drop place bytes))) ≡ after_blanks (place + k) bytes
+first_other_is_after_blanks place k bytes = ap (λ (rest : List ℕ). first_other (place + k) (lines rest)) (drop-drop k place bytes)
 
 -- a blank line is passed over
 pub one_blank : (place k : ℕ) (bytes : List ℕ) → place < length bytes → Some k ≡ blank_size (take (length bytes - place) (drop place bytes)) → after_blanks place bytes ≡ after_blanks (place + k) bytes
@@ -35,7 +35,7 @@ one_blank place k bytes inside is =
     let rest = drop place bytes in
     at_first place rest (omega (arith, length-drop place bytes))
     ∙ by_size (is_blank (first_line rest)) (size (first_line rest)) k place (λ n. first_other (place + n) (lines (drop n rest))) (is ∙ ap blank_size (whole_rest place bytes))
-    ∙ behind place k bytes
+    ∙ first_other_is_after_blanks place k bytes
 
 -- a line that is not blank is the first such
 pub one_other : (place : ℕ) (bytes : List ℕ) → place < length bytes → None ≡ blank_size (take (length bytes - place) (drop place bytes)) → after_blanks place bytes ≡ Some place

@@ -9,9 +9,9 @@ use Rattle.frame_terms.specs.Decisions.{made_by, unless_fault}
 use Rattle.frame_terms.specs.Documents.{after_made, at_end, group, read_items}
 use Rattle.frame_terms.specs.Keywords.{same, word_of}
 use Rattle.frame_terms.specs.Order.{is_strange}
-use Rattle.frame_terms.specs.Refusals.{refused}
+use Rattle.frame_terms.specs.Refusals.{refusal_at}
 use Rattle.frame_terms.specs.Rows.{is_many}
-use Rattle.frame_terms.specs.Sections.{accept, lacking, lacking_but, row_of, stands, taken_as, taken_of}
+use Rattle.frame_terms.specs.Sections.{accept, lacking_keyword, lacking_but, row_of, stands, taken_as, taken_of}
 use Rattle.frame_terms.specs.Standing.{as_made, begins_again, by_keyword, by_row, ends, enters, goes_on, in_section}
 use Rattle.frame_terms.specs.Standing.{unless}
 use Rattle.frame_terms.specs.declared.document.Group.{Group}
@@ -62,7 +62,7 @@ accept_in end row taken item one within is = by (not (is_many row.count) && stan
         })
 
     by : (t : Bool)
-        → (if t then Err (refused item.place (Twice row.keyword)) else taken_as row.keyword item
+        → (if t then Err (refusal_at item.place (Twice row.keyword)) else taken_as row.keyword item
         (at_place (cert_value row.kind item))) ≡ Ok one
         → IsTakenIn end one
     by true is = absurd (cc is)
@@ -132,10 +132,10 @@ made_in end first taken item made within is =
 
 -- ---- all of them
 
-one_more : (end : ℕ) (l : List CertTaken) (one : CertTaken) → AllByRecursion (IsTakenIn end) l → IsTakenIn end one
+one_more_is_taken_in : (end : ℕ) (l : List CertTaken) (one : CertTaken) → AllByRecursion (IsTakenIn end) l → IsTakenIn end one
     → AllByRecursion (IsTakenIn end) (l ++ one ∷ [])
-one_more end [] one all is = (is, tt)
-one_more end (a ∷ l) one all is = (all.0, one_more end l one all.1 is)
+one_more_is_taken_in end [] one all is = (is, tt)
+one_more_is_taken_in end (a ∷ l) one all is = (all.0, one_more_is_taken_in end l one all.1 is)
 
 abbrev taken_or : List (Group (Unit {0}) Said) → List CertTaken
 taken_or [] = []
@@ -165,7 +165,7 @@ all_taken_in end length_ first before fault [] document g are all is groups = by
     by_fault : (f : Option DocFault) → at_end cert_tables length_ (alone (first ∷ before)) f ≡ Ok document
         → AllByRecursion (IsTakenIn end) g
     by_fault (Some f) is = absurd (cc is)
-    by_fault None is = by_missing (lacking alone_rows (first ∷ before)) is
+    by_fault None is = by_missing (lacking_keyword alone_rows (first ∷ before)) is
 all_taken_in end length_ first before fault (item ∷ items) document g are all is groups =
     by (λ before all is. all_taken_in end length_ first before fault items document g are.1 all is groups)
     (made_by cert_tables tt (alone (first ∷ before)) item) refl is
@@ -179,11 +179,11 @@ all_taken_in end length_ first before fault (item ∷ items) document g are all 
     by again (Err r) e is = absurd (cc is)
     by again (Ok Passes) e is = again before all is
     by again (Ok (Pushes one)) e is =
-        again (before ++ one ∷ []) (one_more end (first ∷ before) one all
+        again (before ++ one ∷ []) (one_more_is_taken_in end (first ∷ before) one all
         (made_in end first before item (Pushes one) are.0 e)) is
     by again (Ok (Ends one)) e is =
         whole_in end (first ∷ (before ++ one ∷ [])) g item.after document
-        (one_more end (first ∷ before) one all (made_in end first before item (Ends one) are.0 e)) is groups
+        (one_more_is_taken_in end (first ∷ before) one all (made_in end first before item (Ends one) are.0 e)) is groups
     by again (Ok (Leaves one)) e is = absurd (made_is first before item (Leaves one) e)
     by again (Ok (Opens section_ one)) e is = absurd (made_is first before item (Opens section_ one) e)
     by again (Ok (Enters section_ one)) e is = absurd (made_is first before item (Enters section_ one) e)

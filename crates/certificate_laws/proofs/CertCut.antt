@@ -26,7 +26,7 @@ use Rattle.vote_frame.specs.declared.frame.VoteSection.TheVariants.{Authority, C
 use Rattle.grammar_laws.specs.Parts.{EndWithObjects}
 use Rattle.grammar_laws.proofs.OwnPart.{own_part_same, within_text}
 use Rattle.certificate_laws.specs.Inside.{OwnPartsAreCertificates}
-use Rattle.certificate_laws.specs.Lifted.{lifted, moved_span, moved_taken}
+use Rattle.certificate_laws.specs.Lifted.{lifted_value, moved_span, moved_taken}
 use Rattle.certificate_laws.specs.Within.{AreTakenIn, IsTakenIn, IsValueIn}
 use Rattle.certificate_laws.proofs.CertMakes.{IsLastRow, found_has, last_rows, object_there}
 use Rattle.certificate_laws.proofs.Holding.{CertTaken, Said, alone_rows}
@@ -61,7 +61,7 @@ none_more k = omega arith
 span_unmoved : (s : Span) → moved_span 0 s ≡ s
 span_unmoved s = λ i. record { start = none_more s.start i; end = none_more s.end i }
 
-said_unmoved : (end : ℕ) (said : Said) → IsValueIn end said → lifted {W = Unit {0}} 0 said ≡ said
+said_unmoved : (end : ℕ) (said : Said) → IsValueIn end said → lifted_value {W = Unit {0}} 0 said ≡ said
 said_unmoved end value.Nothing is = refl
 said_unmoved end (value.Text s) is = ap (λ (s : Span). value.Text s) (span_unmoved s)
 said_unmoved end (value.Number number) is = refl

@@ -7,10 +7,10 @@ use Rattle.item_terms.specs.Items.{Item, Object}
 use Rattle.frame_terms.specs.Decisions.{made_by, unless_fault}
 use Rattle.frame_terms.specs.Keywords.{same, word_of}
 use Rattle.frame_terms.specs.Order.{is_strange}
-use Rattle.frame_terms.specs.Refusals.{refused}
+use Rattle.frame_terms.specs.Refusals.{refusal_at}
 use Rattle.frame_terms.specs.Rows.{is_many, is_one, row}
 use Rattle.frame_terms.specs.declared.row.Count.TheVariants.{One, Optional}
-use Rattle.frame_terms.specs.Sections.{accept, keyword_if, lacking, lacking_but, row_of, stands, taken_as, taken_of}
+use Rattle.frame_terms.specs.Sections.{accept, keyword_if, lacking_keyword, lacking_but, row_of, stands, taken_as, taken_of}
 use Rattle.frame_terms.specs.Standing.{as_made, begins_again, by_keyword, by_row, ends, enters, goes_on, in_section}
 use Rattle.frame_terms.specs.Standing.{unless}
 use Rattle.frame_terms.specs.declared.document.Made.{Made}
@@ -73,7 +73,7 @@ accepted_is row taken item one is = by (not (is_many row.count) && stands row.ke
         record { said = said; says = e; is = ap (one_or one) here }
 
     by : (t : Bool)
-        → (if t then Err (refused item.place (Twice row.keyword))
+        → (if t then Err (refusal_at item.place (Twice row.keyword))
         else taken_as row.keyword item (at_place (cert_value row.kind item))) ≡ Ok one → IsAccepted row item one
     by true is = absurd (cc is)
     by false is = by_said (cert_value row.kind item) refl is
@@ -247,7 +247,7 @@ last_row = row the.DirKeyCertification One Certification
 
 -- where its last item does not stand, it lacks one
 pub lacks : (taken : List CertTaken) → stands the.DirKeyCertification taken ≡ false
-    → is_some (lacking alone_rows taken) ≡ true
+    → is_some (lacking_keyword alone_rows taken) ≡ true
 lacks taken is =
     let found =
     found_last (λ (row : Row CertKind). is_one row.count && not (stands row.keyword taken)) rows_before last_row

@@ -25,7 +25,7 @@ use Rattle.frame_values.specs.Faults.{at_place}
 use Rattle.frame_values.specs.Ranges.{AreTwenty}
 use Rattle.frame_values.specs.declared.values.Value.{Value}
 use Rattle.frame_values.specs.declared.values.Value.TheVariants as value
-use Rattle.frame_laws.proofs.Both.{both}
+use Rattle.frame_laws.proofs.Both.{both_hold}
 use Rattle.frame_laws.proofs.Ends.{IsEnded, entries_to}
 use Rattle.frame_laws.proofs.Entries.{AlwaysSuits, Entry, all_taken, item_of}
 use Rattle.frame_laws.proofs.LastRows.{rows_to}
@@ -209,13 +209,13 @@ module _ {S K W X : Type 0} (tables : Tables S K (Value W) X) (name : S) (kind :
 
   rows_said : (cert : Cert) → SaysInRange cert → AreSaid tables (certificate_rows kind cert)
   rows_said cert are =
-      both (said_address cert.address are.address)
-      (both (said_identity cert.fingerprint are.fingerprint)
-      (both (said_key the.DirIdentityKey cert.identity_key)
-      (both (said_moment the.DirKeyPublished cert.published)
-      (both (said_moment the.DirKeyExpires cert.expires)
-      (both (said_key the.DirSigningKey cert.signing_key)
-      (both (said_crosscert cert.crosscert) tt))))))
+      both_hold (said_address cert.address are.address)
+      (both_hold (said_identity cert.fingerprint are.fingerprint)
+      (both_hold (said_key the.DirIdentityKey cert.identity_key)
+      (both_hold (said_moment the.DirKeyPublished cert.published)
+      (both_hold (said_moment the.DirKeyExpires cert.expires)
+      (both_hold (said_key the.DirSigningKey cert.signing_key)
+      (both_hold (said_crosscert cert.crosscert) tt))))))
 
   rows_apart : are_apart (cert_rows kind) ≡ true
   unfolding same

@@ -14,7 +14,7 @@ use Rattle.frame_terms.specs.Documents.{note_of_made}
 use Rattle.frame_terms.specs.Documents.{onto, read_items}
 use Rattle.frame_terms.specs.Keywords.{number_of, same}
 use Rattle.frame_terms.specs.Order.{first_of}
-use Rattle.frame_terms.specs.Sections.{lacking, stands}
+use Rattle.frame_terms.specs.Sections.{lacking_keyword, stands}
 use Rattle.frame_terms.specs.Tables.{Tables}
 use Rattle.frame_terms.specs.declared.document.Group.{Group}
 use Rattle.frame_terms.specs.declared.document.Made.{Made}
@@ -29,7 +29,7 @@ use Rattle.frame_values.specs.Values.{item_at}
 use Rattle.frame_values.specs.declared.values.Value.{Value}
 use Rattle.authority_certs.specs.Tables.{cert_tables}
 use Rattle.authority_certs.specs.declared.frame.CertKind.{CertKind}
-use Rattle.grammar_laws.specs.Moved.{moved}
+use Rattle.grammar_laws.specs.Moved.{moved_item}
 use Rattle.certificate_laws.specs.Given.{IsNoStranger}
 use Rattle.certificate_laws.specs.Lifted.{moved_taken}
 use Rattle.certificate_laws.proofs.CertMakes.{IsLastMade, lacks, made_is}
@@ -85,7 +85,7 @@ never_ends : (length_ : ℕ) (taken : List CertTaken) (fault : Option DocFault) 
     → stands the.DirKeyCertification taken ≡ false → at_end cert_tables length_ (alone taken) fault ≡ Ok document → ⊥
 unfolding same
 never_ends length_ taken (Some fault) document none is = cc is
-never_ends length_ taken None document none is = by (lacking alone_rows taken) (lacks taken none) is
+never_ends length_ taken None document none is = by (lacking_keyword alone_rows taken) (lacks taken none) is
   where
     by : (missing : Option Keyword) → is_some missing ≡ true → closed_if length_ (alone taken) missing ≡ Ok document → ⊥
     by None some is = cc some
@@ -100,9 +100,9 @@ more_alone length_ fault items remembered next = read_items cert_tables length_ 
 module _ {S K W X : Type 0} (tables : Tables S K (Value W) X) (outer name : S) (kind : CertKind → K) (opening : K)
     (holds : HoldsCertificates tables outer name kind opening) where
   -- the document from the last item of the certificate on
-  abbrev pub behind : ℕ → X → Group S (Value W) → Option DocFault → List Item
+  abbrev pub rest_behind_certificate : ℕ → X → Group S (Value W) → Option DocFault → List Item
       → Result (Document S (Value W)) ReadRefusal
-  behind length_ across around fault rest =
+  rest_behind_certificate length_ across around fault rest =
       read_items tables length_ across
       (record { section = around.section; taken = around.taken; around = None }) fault rest
 
@@ -127,8 +127,8 @@ module _ {S K W X : Type 0} (tables : Tables S K (Value W) X) (outer name : S) (
         → AllByRecursion (λ (item : Item). IsNoStranger tables name item) (front ++ item ∷ [])
         → read_items tables length_ across
         (inside tables outer name kind opening holds n across (first ∷ before) around) fault
-        (map (moved n) (front ++ item ∷ []) ++ rest)
-        ≡ onto (group name (all_moved n (first ∷ taken))) (behind length_ across around fault rest)
+        (map (moved_item n) (front ++ item ∷ []) ++ rest)
+        ≡ onto (group name (all_moved n (first ∷ taken))) (rest_behind_certificate length_ across around fault rest)
 
   abbrev pub more_of : ℕ → Option DocFault → List Item → X → Open S (Value W)
       → Result (Document S (Value W)) ReadRefusal
@@ -142,18 +142,18 @@ module _ {S K W X : Type 0} (tables : Tables S K (Value W) X) (outer name : S) (
       → note_of_made tables (made_moved {S = S} {W = W} n made) across ≡ Ok across
       → read_items tables length_ across
       (inside tables outer name kind opening holds n across (first ∷ before) around) fault
-      (moved n item ∷ items)
+      (moved_item n item ∷ items)
       ≡ go_on (made_moved n made) (inside tables outer name kind opening holds n across (first ∷ before) around)
-      (moved n item)
+      (moved_item n item)
       (λ next. read_items tables length_ across next fault items)
   unfolding read_items
   one_read n length_ across around fault first before item items made is near known quiet =
       let there = inside tables outer name kind opening holds n across (first ∷ before) around in
       ap (λ (m : Result (Made S (Value W)) ReadRefusal).
-      after_made tables m across there (moved n item) (more_of length_ fault items))
+      after_made tables m across there (moved_item n item) (more_of length_ fault items))
       (item_moved tables outer name kind opening holds n across around first before item made is near known)
       ∙ ap (λ (r : Result X FrameFault).
-      after_noted r (made_moved n made) there (moved n item) (more_of length_ fault items)) quiet
+      after_noted r (made_moved n made) there (moved_item n item) (more_of length_ fault items)) quiet
 
   -- ---- the items one after the other
 
@@ -174,7 +174,7 @@ module _ {S K W X : Type 0} (tables : Tables S K (Value W) X) (outer name : S) (
     last_ends = more.last_ends;
     inside_it = λ n length_ across around fault rest near known.
         one_read n length_ across around fault first before item
-        (map (moved n) (more.front ++ more.item ∷ []) ++ rest) Passes
+        (map (moved_item n) (more.front ++ more.item ∷ []) ++ rest) Passes
         is near.0 known.0 refl
         ∙ more.inside_it n length_ across around fault rest near.1 known.1;
   }
@@ -195,11 +195,11 @@ module _ {S K W X : Type 0} (tables : Tables S K (Value W) X) (outer name : S) (
     last_there = more.last_there;
     last_ends = more.last_ends;
     inside_it = λ n length_ across around fault rest near known.
-        one_read n length_ across around fault first before item (map (moved n) (more.front ++ more.item ∷ []) ++ rest)
+        one_read n length_ across around fault first before item (map (moved_item n) (more.front ++ more.item ∷ []) ++ rest)
         (Pushes one) is near.0 known.0 (holds.quiet across n one)
         ∙ ap (λ (l : List (Taken (Value W))). read_items tables length_ across
         (record { section = name; taken = moved_taken n first ∷ l; around = Some around }) fault
-        (map (moved n) (more.front ++ more.item ∷ []) ++ rest)) (sym (map-append (moved_taken n) before (one ∷ [])))
+        (map (moved_item n) (more.front ++ more.item ∷ []) ++ rest)) (sym (map-append (moved_taken n) before (one ∷ [])))
         ∙ more.inside_it n length_ across around fault rest near.1 known.1;
   }
 
@@ -226,7 +226,7 @@ module _ {S K W X : Type 0} (tables : Tables S K (Value W) X) (outer name : S) (
         one_read n length_ across around fault first before item rest (Ends one) is near.0 known.0
         (holds.quiet across n one)
         ∙ ap (λ (l : List (Taken (Value W))).
-        onto (group name (moved_taken n first ∷ l)) (behind length_ across around fault rest))
+        onto (group name (moved_taken n first ∷ l)) (rest_behind_certificate length_ across around fault rest))
         (sym (map-append (moved_taken n) before (one ∷ [])));
   }
 

@@ -10,7 +10,7 @@ use Rattle.frame_terms.specs.Decisions.{unless_refused}
 use Rattle.frame_terms.specs.Documents.{start}
 use Rattle.frame_terms.specs.Keywords.{same, word_of}
 use Rattle.frame_terms.specs.Order.{inner, opener}
-use Rattle.frame_terms.specs.Refusals.{refused}
+use Rattle.frame_terms.specs.Refusals.{refusal_at}
 use Rattle.frame_terms.specs.Rows.{row}
 use Rattle.frame_terms.specs.Sections.{accept, lacking_but, stands, taken_as, taken_of}
 use Rattle.frame_terms.specs.Standing.{as_made, begins_again, by_keyword, by_row, ends, enters, goes_on, in_section}
@@ -35,7 +35,7 @@ use Rattle.frame_values.specs.declared.values.Value.{Value}
 use Rattle.authority_certs.specs.Tables.{cert_tables, cert_value}
 use Rattle.authority_certs.specs.declared.frame.CertKind.{CertKind}
 use Rattle.authority_certs.specs.declared.frame.CertKind.TheVariants.{Version}
-use Rattle.grammar_laws.specs.Moved.{moved}
+use Rattle.grammar_laws.specs.Moved.{moved_item}
 use Rattle.certificate_laws.specs.Lifted.{moved_taken}
 use Rattle.certificate_laws.proofs.CertMakes.{made_or}
 use Rattle.certificate_laws.proofs.Holding.{HoldsCertificates, Said}
@@ -99,16 +99,16 @@ module _ {S K W X : Type 0} (tables : Tables S K (Value W) X) (outer name : S) (
   -- an item that is accepted by the row of the section around the certificate enters it
   by_row_enters : (one : Taken (Value W)) (before : List (Taken (Value W))) (item : Item) (made : Made (Unit {0}) Said)
       (begins : Begins item made) → stands version (one ∷ before) ≡ false
-      → by_keyword tables across (around_open (one ∷ before)) (moved n item) (Some version)
+      → by_keyword tables across (around_open (one ∷ before)) (moved_item n item) (Some version)
       ≡ Ok (Enters name (moved_taken n (taken_of version item begins.said)))
   by_row_enters one before item made begins new =
       let open_ = around_open (one ∷ before) in
-      let there = moved n item in
+      let there = moved_item n item in
       let in_row = in_section tables across open_ there opening_row in
       let accepted = accept tables across opening_row (one ∷ before) there in
       let last =
       unless there.place (lacking_but (tables.rows outer) version (one ∷ before)) (as_made (ends None) accepted) in
-      let twice : Result (Taken (Value W)) ReadRefusal = Err (refused there.place (Twice version)) in
+      let twice : Result (Taken (Value W)) ReadRefusal = Err (refusal_at there.place (Twice version)) in
       ap (λ (r : Option (Row K)). by_row tables across open_ there version r) holds.among.row_there
       ∙ ap (λ (t : Bool). if t then Ok Passes else in_row) (holds.known there)
       ∙ ap (λ (t : Bool). if t then last
@@ -129,11 +129,11 @@ module _ {S K W X : Type 0} (tables : Tables S K (Value W) X) (outer name : S) (
   pub first_enters : (one : Taken (Value W)) (before : List (Taken (Value W))) (item : Item)
       (made : Made (Unit {0}) Said)
       (begins : Begins item made) → stands version (one ∷ before) ≡ false → item.after ≤ item.place + 65536
-      → made_by tables across (around_open (one ∷ before)) (moved n item)
+      → made_by tables across (around_open (one ∷ before)) (moved_item n item)
       ≡ Ok (Enters name (moved_taken n (taken_of version item begins.said)))
   first_enters one before item made begins new near =
       let open_ = around_open (one ∷ before) in
-      let there = moved n item in
+      let there = moved_item n item in
       let size = item.after + n - (item.place + n) in
       let within : nat_lt 65536 size ≡ false = le-ltb 65536 size (omega (arith, near)) in
       let by_word = by_keyword tables across open_ there (Some version) in

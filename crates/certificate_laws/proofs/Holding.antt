@@ -5,7 +5,7 @@ use Rattle.std.specs.Prelude.{map, option_map, not, ◌&&◌, ◌||◌, if◌the
 use Rattle.std.specs.List.{find}
 use Rattle.item_terms.specs.Items.{Item}
 use Rattle.frame_terms.specs.Keywords.{same}
-use Rattle.frame_terms.specs.Order.{following, inner, is_keyword, section_if}
+use Rattle.frame_terms.specs.Order.{following_sections, inner, is_keyword, section_if}
 use Rattle.frame_terms.specs.Rows.{is_one, row}
 use Rattle.frame_terms.specs.Sections.{keyword_if, lacking_but, row_of, stands}
 use Rattle.frame_terms.specs.Standing.{begins_again}
@@ -38,7 +38,7 @@ CertTaken = Taken Said
 pub record HoldsCertificates {S K W X : Type 0} (tables : Tables S K (Value W) X) (outer name : S) (kind : CertKind → K)
     (opening : K) : Type 0 where
   pub has : HasCertificates tables name kind
-  pub none_follow : following tables name ≡ []
+  pub none_follow : following_sections tables name ≡ []
   pub inside : inner tables outer the.DirKeyCertificateVersion ≡ Some name
   pub among : IsAmong tables outer (row the.DirKeyCertificateVersion One opening)
   pub known : (item : Item) → tables.ignores opening item ≡ false

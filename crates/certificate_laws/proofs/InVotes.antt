@@ -9,12 +9,12 @@ use Rattle.vote_frame.specs.declared.across.Across.{Across}
 use Rattle.vote_frame.specs.declared.frame.VoteKind.TheVariants as kind
 use Rattle.vote_frame.specs.declared.frame.VoteSection.TheVariants.{Authority, Certificate}
 use Rattle.certificate_laws.specs.Inside.{GivenStandInside}
-use Rattle.certificate_laws.specs.Lifted.{lifted}
+use Rattle.certificate_laws.specs.Lifted.{lifted_value}
 use Rattle.certificate_laws.proofs.Holding.{HoldsCertificates, Said}
 use Rattle.certificate_laws.proofs.StandInside.{stand_is}
 
 -- nothing is remembered of a certificate's items
-quiet : (across : Across) (place n : ℕ) (said : Said) → note_value across place (lifted n said) ≡ Ok across
+quiet : (across : Across) (place n : ℕ) (said : Said) → note_value across place (lifted_value n said) ≡ Ok across
 quiet across place n value.Nothing = refl
 quiet across place n (value.Text span) = refl
 quiet across place n (value.Number number) = refl

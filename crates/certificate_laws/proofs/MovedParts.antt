@@ -6,7 +6,7 @@ use Rattle.std.specs.List.{AllByRecursion}
 use Rattle.std.proofs.Math.Seq.{drop-append-add}
 use Rattle.std.proofs.lemmas.List.{drop-append-le, length-drop, take-append-le}
 use Rattle.sha1.specs.Sha1.{sha1}
-use Rattle.dirdoc_grammar.specs.Bodies.{decoded}
+use Rattle.dirdoc_grammar.specs.Bodies.{decoded_bytes}
 use Rattle.frame_terms.specs.Keywords.{same}
 use Rattle.frame_terms.specs.declared.document.Taken.{Taken}
 use Rattle.frame_terms.specs.declared.keyword.Keyword.{Keyword}
@@ -20,7 +20,7 @@ use Rattle.frame_values.specs.declared.values.Value.TheVariants as value
 use Rattle.dir_values.specs.declared.digest.Fingerprint.{Fingerprint}
 use Rattle.authority_certs.specs.Certs.{cert_in, whole_part}
 use Rattle.authority_certs.specs.Heads.{head_of}
-use Rattle.certificate_laws.specs.Lifted.{lifted, moved_span, moved_taken}
+use Rattle.certificate_laws.specs.Lifted.{lifted_value, moved_span, moved_taken}
 use Rattle.certificate_laws.specs.Within.{AreTakenIn, CertsSayTheSame, IsSpanIn, IsTakenIn, IsValueIn}
 use Rattle.certificate_laws.proofs.Holding.{CertTaken, Said, found_in}
 
@@ -77,7 +77,7 @@ module _ (front bytes rest : List ℕ) where
     text_same (Some one) is = by one.value (is one refl).value
       where
         by : (said : Said) → IsValueIn (length bytes) said
-            → option_map (part all) (text_if (Some (record (moved_taken {W = W} n one) { value = lifted n said })))
+            → option_map (part all) (text_if (Some (record (moved_taken {W = W} n one) { value = lifted_value n said })))
             ≡ option_map (part bytes) (text_if (Some (record one { value = said })))
         by (value.Text span) is = ap (λ (l : List ℕ). Some l) (part_same span is)
         by value.Nothing is = refl
@@ -92,9 +92,9 @@ module _ (front bytes rest : List ℕ) where
     object_same (Some one) is = by one.value (is one refl).value
       where
         by : (said : Said) → IsValueIn (length bytes) said
-            → bytes_in all (object_in (Some (record (moved_taken {W = W} n one) { value = lifted n said })))
+            → bytes_in all (object_in (Some (record (moved_taken {W = W} n one) { value = lifted_value n said })))
             ≡ bytes_in bytes (object_in (Some (record one { value = said })))
-        by (value.Object lines) is = ap (λ (l : List ℕ). unwrap_or (decoded l) []) (part_same lines is)
+        by (value.Object lines) is = ap (λ (l : List ℕ). unwrap_or (decoded_bytes l) []) (part_same lines is)
         by value.Nothing is = refl
         by (value.Number k) is = refl
         by (value.Fingerprint f) is = refl
@@ -105,7 +105,7 @@ module _ (front bytes rest : List ℕ) where
     number_same None = refl
     number_same (Some one) = by one.value
       where
-        by : (said : Said) → number_in (Some (record (moved_taken {W = W} n one) { value = lifted n said }))
+        by : (said : Said) → number_in (Some (record (moved_taken {W = W} n one) { value = lifted_value n said }))
             ≡ number_in (Some (record one { value = said }))
         by (value.Number k) = refl
         by value.Nothing = refl
@@ -118,7 +118,7 @@ module _ (front bytes rest : List ℕ) where
     identity_same None = refl
     identity_same (Some one) = by one.value
       where
-        by : (said : Said) → fingerprint_in (Some (record (moved_taken {W = W} n one) { value = lifted n said }))
+        by : (said : Said) → fingerprint_in (Some (record (moved_taken {W = W} n one) { value = lifted_value n said }))
             ≡ fingerprint_in (Some (record one { value = said }))
         by (value.Number k) = refl
         by value.Nothing = refl

@@ -18,8 +18,8 @@ use Rattle.frame_values.specs.declared.values.Value.TheVariants as value
 use Rattle.authority_certs.specs.Tables.{cert_value}
 use Rattle.authority_certs.specs.declared.frame.CertKind.{CertKind}
 use Rattle.authority_certs.specs.declared.frame.CertKind.TheVariants as kind
-use Rattle.grammar_laws.specs.Moved.{moved, moved_object}
-use Rattle.certificate_laws.specs.Lifted.{lifted, moved_argument, moved_span}
+use Rattle.grammar_laws.specs.Moved.{moved_item, moved_object}
+use Rattle.certificate_laws.specs.Lifted.{lifted_value, moved_argument, moved_span}
 
 -- ---- arguments
 
@@ -67,12 +67,12 @@ first_of item = front item.place (arguments_of item)
 abbrev pub second_of : Item → Argument
 second_of item = front item.place (others (arguments_of item))
 
-first_moved : (n : ℕ) (item : Item) → first_of (moved n item) ≡ moved_argument n (first_of item)
+first_moved : (n : ℕ) (item : Item) → first_of (moved_item n item) ≡ moved_argument n (first_of item)
 first_moved n item =
     ap (λ (l : List Argument). front (item.place + n) l) (arguments_moved n item.start item.arguments)
     ∙ front_moved n item.place (arguments_of item)
 
-second_moved : (n : ℕ) (item : Item) → second_of (moved n item) ≡ moved_argument n (second_of item)
+second_moved : (n : ℕ) (item : Item) → second_of (moved_item n item) ≡ moved_argument n (second_of item)
 second_moved n item =
     ap (λ (l : List Argument). front (item.place + n) (others l)) (arguments_moved n item.start item.arguments)
     ∙ ap (λ (l : List Argument). front (item.place + n) l) (others_moved n (arguments_of item))
@@ -95,7 +95,7 @@ wanted_if t place = if t then Ok tt else Err place
 
 module _ {W : Type 0} where
   abbrev lifted_if : ℕ → Result (Value (Unit {0})) ℕ → Result (Value W) ℕ
-  lifted_if n (Ok value) = Ok (lifted n value)
+  lifted_if n (Ok value) = Ok (lifted_value n value)
   lifted_if n (Err place) = Err place
 
   -- what a first argument says
@@ -119,38 +119,38 @@ module _ {W : Type 0} where
 
 module _ {W : Type 0} where
   version_moved : (n : ℕ) (first : Argument) (said : Value (Unit {0})) → version_of first ≡ Ok said
-      → version_of {W = W} (moved_argument n first) ≡ Ok (lifted n said)
+      → version_of {W = W} (moved_argument n first) ≡ Ok (lifted_value n said)
   version_moved n first said is = by (bytes_eq first.text (codes "3")) is
     where
       by : (t : Bool) → next (wanted_if t first.place) (λ _. Ok value.Nothing) ≡ Ok said
-          → next (wanted_if t (first.place + n)) (λ _. Ok value.Nothing) ≡ Ok (lifted {W = W} n said)
+          → next (wanted_if t (first.place + n)) (λ _. Ok value.Nothing) ≡ Ok (lifted_value {W = W} n said)
       by true is = ap (lifted_if n) is
       by false is = absurd (cc is)
 
   text_moved : (n : ℕ) (first : Argument) (said : Value (Unit {0})) → text_of first ≡ Ok said
-      → text_of {W = W} (moved_argument n first) ≡ Ok (lifted n said)
+      → text_of {W = W} (moved_argument n first) ≡ Ok (lifted_value n said)
   text_moved n first said is = by (is_there first.text) is
     where
       by : (t : Bool) → next (field first (if t then Some (span_of first) else None)) (λ text. Ok (value.Text text))
           ≡ Ok said
           → next (field (moved_argument n first) (if t then Some (span_of (moved_argument n first)) else None))
           (λ text. Ok (value.Text text))
-          ≡ Ok (lifted {W = W} n said)
+          ≡ Ok (lifted_value {W = W} n said)
       by true is = ap (λ (s : Span). Ok (value.Text s)) (span_moved n first.place first.text) ∙ ap (lifted_if n) is
       by false is = absurd (cc is)
 
   identity_moved : (n : ℕ) (first : Argument) (said : Value (Unit {0})) → identity_of first ≡ Ok said
-      → identity_of {W = W} (moved_argument n first) ≡ Ok (lifted n said)
+      → identity_of {W = W} (moved_argument n first) ≡ Ok (lifted_value n said)
   identity_moved n first said is = by (fingerprint first.text) is
     where
       by : (f : Option Fingerprint) → next (field first f) (λ identity. Ok (value.Fingerprint identity)) ≡ Ok said
           → next (field (moved_argument n first) f) (λ identity. Ok (value.Fingerprint identity))
-          ≡ Ok (lifted {W = W} n said)
+          ≡ Ok (lifted_value {W = W} n said)
       by (Some f) is = ap (lifted_if n) is
       by None is = absurd (cc is)
 
   moment_moved : (n : ℕ) (first second : Argument) (said : Value (Unit {0})) → moment_of first second ≡ Ok said
-      → moment_of {W = W} (moved_argument n first) (moved_argument n second) ≡ Ok (lifted n said)
+      → moment_of {W = W} (moved_argument n first) (moved_argument n second) ≡ Ok (lifted_value n said)
   moment_moved n first second said is = by (date first.text) (time_of_day second.text) is
     where
       by : (d t : Option ℕ)
@@ -160,14 +160,14 @@ module _ {W : Type 0} where
           → next (next (field (moved_argument n first) d)
           (λ days. next (field (moved_argument n second) t) (λ seconds. Ok (86400 * days + seconds))))
           (λ number. Ok (value.Number number))
-          ≡ Ok (lifted {W = W} n said)
+          ≡ Ok (lifted_value {W = W} n said)
       by (Some d) (Some t) is = ap (lifted_if n) is
       by (Some d) None is = absurd (cc is)
       by None t is = absurd (cc is)
 
   object_moved : (n place : ℕ) (wanted : Bool) (object : Option Object) (said : Value (Unit {0}))
       → object_said wanted place object ≡ Ok said
-      → object_said {W = W} wanted (place + n) (option_map (moved_object n) object) ≡ Ok (lifted n said)
+      → object_said {W = W} wanted (place + n) (option_map (moved_object n) object) ≡ Ok (lifted_value n said)
   object_moved n place wanted None said is = absurd (cc is)
   object_moved n place false (Some object) said is = absurd (cc is)
   object_moved n place true (Some object) said is =
@@ -175,7 +175,7 @@ module _ {W : Type 0} where
 
   -- What an item of a certificate says is the same so many bytes further on.
   pub value_moved : (n : ℕ) (of : CertKind) (item : Item) (said : Value (Unit {0})) → cert_value of item ≡ Ok said
-      → cert_value {V = W} of (moved n item) ≡ Ok (lifted n said)
+      → cert_value {V = W} of (moved_item n item) ≡ Ok (lifted_value n said)
   value_moved n kind.Version item said is =
       ap version_of (first_moved n item) ∙ version_moved n (first_of item) said is
   value_moved n kind.Address item said is =
@@ -183,7 +183,7 @@ module _ {W : Type 0} where
   value_moved n kind.Fingerprint item said is =
       ap identity_of (first_moved n item) ∙ identity_moved n (first_of item) said is
   value_moved n kind.Time item said is =
-      ap (λ (a : Argument). moment_of a (second_of (moved n item))) (first_moved n item)
+      ap (λ (a : Argument). moment_of a (second_of (moved_item n item))) (first_moved n item)
       ∙ ap (λ (a : Argument). moment_of (moved_argument n (first_of item)) a) (second_moved n item)
       ∙ moment_moved n (first_of item) (second_of item) said is
   value_moved n kind.Key item said is =

@@ -7,7 +7,7 @@ use Rattle.item_terms.specs.Items.{Item}
 use Rattle.frame_terms.specs.Decisions.{beyond, beyond_inner, beyond_inside, made_by, unless_fault}
 use Rattle.frame_terms.specs.Keywords.{same, word_of}
 use Rattle.frame_terms.specs.Order.{is_strange, opened_by}
-use Rattle.frame_terms.specs.Refusals.{refused}
+use Rattle.frame_terms.specs.Refusals.{refusal_at}
 use Rattle.frame_terms.specs.Rows.{is_many}
 use Rattle.frame_terms.specs.Sections.{accept, lacking_but, row_of, stands, taken_as, taken_of}
 use Rattle.frame_terms.specs.Standing.{as_made, begins_again, by_keyword, by_row, elsewhere, ends, enters, goes_on}
@@ -32,9 +32,9 @@ use Rattle.frame_values.specs.Faults.{at_place}
 use Rattle.frame_values.specs.declared.values.Value.{Value}
 use Rattle.authority_certs.specs.Tables.{cert_tables, cert_value}
 use Rattle.authority_certs.specs.declared.frame.CertKind.{CertKind}
-use Rattle.grammar_laws.specs.Moved.{moved}
+use Rattle.grammar_laws.specs.Moved.{moved_item}
 use Rattle.certificate_laws.specs.Given.{IsNoStranger}
-use Rattle.certificate_laws.specs.Lifted.{lifted, moved_taken}
+use Rattle.certificate_laws.specs.Lifted.{lifted_value, moved_taken}
 use Rattle.certificate_laws.proofs.Holding.{CertTaken, HoldsCertificates, Said, all_moved, alone_rows, lacking_moved}
 use Rattle.certificate_laws.proofs.Holding.{last_there, never_again, none_inside, row_inside, row_there, stands_moved}
 use Rattle.certificate_laws.proofs.MovedValues.{value_moved}
@@ -45,7 +45,7 @@ alone taken = record { section = tt; taken = taken; around = None }
 
 -- what an item of no row makes
 abbrev pub order_if : {S V : Type 0} → ℕ → Bool → Result (Made S V) ReadRefusal
-order_if place t = if t then Err (refused place Order) else Ok Passes
+order_if place t = if t then Err (refusal_at place Order) else Ok Passes
 
 -- an item of a certificate that stands alone passes no limit but the document's
 pub never_beyond : (taken : List CertTaken) (item : Item) (word : Option Keyword)
@@ -59,12 +59,12 @@ never_beyond taken item (Some keyword) = by (stands keyword taken)
 
 module _ {W : Type 0} where
   pub taken_of_moved : (n : ℕ) (keyword : Keyword) (item : Item) (said : Said)
-      → taken_of keyword (moved n item) (lifted {W = W} n said) ≡ moved_taken n (taken_of keyword item said)
+      → taken_of keyword (moved_item n item) (lifted_value {W = W} n said) ≡ moved_taken n (taken_of keyword item said)
   taken_of_moved n keyword item said =
       let separator : item.place + n + length item.keyword ≡ item.place + length item.keyword + n = omega arith in
       λ i. record {
         keyword = keyword;
-        value = lifted n said;
+        value = lifted_value n said;
         place = item.place + n;
         separator = separator i;
         line_end = item.line_end + n;
@@ -100,10 +100,10 @@ module _ {S K W X : Type 0} (tables : Tables S K (Value W) X) (outer name : S) (
 
   accept_moved : (row : Row CertKind) (taken : List CertTaken) (item : Item) (one : CertTaken)
       → accept cert_tables tt row taken item ≡ Ok one
-      → accept tables across (row_inside kind row) (all_moved n taken) (moved n item) ≡ Ok (moved_taken n one)
+      → accept tables across (row_inside kind row) (all_moved n taken) (moved_item n item) ≡ Ok (moved_taken n one)
   accept_moved row taken item one is =
-      let there = moved n item in
-      let twice : Result (Taken (Value W)) ReadRefusal = Err (refused (item.place + n) (Twice row.keyword)) in
+      let there = moved_item n item in
+      let twice : Result (Taken (Value W)) ReadRefusal = Err (refusal_at (item.place + n) (Twice row.keyword)) in
       ap (λ (t : Bool). if not (is_many row.count) && t then twice
       else taken_as row.keyword there (tables.value_of across (kind row.kind) there))
       (stands_moved W n row.keyword taken)
@@ -113,21 +113,21 @@ module _ {S K W X : Type 0} (tables : Tables S K (Value W) X) (outer name : S) (
     where
       by_said : (said : Result Said ℕ) → cert_value row.kind item ≡ said
           → taken_as row.keyword item (at_place said) ≡ Ok one
-          → taken_as row.keyword (moved n item) (at_place (cert_value {V = W} row.kind (moved n item)))
+          → taken_as row.keyword (moved_item n item) (at_place (cert_value {V = W} row.kind (moved_item n item)))
           ≡ Ok (moved_taken n one)
       by_said (Err place) e is = absurd (cc is)
       by_said (Ok said) e is =
           let same_ : Ok (taken_of row.keyword item said) ≡ Ok one = is in
-          ap (λ (r : Result (Value W) ℕ). taken_as row.keyword (moved n item) (at_place r))
+          ap (λ (r : Result (Value W) ℕ). taken_as row.keyword (moved_item n item) (at_place r))
           (value_moved n row.kind item said e)
           ∙ ap (λ (t : Taken (Value W)). Ok t) (taken_of_moved n row.keyword item said)
           ∙ ap (λ (t : Result CertTaken ReadRefusal). moved_ok n t) same_
 
       by_twice : (t : Bool)
-          → (if t then Err (refused item.place (Twice row.keyword))
+          → (if t then Err (refusal_at item.place (Twice row.keyword))
           else taken_as row.keyword item (at_place (cert_value row.kind item))) ≡ Ok one
-          → (if t then Err (refused (item.place + n) (Twice row.keyword))
-          else taken_as row.keyword (moved n item) (at_place (cert_value {V = W} row.kind (moved n item))))
+          → (if t then Err (refusal_at (item.place + n) (Twice row.keyword))
+          else taken_as row.keyword (moved_item n item) (at_place (cert_value {V = W} row.kind (moved_item n item))))
           ≡ Ok (moved_taken n one)
       by_twice true is = absurd (cc is)
       by_twice false is = by_said (cert_value row.kind item) refl is
@@ -138,12 +138,12 @@ module _ {S K W X : Type 0} (tables : Tables S K (Value W) X) (outer name : S) (
       (make_in : Taken (Value W) → Made S (Value W)) (made : Made (Unit {0}) Said)
       → ((one : CertTaken) → made_moved n (make one) ≡ make_in (moved_taken n one))
       → as_made make (accept cert_tables tt row taken item) ≡ Ok made
-      → as_made make_in (accept tables across (row_inside kind row) (all_moved n taken) (moved n item))
+      → as_made make_in (accept tables across (row_inside kind row) (all_moved n taken) (moved_item n item))
       ≡ Ok (made_moved n made)
   by_accepted row taken item make make_in made same_ is = by (accept cert_tables tt row taken item) refl is
     where
       by : (r : Result CertTaken ReadRefusal) → accept cert_tables tt row taken item ≡ r → as_made make r ≡ Ok made
-          → as_made make_in (accept tables across (row_inside kind row) (all_moved n taken) (moved n item))
+          → as_made make_in (accept tables across (row_inside kind row) (all_moved n taken) (moved_item n item))
           ≡ Ok (made_moved n made)
       by (Err r) e is = absurd (cc is)
       by (Ok one) e is =
@@ -154,7 +154,7 @@ module _ {S K W X : Type 0} (tables : Tables S K (Value W) X) (outer name : S) (
 
   in_section_moved : (around : Group S (Value W)) (row : Row CertKind) (taken : List CertTaken) (item : Item)
       (made : Made (Unit {0}) Said) → in_section cert_tables tt (alone taken) item row ≡ Ok made
-      → in_section tables across (inside taken around) (moved n item) (row_inside kind row) ≡ Ok (made_moved n made)
+      → in_section tables across (inside taken around) (moved_item n item) (row_inside kind row) ≡ Ok (made_moved n made)
   in_section_moved around row taken item made is =
       let last : Result (Made S (Value W)) ReadRefusal =
       unless (item.place + n) (lacking_but (tables.rows name) row.keyword (all_moved {W = W} n taken))
@@ -166,10 +166,10 @@ module _ {S K W X : Type 0} (tables : Tables S K (Value W) X) (outer name : S) (
       ∙ by_last (same the.DirKeyCertification row.keyword) is
     where
       accepted : Result (Taken (Value W)) ReadRefusal
-      accepted = accept tables across (row_inside kind row) (all_moved n taken) (moved n item)
+      accepted = accept tables across (row_inside kind row) (all_moved n taken) (moved_item n item)
 
       more : Again → Result (Made S (Value W)) ReadRefusal
-      more a = goes_on tables across (inside taken around) (moved n item) (row_inside kind row) a
+      more a = goes_on tables across (inside taken around) (moved_item n item) (row_inside kind row) a
 
       by_lacking : (k : Option Keyword)
           → unless item.place k (as_made (ends None) (accept cert_tables tt row taken item)) ≡ Ok made
@@ -205,10 +205,10 @@ module _ {S K W X : Type 0} (tables : Tables S K (Value W) X) (outer name : S) (
   by_row_moved : (around : Group S (Value W)) (taken : List CertTaken) (item : Item) (keyword : Keyword)
       (made : Made (Unit {0}) Said) → (row_of alone_rows keyword ≡ None → is_strange tables name keyword ≡ false)
       → by_keyword cert_tables tt (alone taken) item (Some keyword) ≡ Ok made
-      → by_keyword tables across (inside taken around) (moved n item) (Some keyword) ≡ Ok (made_moved n made)
+      → by_keyword tables across (inside taken around) (moved_item n item) (Some keyword) ≡ Ok (made_moved n made)
   unfolding same
   by_row_moved around taken item keyword made known is =
-      ap (λ (r : Option (Row K)). by_row tables across (inside taken around) (moved n item) keyword r)
+      ap (λ (r : Option (Row K)). by_row tables across (inside taken around) (moved_item n item) keyword r)
       (row_there tables name kind holds.has keyword)
       ∙ by (row_of alone_rows keyword) refl is
     where
@@ -219,14 +219,14 @@ module _ {S K W X : Type 0} (tables : Tables S K (Value W) X) (outer name : S) (
 
       by : (found : Option (Row CertKind)) → row_of alone_rows keyword ≡ found
           → by_row cert_tables tt (alone taken) item keyword found ≡ Ok made
-          → by_row tables across (inside taken around) (moved n item) keyword (option_map (row_inside kind) found)
+          → by_row tables across (inside taken around) (moved_item n item) keyword (option_map (row_inside kind) found)
           ≡ Ok (made_moved n made)
       by (Some row) e is =
-          let there = in_section tables across (inside taken around) (moved n item) (row_inside kind row) in
-          ap (λ (t : Bool). if t then Ok Passes else there) (holds.has.known row.kind (moved n item))
+          let there = in_section tables across (inside taken around) (moved_item n item) (row_inside kind row) in
+          ap (λ (t : Bool). if t then Ok Passes else there) (holds.has.known row.kind (moved_item n item))
           ∙ in_section_moved around row taken item made is
       by None e is =
-          ap (λ (l : List S). elsewhere tables across (inside taken around) (moved n item) keyword
+          ap (λ (l : List S). elsewhere tables across (inside taken around) (moved_item n item) keyword
           (opened_by tables keyword l))
           holds.none_follow
           ∙ ap (order_if {S = S} {V = Value W} (item.place + n)) (known e)
@@ -236,7 +236,7 @@ module _ {S K W X : Type 0} (tables : Tables S K (Value W) X) (outer name : S) (
       (made : Made (Unit {0}) Said)
       → IfSome word (λ keyword. row_of alone_rows keyword ≡ None → is_strange tables name keyword ≡ false)
       → by_keyword cert_tables tt (alone taken) item word ≡ Ok made
-      → by_keyword tables across (inside taken around) (moved n item) word ≡ Ok (made_moved n made)
+      → by_keyword tables across (inside taken around) (moved_item n item) word ≡ Ok (made_moved n made)
   word_moved around taken item None made known is = ap (moved_made n) is
   word_moved around taken item (Some keyword) made known is = by_row_moved around taken item keyword made known is
 
@@ -244,10 +244,10 @@ module _ {S K W X : Type 0} (tables : Tables S K (Value W) X) (outer name : S) (
   pub item_moved : (around : Group S (Value W)) (first : CertTaken) (taken : List CertTaken) (item : Item)
       (made : Made (Unit {0}) Said) → made_by cert_tables tt (alone (first ∷ taken)) item ≡ Ok made
       → item.after ≤ first.place + 65536 → IsNoStranger tables name item
-      → made_by tables across (inside (first ∷ taken) around) (moved n item) ≡ Ok (made_moved n made)
+      → made_by tables across (inside (first ∷ taken) around) (moved_item n item) ≡ Ok (made_moved n made)
   item_moved around first taken item made is near known =
       let word = word_of item.keyword in
-      let there = moved n item in
+      let there = moved_item n item in
       let by_word = by_keyword tables across (inside (first ∷ taken) around) there word in
       let here : by_keyword cert_tables tt (alone (first ∷ taken)) item word ≡ Ok made =
       sym (ap (λ (f : Option FrameFault). unless_fault f (by_keyword cert_tables tt (alone (first ∷ taken)) item word))

@@ -25,7 +25,7 @@ use Rattle.authority_certs.specs.Heads.{head_of}
 use Rattle.authority_certs.specs.Reading.{max_cert}
 use Rattle.authority_certs.specs.declared.cert.Cert.{Cert}
 use Rattle.authority_certs.specs.declared.frame.CertKind.{CertKind}
-use Rattle.grammar_laws.specs.Moved.{Reads, moved}
+use Rattle.grammar_laws.specs.Moved.{Reads, moved_item}
 use Rattle.grammar_laws.proofs.FirstPlace.{first_at}
 use Rattle.grammar_laws.proofs.LinesTogether.{together}
 use Rattle.grammar_laws.proofs.SoundLines.{ends_all}
@@ -67,7 +67,7 @@ module _ {S K W X : Type 0} (tables : Tables S K (Value W) X) (outer name : S) (
   -- they are a section
   section_is : (n length_ : ℕ) (across : X) (one : Taken (Value W)) (before : List (Taken (Value W)))
       (fault : Option DocFault) (rest : List Item) → stands the.DirKeyCertificateVersion (one ∷ before) ≡ false
-      → read_items tables length_ across (around_it n across (one ∷ before)) fault (map (moved n) all_items ++ rest)
+      → read_items tables length_ across (around_it n across (one ∷ before)) fault (map (moved_item n) all_items ++ rest)
       ≡ onto (group name (all_moved n (first_one ∷ lone.goes.taken)))
       (read_items tables length_ across
       (around_it n across ((one ∷ before) ++ moved_taken n first_one ∷ [])) fault rest)
@@ -84,17 +84,17 @@ module _ {S K W X : Type 0} (tables : Tables S K (Value W) X) (outer name : S) (
       (weaker (λ (item : Item). item.after ≤ 65536) (IsNear item.place)
       (λ other le. from_zero other.after item.place le) items near.1) in
       let known_others = subst (AllByRecursion (no_stranger tables name)) lone.parts known.1 in
-      let rests = more_of tables outer name kind opening holds length_ fault (map (moved n) items ++ rest) in
+      let rests = more_of tables outer name kind opening holds length_ fault (map (moved_item n) items ++ rest) in
       let inner_open : Open S (Value W) =
       record { section = name; taken = moved_taken n first_one ∷ []; around = Some around } in
-      ap (λ (l : List Item). read_items tables length_ across open_ fault (map (moved n) l ++ rest)) lone.alone.parts
-      ∙ ap (λ (m : Result (Made S (Value W)) ReadRefusal). after_made tables m across open_ (moved n item) rests)
+      ap (λ (l : List Item). read_items tables length_ across open_ fault (map (moved_item n) l ++ rest)) lone.alone.parts
+      ∙ ap (λ (m : Result (Made S (Value W)) ReadRefusal). after_made tables m across open_ (moved_item n item) rests)
       (first_enters tables outer name kind opening holds n across one before item lone.alone.made lone.alone.begins new
       near_first)
       ∙ ap (λ (r : Result X FrameFault). after_noted r (Enters name (moved_taken n first_one)) open_
-      (moved n item) rests)
+      (moved_item n item) rests)
       (holds.quiet across n first_one)
-      ∙ ap (λ (l : List Item). read_items tables length_ across inner_open fault (map (moved n) l ++ rest)) lone.parts
+      ∙ ap (λ (l : List Item). read_items tables length_ across inner_open fault (map (moved_item n) l ++ rest)) lone.parts
       ∙ lone.goes.inside_it n length_ across around fault rest near_others known_others
     where
       from_zero : (a p : ℕ) → a ≤ 65536 → a ≤ p + 65536

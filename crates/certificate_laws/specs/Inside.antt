@@ -16,7 +16,7 @@ use Rattle.authority_certs.specs.Reading.{cert_of}
 use Rattle.authority_certs.specs.declared.cert.Cert.{Cert}
 use Rattle.vote_frame.specs.Tables.{vote_tables}
 use Rattle.vote_frame.specs.declared.frame.VoteSection.TheVariants as section
-use Rattle.grammar_laws.specs.Moved.{moved}
+use Rattle.grammar_laws.specs.Moved.{moved_item}
 use Rattle.certificate_laws.specs.Given.{IsGiven}
 use Rattle.certificate_laws.specs.Lifted.{moved_taken}
 use Rattle.certificate_laws.specs.Within.{AreTakenIn}
@@ -37,11 +37,11 @@ pub record StandsInside {S K W X : Type 0} (tables : Tables S K (Value W) X) (ou
   pub fits : length bytes ≤ 65536
   pub items_there : (limit n : ℕ) (more : List ℕ) → n + length bytes ≤ limit
       → contents limit n nothing (bytes ++ more)
-      ≡ in_front (map (moved n) items) (contents limit (n + length bytes) nothing more)
+      ≡ in_front (map (moved_item n) items) (contents limit (n + length bytes) nothing more)
   pub section_there : (n length_ : ℕ) (across : X) (one : Taken (Value W)) (before : List (Taken (Value W)))
       (fault : Option DocFault) (rest : List Item) → stands the.DirKeyCertificateVersion (one ∷ before) ≡ false
       → read_items tables length_ across (record { section = outer; taken = one ∷ before; around = None }) fault
-      (map (moved n) items ++ rest)
+      (map (moved_item n) items ++ rest)
       ≡ onto (group section (map (moved_taken n) (first ∷ taken)))
       (read_items tables length_ across
       (record { section = outer; taken = (one ∷ before) ++ moved_taken n first ∷ []; around = None }) fault rest)

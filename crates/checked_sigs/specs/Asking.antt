@@ -12,7 +12,7 @@ use Rattle.detached_doc.specs.declared.detached.DetachedLine.{DetachedLine}
 use Rattle.detached_sigs.specs.declared.key.SignerKey.{SignerKey}
 use Rattle.detached_sigs.specs.Signers.{is_line_of}
 use Rattle.period_terms.specs.declared.signature.OfferedSignature.{OfferedSignature}
-use Rattle.period_terms.specs.Offered.{offered}
+use Rattle.period_terms.specs.Offered.{offered_signature}
 use Rattle.period_terms.specs.declared.view.PeriodView.{PeriodView}
 
 -- the flavour of these names of a flavour and an algorithm, where both are known: ns, which is not named, with SHA-1,
@@ -50,7 +50,7 @@ abbrev pub offered_by : PeriodView → Detached → DetachedLine → Option Offe
 offered_by view d line =
     option_and_then (λ (flavour : Flavour).
     option_and_then (λ (digest : List ℕ).
-    option_map (λ (key : SignerKey). offered d.valid_after flavour digest key.key line.line)
+    option_map (λ (key : SignerKey). offered_signature d.valid_after flavour digest key.key line.line)
     (key_of view.keys line.line))
     (digest_over d flavour))
     (flavour_of line)

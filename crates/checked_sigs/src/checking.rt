@@ -5,7 +5,7 @@ ghost use Rattle.dir_bytes.specs.Causes.{Rose};
 ghost use Rattle.key_port.specs.Answers.{rules};
 ghost use Rattle.period_terms.specs.Advances.{algorithm_of};
 ghost use Rattle.checked_sigs.specs.Asking.{offered_by};
-ghost use Rattle.period_terms.specs.Offered.{offered as offer_of};
+ghost use Rattle.period_terms.specs.Offered.{offered_signature as offer_of};
 ghost use Rattle.checked_sigs.specs.Checks.{AddsLine, ChecksAll, FailsLine, FailsLines, IsJudged, RefusedBy, TellsLines, tally_of};
 
 use crate::over::{digest_over, flavour_of, key_of};

@@ -13,7 +13,7 @@ use Rattle.dirdoc_grammar.specs.declared.take.Take.{Take}
 use Rattle.dirdoc_grammar.specs.declared.take.Take.TheVariants as taken
 use Rattle.dirdoc_grammar.specs.Cursors.{IsAt, behind, fed_by}
 use Rattle.dirdoc_grammar.specs.Feeding.{Fed, IfItem, MayFollow, Takes, left_with}
-use Rattle.dirdoc_grammar.specs.Seen.{LiesInOrder, seen}
+use Rattle.dirdoc_grammar.specs.Seen.{LiesInOrder, seen_item}
 use Rattle.dirdoc_grammar.proofs.Cursors.{at_behind, at_more}
 use Rattle.frame_terms.specs.Decisions.{beginning_reason}
 use Rattle.frame_terms.specs.Keywords.{word_of}
@@ -122,11 +122,11 @@ may false = tt
 -- a fault that is given stands within the bytes, or little behind them
 pub fits : (start : ℕ) (bytes : List ℕ) (cursor new : Cursor) (finished_ : Bool) (given : Take) → ReadsFront bytes cursor
     → Takes (fed_by cursor bytes finished_) given (fed_by new bytes finished_)
-    → IfItem given (λ item. LiesInOrder (seen item)) → start + length bytes < 2 ^ 61
+    → IfItem given (λ item. LiesInOrder (seen_item item)) → start + length bytes < 2 ^ 61
     → IfSome (fault_of given) (λ own. start + own.place < 2 ^ 64)
 fits start bytes cursor new finished_ (taken.Item item) is takes order short =
     let size = length-drop cursor.place bytes in
-    omega (arith, place_is (seen item), order.some_bytes, takes.3, size, is.place, short)
+    omega (arith, place_is (seen_item item), order.some_bytes, takes.3, size, is.place, short)
 fits start bytes cursor new finished_ (taken.Fault fault) is takes order short =
     let le : fault.place ≤ 2 ^ 62 =
     subst (λ (c : Contents). IfSome c.fault (λ (f : DocFault). f.place ≤ 2 ^ 62)) (takes.0 [] (may finished_))
@@ -142,7 +142,7 @@ fits start bytes cursor new finished_ taken.End is takes order short = tt
 pub fits_told : (start : ℕ) (bytes : List ℕ) (cursor new : Cursor) (finished_ : Bool) (given : Take)
     (told : Option FrameFault) → told ≡ fault_of given → ReadsFront bytes cursor
     → Takes (fed_by cursor bytes finished_) given (fed_by new bytes finished_)
-    → IfItem given (λ item. LiesInOrder (seen item)) → start + length bytes < 2 ^ 61
+    → IfItem given (λ item. LiesInOrder (seen_item item)) → start + length bytes < 2 ^ 61
     → IfSome told (λ own. start + own.place < 2 ^ 64)
 fits_told start bytes cursor new finished_ given told same is takes order short =
     subst (λ (o : Option FrameFault). IfSome o (λ own. start + own.place < 2 ^ 64)) (sym same)

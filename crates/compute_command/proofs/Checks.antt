@@ -12,7 +12,7 @@ use Rattle.dir_bytes.specs.Causes.{Rose}
 use Rattle.dir_values.specs.declared.digest.Fingerprint.{Fingerprint}
 use Rattle.key_port.specs.Answers.{Rules}
 use Rattle.vote_terms.specs.Votes.{ReadVote}
-use Rattle.vote_terms.specs.Held.{held, placed}
+use Rattle.vote_terms.specs.Held.{held, votes_with}
 use Rattle.vote_terms.specs.Acceptable.{AsksOf, IsAcceptable, IsFirstRefused, IsReached}
 use Rattle.vote_terms.specs.declared.word.VoteWord.{VoteWord}
 use Rattle.vote_doc.specs.Checks.{RefusedBy}
@@ -178,17 +178,17 @@ module _ (rules : Rules) (wanted : Compute) (votes : List ReadVote) (vote : Read
   none_before first = subst (λ (o : Option AcceptRefusal). CheckedSo rules wanted votes old.kept.votes o) first is.checked
 
   -- it is acceptable
-  pub held_too : is_some old.first ≡ false → new.first ≡ old.first → new.kept ≡ record old.kept { votes = placed old.kept.votes vote }
+  pub held_too : is_some old.first ≡ false → new.first ≡ old.first → new.kept ≡ record old.kept { votes = votes_with old.kept.votes vote }
       → IsFine vote → IsChecked rules wanted more new
   held_too none same kept fine =
       let first = none_if old.first none in
       let before = none_before first in
-      let votes_are : new.kept.votes ≡ placed old.kept.votes vote = ap (λ (h : Holding). h.votes) kept in
-      let held_are : placed old.kept.votes vote ≡ held more =
-      ap (λ (l : List ReadVote). placed l vote) before.0 ∙ sym (fold-append placed [] votes (vote ∷ [])) in
+      let votes_are : new.kept.votes ≡ votes_with old.kept.votes vote = ap (λ (h : Holding). h.votes) kept in
+      let held_are : votes_with old.kept.votes vote ≡ held more =
+      ap (λ (l : List ReadVote). votes_with l vote) before.0 ∙ sym (fold-append votes_with [] votes (vote ∷ [])) in
       let length_is = ap (λ (l : List ReadVote). length l) votes_are in
       with_first (ap (λ (h : Holding). h.room) kept ∙ is.room.room)
-      (omega (arith, length_is, placing.one_more old.kept.votes vote, is.room.fits, is.count))
+      (omega (arith, length_is, placing.placed_adds_at_most_one old.kept.votes vote, is.room.fits, is.count))
       (subst (λ (o : Option AcceptRefusal). CheckedSo rules wanted more new.kept.votes o) (sym (same ∙ first))
       (votes_are ∙ held_are, All-push IsFine votes vote before.1 fine))
 

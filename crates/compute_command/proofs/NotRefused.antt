@@ -21,17 +21,17 @@ pub at : {X : Type 0} (P : X → Type 0) (xs : List X) (i : ℕ) (x : X) → All
 at P xs i x all is = subst P (get_or_from_slice_get xs i x x is) (all i x (slice_get_within xs i x is))
 
 -- where both tests hold both together do
-both : (a b : Bool) → a ≡ true → b ≡ true → (a && b) ≡ true
-both true true p q = refl
-both true false p q = absurd cc
-both false b p q = absurd cc
+both_tests_hold_together : (a b : Bool) → a ≡ true → b ≡ true → (a && b) ≡ true
+both_tests_hold_together true true p q = refl
+both_tests_hold_together true false p q = absurd cc
+both_tests_hold_together false b p q = absurd cc
 
 -- an acceptable vote whose signatures may not be refused is refused by no word
 pub not_refused_by : (rules : Rules) (roster : List Fingerprint) (period : ℕ) (vote : ReadVote) (w : VoteWord) → IsAcceptable rules roster period vote → RefusesNone rules vote
     → Refuses rules roster period vote w → ⊥
 not_refused_by rules roster period vote word.ValidAfter ok free fails = let same = ok.wanted.valid_after in grind (arith, nat_tests, same, fails)
 not_refused_by rules roster period vote word.Authority ok free fails = false≢true (sym fails.1 ∙ ok.wanted.authority)
-not_refused_by rules roster period vote word.Fingerprint ok free fails = false≢true (sym fails.1 ∙ both _ _ ok.verified.authority ok.verified.certificate.current.fingerprint)
+not_refused_by rules roster period vote word.Fingerprint ok free fails = false≢true (sym fails.1 ∙ both_tests_hold_together _ _ ok.verified.authority ok.verified.certificate.current.fingerprint)
 not_refused_by rules roster period vote word.Expired ok free fails = omega (arith, fails.2, ok.verified.certificate.current.expires, ok.wanted.valid_after)
 not_refused_by rules roster period vote word.Certification ok free fails = false≢true (sym free.certification ∙ fails.1)
 not_refused_by rules roster period vote word.Crosscert ok free fails = false≢true (sym free.crosscert ∙ fails.2)

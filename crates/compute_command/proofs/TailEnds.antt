@@ -4,7 +4,7 @@ use Rattle.std.proofs.Common.{Option, Some, None, refl, sym, ap, subst, arith}
 use Rattle.std.specs.Prelude.{◌==◌, ◌&&◌, nat_le, nat_lt, not, if◌then◌else◌}
 use Rattle.std.specs.List.{list_all, prefix_len}
 use Rattle.std.proofs.lemmas.Bool.{and_parts, le-leb, le-ltb, leb-true, ne_eqb}
-use Rattle.item_terms.specs.Faults.{at, max_line, nul_fault, or_else, too_long, unterminated}
+use Rattle.item_terms.specs.Faults.{at, max_line, nul_fault, or_else, too_long, unterminated_fault}
 use Rattle.item_terms.specs.Items.{Contents, Item, items_from, no_limit}
 use Rattle.item_terms.specs.Lines.{Line, lines, size}
 use Rattle.item_terms.specs.Words.{is_blank, is_blank_line, nul_in}
@@ -55,7 +55,7 @@ is_blank_line_by limit place line is within =
     let fits : size line ≤ max_line = omega (arith, leb-true (0 + size line) max_line parts.1) in
     let short : too_long limit place (size line) ≡ None =
     ap (λ (t : Bool). fault_by t limit place) (le-leb (size line) (min (limit - place) max_line) (omega (arith, fits, within))) in
-    let ended : unterminated place line ≡ None =
+    let ended : unterminated_fault place line ≡ None =
     ap (λ (t : Bool). if t then None else Some (at (place + length line.text) Unterminated)) line_.0 in
     let nul : nul_in line.text ≡ None =
     ap (λ (k : ℕ). if nat_lt k (length line.text) then Some k else None) (no_nul line.text line_.1)
@@ -63,7 +63,7 @@ is_blank_line_by limit place line is within =
     record {
       blank = line_.1;
       sound =
-          ap (λ (f : Option DocFault). or_else f (or_else (unterminated place line) (nul_fault place (nul_in line.text)))) short
+          ap (λ (f : Option DocFault). or_else f (or_else (unterminated_fault place line) (nul_fault place (nul_in line.text)))) short
           ∙ ap (λ (f : Option DocFault). or_else f (nul_fault place (nul_in line.text))) ended
           ∙ ap (λ (o : Option ℕ). nul_fault place o) nul;
     }
@@ -72,8 +72,8 @@ is_blank_line_by limit place line is within =
 pub blank_line_by : (limit place : ℕ) (line : Line) → IsBlankLine limit place line → blank_line 0 line ≡ true
 blank_line_by limit place line is =
     let long = too_long limit place (size line) in
-    let others = or_else (unterminated place line) (nul_fault place (nul_in line.text)) in
-    let ended = by_ended line.ended (none_first (unterminated place line) (nul_fault place (nul_in line.text))
+    let others = or_else (unterminated_fault place line) (nul_fault place (nul_in line.text)) in
+    let ended = by_ended line.ended (none_first (unterminated_fault place line) (nul_fault place (nul_in line.text))
     (none_second long others is.sound)) in
     let fits = by_size (nat_le (size line) (min (limit - place) max_line)) refl (none_first long others is.sound) in
     let short : nat_le (0 + size line) max_line ≡ true = le-leb (0 + size line) max_line (omega (arith, fits)) in

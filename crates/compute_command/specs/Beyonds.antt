@@ -5,7 +5,7 @@ use Rattle.dirdoc_grammar.specs.declared.cursor.Cursor.{Cursor}
 use Rattle.dirdoc_grammar.specs.declared.take.Take.{Take}
 use Rattle.dirdoc_grammar.specs.declared.take.Take.TheVariants as taken
 use Rattle.dirdoc_grammar.specs.Cursors.{IsAt}
-use Rattle.dirdoc_grammar.specs.Seen.{seen}
+use Rattle.dirdoc_grammar.specs.Seen.{seen_item}
 use Rattle.frame_terms.specs.declared.fault.FrameFault.{FrameFault}
 use Rattle.frame_terms.specs.declared.fault.FrameReason.TheVariants.{Doc}
 use Rattle.frame_terms.specs.declared.fault.ReadRefusal.TheVariants.{Frame}
@@ -30,7 +30,7 @@ pub record ReadsFront (bytes : List ℕ) (cursor : Cursor) : Type 0 where
 
 -- why what a reader gives first is no end of the input: an item begins no vote, or is one too many; a fault is one
 abbrev pub fault_of : Take → Option FrameFault
-fault_of (taken.Item item) = Some (item_too_many (seen item))
+fault_of (taken.Item item) = Some (item_too_many (seen_item item))
 fault_of (taken.Fault fault) = Some (record { place = fault.place; reason = Doc fault.reason })
 fault_of taken.NotYet = None
 fault_of taken.End = None

@@ -1,6 +1,6 @@
 // How many votes an input may have, and why one too many is refused.
 ghost use Rattle.std.specs.Prelude.{◌≡◌};
-ghost use Rattle.dirdoc_grammar.specs.Seen.{seen};
+ghost use Rattle.dirdoc_grammar.specs.Seen.{seen_item};
 ghost use Rattle.compute_command.specs.Votes as votes;
 
 use dirdoc_grammar::Item;
@@ -13,7 +13,7 @@ pub(crate) const MOST_VOTES: usize = 64;
 
 /// Why the first item of a vote too many is refused: it begins no vote, or there are too many.
 pub(crate) fn item_too_many(item: &Item<'_>) -> FrameFault
-    ensures { result ≡ votes.item_too_many (seen item.now) }
+    ensures { result ≡ votes.item_too_many (seen_item item.now) }
 {
     match first_fault(VoteFrame, item) {
         Some(fault) => fault,

@@ -42,11 +42,11 @@ use Rattle.computed_laws.proofs.WeightWords.{weights_fill}
 -- ---- the items
 
 -- what follows from two facts of each member
-both : {X : Type 0} (P Q R : X → Type 0) → ((x : X) → P x → Q x → R x) → (list : List X) → All P list → All Q list → All R list
-both P Q R each [] first second = All-nil R
-both P Q R each (x ∷ rest) first second =
+all_from_two_facts : {X : Type 0} (P Q R : X → Type 0) → ((x : X) → P x → Q x → R x) → (list : List X) → All P list → All Q list → All R list
+all_from_two_facts P Q R each [] first second = All-nil R
+all_from_two_facts P Q R each (x ∷ rest) first second =
     All-cons R x rest (each x (All-head P x rest first) (All-head Q x rest second))
-    (both P Q R each rest (All-tail P x rest first) (All-tail Q x rest second))
+    (all_from_two_facts P Q R each rest (All-tail P x rest first) (All-tail Q x rest second))
 
 signatures_are : (lines : List SignatureLine) → All IsSignature lines → AreItems (map signature_item (in_order lines))
 signatures_are lines signed_ = record {
@@ -65,11 +65,11 @@ computed_items flavour newest roster votes lines in_range fills signed_ =
     let method = chosen_method newest votes in
     let relays : List Routerline = map at (routers roster method limit votes) in
     let sources : All (λ (s : SourceLine). AreItems (source_items s)) (map source_of votes) =
-    both IsAuthorityInRange (λ (s : SourceLine). IfSome s.contact IsLineRest)
+    all_from_two_facts IsAuthorityInRange (λ (s : SourceLine). IfSome s.contact IsLineRest)
     (λ (s : SourceLine). AreItems (source_items s)) (λ s is contact. source_are s is contact) (map source_of votes)
     are.sources (contacts_fill votes fills) in
     let each : All (λ (r : Routerline). AreItems (router_items flavour r)) (listed flavour relays) =
-    both (IsRouterInRange flavour) HasTexts (λ (r : Routerline). AreItems (router_items flavour r))
+    all_from_two_facts (IsRouterInRange flavour) HasTexts (λ (r : Routerline). AreItems (router_items flavour r))
     (λ r is texts. router_are flavour r is texts) (listed flavour relays) are.routers
     (All-filter (is_listed flavour) HasTexts relays
     (All-map HasTexts at (routers roster method limit votes)

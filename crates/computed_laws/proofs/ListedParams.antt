@@ -10,7 +10,7 @@ use Rattle.count_terms.specs.Counts.{middle}
 use Rattle.count_terms.specs.Medians.{low_median_by, stands_by}
 use Rattle.dir_values.specs.FlagSets.{is_name}
 use Rattle.list_values.specs.declared.named.Named.{Named}
-use Rattle.list_values.specs.Maps.{named}
+use Rattle.list_values.specs.Maps.{named_value}
 use Rattle.list_values.specs.NumberSets.{numbers_that}
 use Rattle.value_laws.specs.Ranges.{AreNumbersInRange, AreParamsInRange, AreProtocolsInRange, IsParamInRange, IsProtocolInRange}
 use Rattle.value_laws.proofs.NumbersAlone.{kept_in_range}
@@ -91,8 +91,8 @@ protocols_in_range line votes all =
     let names : List (List ℕ) = filter (is_listed_protocol lists) (all_names lists) in
     record {
       ascend = ascend_among (listed_numbers lists) (is_listed_protocol lists) (all_names lists) (names_ascend lists);
-      each = All-map IsProtocolInRange (λ (name : List ℕ). named name (listed_numbers lists name)) names
-          (All-weaker IsName (λ (name : List ℕ). IsProtocolInRange (named name (listed_numbers lists name)))
+      each = All-map IsProtocolInRange (λ (name : List ℕ). named_value name (listed_numbers lists name)) names
+          (All-weaker IsName (λ (name : List ℕ). IsProtocolInRange (named_value name (listed_numbers lists name)))
           (λ name is. record { name = is; numbers = numbers_in_range (is_listed_number lists name) }) names
           (All-filter (is_listed_protocol lists) IsName (all_names lists) (names_in_range lists each)));
     }

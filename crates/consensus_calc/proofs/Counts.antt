@@ -13,19 +13,19 @@ use Rattle.dir_values.specs.FlagSets.{has_flag}
 use Rattle.compute_terms.specs.declared.belong.Belong.{Belong}
 use Rattle.compute_terms.specs.Listings.{Listing, listing_at, listings_at}
 use Rattle.compute_terms.specs.RelayFlags.{knows, counts_for, setting_count, knowing_count}
-use Rattle.consensus_calc.specs.Counting.{one_if, added}
+use Rattle.consensus_calc.specs.Counting.{one_if, added_counts}
 
 -- ---- one step of adding
 
 pub add_step : (first second : List Bool) (now : List ℕ) (i v : ℕ) → i < length now → length first ≡ length now → length second ≡ length now → v ≡ get_or now i 0 + one_if (get_or first i false) (get_or second i false)
-    → take (i + 1) (set now i v) ++ added (drop (i + 1) first) (drop (i + 1) second) (drop (i + 1) (set now i v)) ≡ take i now ++ added (drop i first) (drop i second) (drop i now)
+    → take (i + 1) (set now i v) ++ added_counts (drop (i + 1) first) (drop (i + 1) second) (drop (i + 1) (set now i v)) ≡ take i now ++ added_counts (drop i first) (drop i second) (drop i now)
 add_step first second now i v lt a b is =
     let f : drop i first ≡ get_or first i false ∷ drop (i + 1) first = rw add-one (drop-cons first i false (omega (arith, a, lt))) in
     let s : drop i second ≡ get_or second i false ∷ drop (i + 1) second = rw add-one (drop-cons second i false (omega (arith, b, lt))) in
     let n : drop i now ≡ get_or now i 0 ∷ drop (i + 1) now = rw add-one (drop-cons now i 0 lt) in
     let rest : drop (i + 1) (set now i v) ≡ drop (i + 1) now = drop-set-lt (i + 1) now i v (omega arith) in
     rw (take_more_set now i v lt, rest, f, s, n, is)
-    (append_assoc (take i now) ((get_or now i 0 + one_if (get_or first i false) (get_or second i false)) ∷ []) (added (drop (i + 1) first) (drop (i + 1) second) (drop (i + 1) now)))
+    (append_assoc (take i now) ((get_or now i 0 + one_if (get_or first i false) (get_or second i false)) ∷ []) (added_counts (drop (i + 1) first) (drop (i + 1) second) (drop (i + 1) now)))
 
 pub behind_step : (now old : List ℕ) (i v : ℕ) → i < length now → length now ≡ length old → drop i now ≡ drop i old → drop (i + 1) (set now i v) ≡ drop (i + 1) old
 behind_step now old i v lt same e =
@@ -51,14 +51,14 @@ one_at_most true false = omega arith
 one_at_most false b = omega arith
 
 -- a count rises by one at most
-pub added_few : (first second : List Bool) (counts : List ℕ) (k : ℕ) → get_or (added first second counts) k 0 ≤ get_or counts k 0 + 1
+pub added_few : (first second : List Bool) (counts : List ℕ) (k : ℕ) → get_or (added_counts first second counts) k 0 ≤ get_or counts k 0 + 1
 added_few [] second counts k = omega arith
 added_few (a ∷ first) [] counts k = omega arith
 added_few (a ∷ first) (b ∷ second) [] k = omega arith
 added_few (a ∷ first) (b ∷ second) (count ∷ counts) zero = omega (arith, one_at_most a b)
 added_few (a ∷ first) (b ∷ second) (count ∷ counts) (suc k) = added_few first second counts k
 
-pub length-added : (first second : List Bool) (counts : List ℕ) → length (added first second counts) ≡ length counts
+pub length-added : (first second : List Bool) (counts : List ℕ) → length (added_counts first second counts) ≡ length counts
 length-added [] second counts = refl
 length-added (a ∷ first) [] counts = refl
 length-added (a ∷ first) (b ∷ second) [] = refl
@@ -66,7 +66,7 @@ length-added (a ∷ first) (b ∷ second) (count ∷ counts) = omega (arith, len
 
 -- ---- counts of flags
 
-added_map : (f : List ℕ → ℕ) (g h : List ℕ → Bool) (flags : List (List ℕ)) → added (map g flags) (map h flags) (map f flags) ≡ map (λ flag. f flag + one_if (g flag) (h flag)) flags
+added_map : (f : List ℕ → ℕ) (g h : List ℕ → Bool) (flags : List (List ℕ)) → added_counts (map g flags) (map h flags) (map f flags) ≡ map (λ flag. f flag + one_if (g flag) (h flag)) flags
 added_map f g h [] = refl
 added_map f g h (flag ∷ flags) = ap (λ (l : List ℕ). (f flag + one_if (g flag) (h flag)) ∷ l) (added_map f g h flags)
 
@@ -87,7 +87,7 @@ module _ {A : Type 0} where
 
 -- one more vote that knows flags, and sets them in an entry
 pub setting_more : (said : List Listing) (l : Listing) (flags : List (List ℕ)) (counts new : List ℕ) (row marks : List Bool) → counts ≡ map (setting_count said) flags → row ≡ map (λ flag. knows flag l.vote) flags
-    → marks ≡ map (λ flag. has_flag l.entry.flags flag) flags → new ≡ added row marks counts → new ≡ map (setting_count (said ++ l ∷ [])) flags
+    → marks ≡ map (λ flag. has_flag l.entry.flags flag) flags → new ≡ added_counts row marks counts → new ≡ map (setting_count (said ++ l ∷ [])) flags
 setting_more said l flags counts new row marks c r m n =
     n ∙ rw (c, r, m) (added_map (setting_count said) (λ flag. knows flag l.vote) (λ flag. has_flag l.entry.flags flag) flags)
     ∙ map_ext (λ flag. setting_count said flag + one_if (knows flag l.vote) (has_flag l.entry.flags flag)) (setting_count (said ++ l ∷ [])) flags (λ flag. count_last (counts_for flag) said l)
@@ -97,7 +97,7 @@ both_same true = refl
 both_same false = refl
 
 pub knowing_more : (votes : List ReadVote) (i : ℕ) (flags : List (List ℕ)) (vote : ReadVote) (counts new : List ℕ) (row : List Bool) → i < length votes → vote ≡ get_or votes i vote → counts ≡ map (knowing_count (take i votes)) flags
-    → row ≡ map (λ flag. knows flag vote) flags → new ≡ added row row counts → new ≡ map (knowing_count (take (i + 1) votes)) flags
+    → row ≡ map (λ flag. knows flag vote) flags → new ≡ added_counts row row counts → new ≡ map (knowing_count (take (i + 1) votes)) flags
 knowing_more votes i flags vote counts new row lt is c r n =
     n ∙ rw (c, r) (added_map (knowing_count (take i votes)) (λ flag. knows flag vote) (λ flag. knows flag vote) flags)
     ∙ map_ext (λ flag. knowing_count (take i votes) flag + one_if (knows flag vote) (knows flag vote)) (knowing_count (take i votes ++ vote ∷ [])) flags

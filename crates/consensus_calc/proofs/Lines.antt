@@ -14,7 +14,7 @@ use Rattle.compute_terms.specs.Tuples.{chosen_tuple}
 use Rattle.compute_terms.specs.RelayFlags.{setting_count, knowing_count, is_set, set_flags, router_flags, is_running_and_valid}
 use Rattle.compute_terms.specs.Flags.{known_flags}
 use Rattle.compute_terms.specs.Routers.{belonging_listings, routerline_of, router_as, router_from, router_with}
-use Rattle.consensus_calc.specs.Picking.{picked}
+use Rattle.consensus_calc.specs.Picking.{picked_flags}
 use Rattle.consensus_calc.proofs.Picks.{picked_filter}
 
 -- The part of an identity and the flags of its entries were found.
@@ -46,9 +46,9 @@ listed roster method most votes rsa said kept ed flags entries line f y e l =
 
 -- the flags that are picked by their counts are those that are set
 pub set_is : (votes : List ReadVote) (ed : EdPart) (said : List Listing) (known : List (List ℕ)) (counts needed : List ℕ) → known ≡ known_flags votes → counts ≡ map (setting_count said) known → needed ≡ map (knowing_count votes) known
-    → as_set (picked ed known counts needed) ≡ set_flags votes ed said
+    → as_set (picked_flags ed known counts needed) ≡ set_flags votes ed said
 set_is votes ed said known counts needed k c n =
-    ap (λ (cs : List ℕ). as_set (picked ed known cs needed)) c
-    ∙ ap (λ (ns : List ℕ). as_set (picked ed known (map (setting_count said) known) ns)) n
+    ap (λ (cs : List ℕ). as_set (picked_flags ed known cs needed)) c
+    ∙ ap (λ (ns : List ℕ). as_set (picked_flags ed known (map (setting_count said) known) ns)) n
     ∙ ap (λ (fs : List (List ℕ)). as_set fs) (picked_filter ed known (setting_count said) (knowing_count votes))
     ∙ ap (λ (fs : List (List ℕ)). as_set (filter (is_set votes ed said) fs)) k

@@ -10,7 +10,7 @@ use Rattle.dir_values.specs.Digests.{is_less, bytes_below}
 use Rattle.dir_values.specs.FlagSets.{has_flag, as_set, Ascend}
 use Rattle.dir_values.proofs.Flags.{has_flag-as_set}
 use Rattle.dir_values.proofs.Orders.{same_text, AllPairs-head, AllPairs-tail}
-use Rattle.consensus_calc.specs.Marks.{marked}
+use Rattle.consensus_calc.specs.Marks.{flag_marks}
 
 abbrev Below : List ℕ → List ℕ → Type 0
 Below a b = bytes_below a b ≡ true
@@ -24,7 +24,7 @@ or_assoc true b c = refl
 or_assoc false b c = refl
 
 -- one word, and then others
-pub marked_more : (flags : List (List ℕ)) (marks : List Bool) (word : List ℕ) (words : List (List ℕ)) → marked flags (marked flags marks (word ∷ [])) words ≡ marked flags marks (word ∷ words)
+pub marked_more : (flags : List (List ℕ)) (marks : List Bool) (word : List ℕ) (words : List (List ℕ)) → flag_marks flags (flag_marks flags marks (word ∷ [])) words ≡ flag_marks flags marks (word ∷ words)
 marked_more [] marks word words = refl
 marked_more (flag ∷ flags) [] word words = refl
 marked_more (flag ∷ flags) (mark ∷ marks) word words =
@@ -32,20 +32,20 @@ marked_more (flag ∷ flags) (mark ∷ marks) word words =
     ap (λ (b : Bool). (mark || b) || has_flag words flag) (or_false (bytes_eq word flag)) ∙ or_assoc mark (bytes_eq word flag) (has_flag words flag) in
     rw (here, marked_more flags marks word words) refl
 
-pub length-marked : (flags : List (List ℕ)) (marks : List Bool) (words : List (List ℕ)) → length marks ≡ length flags → length (marked flags marks words) ≡ length flags
+pub length-marked : (flags : List (List ℕ)) (marks : List Bool) (words : List (List ℕ)) → length marks ≡ length flags → length (flag_marks flags marks words) ≡ length flags
 length-marked [] marks words same = refl
 length-marked (flag ∷ flags) [] words same = absurd (omega (arith, same))
 length-marked (flag ∷ flags) (mark ∷ marks) words same = omega (arith, length-marked flags marks words (omega (arith, same)))
 
 -- no word marks nothing
-pub marked_none : (flags : List (List ℕ)) (marks : List Bool) → length marks ≡ length flags → marked flags marks [] ≡ marks
+pub marked_none : (flags : List (List ℕ)) (marks : List Bool) → length marks ≡ length flags → flag_marks flags marks [] ≡ marks
 marked_none [] [] same = refl
 marked_none [] (mark ∷ marks) same = absurd (omega (arith, same))
 marked_none (flag ∷ flags) [] same = absurd (omega (arith, same))
 marked_none (flag ∷ flags) (mark ∷ marks) same = rw (or_false mark, marked_none flags marks (omega (arith, same))) refl
 
 -- what is marked of nothing
-pub marked_start : (flags : List (List ℕ)) (words : List (List ℕ)) → marked flags (replicate (length flags) false) words ≡ map (λ flag. has_flag words flag) flags
+pub marked_start : (flags : List (List ℕ)) (words : List (List ℕ)) → flag_marks flags (replicate (length flags) false) words ≡ map (λ flag. has_flag words flag) flags
 marked_start [] words = refl
 marked_start (flag ∷ flags) words = ap (λ (l : List Bool). has_flag words flag ∷ l) (marked_start flags words)
 
@@ -74,14 +74,14 @@ or_parts true b h = absurd (false≢true (sym h))
 or_parts false b h = (refl, h)
 
 -- a word that is no flag marks nothing
-pub marked_absent : (flags : List (List ℕ)) (marks : List Bool) (word : List ℕ) → length marks ≡ length flags → has_flag flags word ≡ false → marks ≡ marked flags marks (word ∷ [])
+pub marked_absent : (flags : List (List ℕ)) (marks : List Bool) (word : List ℕ) → length marks ≡ length flags → has_flag flags word ≡ false → marks ≡ flag_marks flags marks (word ∷ [])
 marked_absent [] [] word same h = refl
 marked_absent [] (mark ∷ marks) word same h = absurd (omega (arith, same))
 marked_absent (flag ∷ flags) [] word same h = absurd (omega (arith, same))
 marked_absent (flag ∷ flags) (mark ∷ marks) word same h =
     let parts = or_parts (bytes_eq flag word) (has_flag flags word) h in
     let here : bytes_eq word flag ≡ false = eq_back_by _ word flag refl parts.0 in
-    let more : marks ≡ marked flags marks (word ∷ []) = marked_absent flags marks word (omega (arith, same)) parts.1 in
+    let more : marks ≡ flag_marks flags marks (word ∷ []) = marked_absent flags marks word (omega (arith, same)) parts.1 in
     let first : (mark || (bytes_eq word flag || false)) ≡ mark = rw here (or_false mark) in
     rw (first, ← more) refl
 
@@ -97,12 +97,12 @@ at_all P (y ∷ ys) zero x all e = subst P (same_Some y x e) (all zero y (omega 
 at_all P (y ∷ ys) (suc i) x all e = at_all P ys i x (λ k d lt. all (suc k) d (omega (arith, lt))) e
 
 -- a word that is the flag at a place marks that place
-pub marked_at : (flags : List (List ℕ)) (marks : List Bool) (i : ℕ) (word : List ℕ) → Ascend flags → length marks ≡ length flags → slice_get flags i ≡ Some word → set marks i true ≡ marked flags marks (word ∷ [])
+pub marked_at : (flags : List (List ℕ)) (marks : List Bool) (i : ℕ) (word : List ℕ) → Ascend flags → length marks ≡ length flags → slice_get flags i ≡ Some word → set marks i true ≡ flag_marks flags marks (word ∷ [])
 marked_at [] marks i word up same e = absurd cc
 marked_at (flag ∷ flags) [] i word up same e = absurd (omega (arith, same))
 marked_at (flag ∷ flags) (mark ∷ marks) zero word up same e =
     let is : word ≡ flag = sym (same_Some flag word e) in
-    let rest : marks ≡ marked flags marks (flag ∷ []) = marked_absent flags marks flag (omega (arith, same)) (behind_absent flag flags (AllPairs-head Below flag flags up)) in
+    let rest : marks ≡ flag_marks flags marks (flag ∷ []) = marked_absent flags marks flag (omega (arith, same)) (behind_absent flag flags (AllPairs-head Below flag flags up)) in
     rw (is, (bytes_decides flag flag).1 refl) (rw (sym rest) (first mark))
   where
     first : (m : Bool) → true ∷ marks ≡ (m || true) ∷ marks

@@ -9,7 +9,7 @@ use Rattle.std.proofs.lemmas.List.{take_more, map-append}
 use Rattle.std.proofs.lemmas.Option.{same_Some, get_or_from_slice_get, slice_get_within}
 use Rattle.dir_values.specs.FlagSets.{has_flag, with_flag}
 use Rattle.compute_terms.specs.declared.identity.EdPart.{EdPart}
-use Rattle.consensus_calc.specs.Picking.{with_flag_if, is_set_by, picked}
+use Rattle.consensus_calc.specs.Picking.{with_flag_if, is_set_by, picked_flags}
 
 module _ {A : Type 0} where
   at_suc : (xs : List A) (i : ℕ) (x : A) → slice_get xs i ≡ Some x → drop i xs ≡ x ∷ drop (suc i) xs
@@ -48,22 +48,22 @@ filter_more p flags i flag set new wanted e w n =
     ∙ sym (ap (λ (l : List (List ℕ)). fold with_flag set (filter p l)) (at_place flags i flag e))
 
 picked_by : (b : Bool) (ed : EdPart) (flag : List ℕ) (flags set : List (List ℕ)) (count need : ℕ) (counts needed : List ℕ) → is_set_by ed flag count need ≡ b
-    → fold with_flag (with_flag_if set flag b) (picked ed flags counts needed) ≡ fold with_flag set (picked ed (flag ∷ flags) (count ∷ counts) (need ∷ needed))
+    → fold with_flag (with_flag_if set flag b) (picked_flags ed flags counts needed) ≡ fold with_flag set (picked_flags ed (flag ∷ flags) (count ∷ counts) (need ∷ needed))
 picked_by true ed flag flags set count need counts needed e = rw e refl
 picked_by false ed flag flags set count need counts needed e = rw e refl
 
 pub picked_more : (ed : EdPart) (flags : List (List ℕ)) (counts needed : List ℕ) (i : ℕ) (flag : List ℕ) (set new : List (List ℕ)) (wanted : Bool) → i < length counts → i < length needed
     → slice_get flags i ≡ Some flag → wanted ≡ is_set_by ed flag (get_or counts i 0) (get_or needed i 0) → new ≡ with_flag_if set flag wanted
-    → fold with_flag new (picked ed (drop (i + 1) flags) (drop (i + 1) counts) (drop (i + 1) needed)) ≡ fold with_flag set (picked ed (drop i flags) (drop i counts) (drop i needed))
+    → fold with_flag new (picked_flags ed (drop (i + 1) flags) (drop (i + 1) counts) (drop (i + 1) needed)) ≡ fold with_flag set (picked_flags ed (drop i flags) (drop i counts) (drop i needed))
 picked_more ed flags counts needed i flag set new wanted below within e w n =
     let one : drop i counts ≡ get_or counts i 0 ∷ drop (i + 1) counts = rw add-one (drop-cons counts i 0 below) in
     let two : drop i needed ≡ get_or needed i 0 ∷ drop (i + 1) needed = rw add-one (drop-cons needed i 0 within) in
-    ap (λ (s : List (List ℕ)). fold with_flag s (picked ed (drop (i + 1) flags) (drop (i + 1) counts) (drop (i + 1) needed))) n
+    ap (λ (s : List (List ℕ)). fold with_flag s (picked_flags ed (drop (i + 1) flags) (drop (i + 1) counts) (drop (i + 1) needed))) n
     ∙ picked_by wanted ed flag (drop (i + 1) flags) set (get_or counts i 0) (get_or needed i 0) (drop (i + 1) counts) (drop (i + 1) needed) (sym w)
     ∙ sym (rw (at_place flags i flag e, one, two) refl)
 
 -- the flags that are picked by their counts are those that pass the test of these
-pub picked_filter : (ed : EdPart) (flags : List (List ℕ)) (f g : List ℕ → ℕ) → picked ed flags (map f flags) (map g flags) ≡ filter (λ flag. is_set_by ed flag (f flag) (g flag)) flags
+pub picked_filter : (ed : EdPart) (flags : List (List ℕ)) (f g : List ℕ → ℕ) → picked_flags ed flags (map f flags) (map g flags) ≡ filter (λ flag. is_set_by ed flag (f flag) (g flag)) flags
 picked_filter ed [] f g = refl
 picked_filter ed (flag ∷ flags) f g = rw (picked_filter ed flags f g) refl
 

@@ -15,9 +15,9 @@ abbrev pub with_flag_if : List (List ℕ) → List ℕ → Bool → List (List �
 with_flag_if set flag wanted = if wanted then with_flag set flag else set
 
 -- the flags that are set of those that are known
-abbrev pub picked : EdPart → List (List ℕ) → List ℕ → List ℕ → List (List ℕ)
-picked ed [] counts needed = []
-picked ed (flag ∷ flags) [] needed = []
-picked ed (flag ∷ flags) (count ∷ counts) [] = []
-picked ed (flag ∷ flags) (count ∷ counts) (need ∷ needed) =
-    if is_set_by ed flag count need then flag ∷ picked ed flags counts needed else picked ed flags counts needed
+abbrev pub picked_flags : EdPart → List (List ℕ) → List ℕ → List ℕ → List (List ℕ)
+picked_flags ed [] counts needed = []
+picked_flags ed (flag ∷ flags) [] needed = []
+picked_flags ed (flag ∷ flags) (count ∷ counts) [] = []
+picked_flags ed (flag ∷ flags) (count ∷ counts) (need ∷ needed) =
+    if is_set_by ed flag count need then flag ∷ picked_flags ed flags counts needed else picked_flags ed flags counts needed

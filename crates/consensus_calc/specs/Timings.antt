@@ -6,12 +6,12 @@ use Rattle.consensus_calc.specs.declared.timing.Timing.{Timing}
 use Rattle.consensus_calc.specs.declared.timing.Timing.TheVariants.{ValidAfter, FreshUntil, ValidUntil, VoteSeconds, DistSeconds}
 
 -- what a vote says
-abbrev pub said : Timing → ReadVote → ℕ
-said ValidAfter vote = vote.says.valid_after
-said FreshUntil vote = vote.says.fresh_until
-said ValidUntil vote = vote.says.valid_until
-said VoteSeconds vote = vote.says.vote_seconds
-said DistSeconds vote = vote.says.dist_seconds
+abbrev pub said_timing : Timing → ReadVote → ℕ
+said_timing ValidAfter vote = vote.says.valid_after
+said_timing FreshUntil vote = vote.says.fresh_until
+said_timing ValidUntil vote = vote.says.valid_until
+said_timing VoteSeconds vote = vote.says.vote_seconds
+said_timing DistSeconds vote = vote.says.dist_seconds
 
 -- the most that it may say
 abbrev pub most : Timing → ℕ

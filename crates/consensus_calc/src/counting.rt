@@ -1,6 +1,6 @@
 // Counts, one for each flag.
 ghost use Rattle.std.specs.Prelude.{◌≡◌, ◌<◌, ◌≤◌, ◌+◌, ◌^◌, ℕ, OnOk, length, replicate, slice_index};
-ghost use Rattle.consensus_calc.specs.Counting.{added, one_if};
+ghost use Rattle.consensus_calc.specs.Counting.{added_counts, one_if};
 
 use dir_bytes::Memory;
 
@@ -20,7 +20,7 @@ pub fn add(first: &[bool], second: &[bool], counts: &mut Vec<u64>)
     requires first { length first.now ≡ length counts.old.items }
     requires second { length second.now ≡ length counts.old.items }
     requires room { (k : ℕ) → slice_index counts.old.items k + 1 < 2 ^ 64 }
-    ensures { counts.new.items ≡ added first.now second.now counts.old.items }
+    ensures { counts.new.items ≡ added_counts first.now second.now counts.old.items }
 {
     'counts: for i in 0..counts.len() {
         counts[i] += one_if(first[i], second[i]);

@@ -2,7 +2,7 @@
 ghost use Rattle.std.specs.Prelude.{◌≡◌, ◌<◌, ◌^◌, [], ◌∷◌, false, Some, MatchOption, OnOk, length, map, replicate, slice_get};
 ghost use Rattle.item_terms.specs.Words.{words_of};
 ghost use Rattle.dir_values.specs.FlagSets.{has_flag, as_set, Ascend};
-ghost use Rattle.consensus_calc.specs.Marks.{marked};
+ghost use Rattle.consensus_calc.specs.Marks.{flag_marks};
 
 use dir_bytes::Memory;
 use dir_values::{Arguments, FlagSet};
@@ -34,7 +34,7 @@ fn unmark(count: usize, marks: &mut Vec<bool>) -> Result<(), Memory>
 /// Marks a flag, where it is one of these.
 fn mark_one(known: &FlagSet, word: &[u8], marks: &mut Vec<bool>)
     requires { length marks.old.items ≡ length known.now }
-    ensures { marks.new.items ≡ marked known.now marks.old.items (word.now ∷ []) }
+    ensures { marks.new.items ≡ flag_marks known.now marks.old.items (word.now ∷ []) }
 {
     if let Some(i) = place_of(known, word) {
         marks[i] = true;

@@ -86,7 +86,7 @@ pub fn set_flags(
 ) -> Result<FlagSet, Memory>
     requires counts { length counts.now ≡ length known.now }
     requires needed { length needed.now ≡ length known.now }
-    ensures { IfOk result (λ set. set ≡ as_set (picking.picked part.now known.now counts.now needed.now)) }
+    ensures { IfOk result (λ set. set ≡ as_set (picking.picked_flags part.now known.now counts.now needed.now)) }
 {
     let mut set = FlagSet::new(alloc);
     'flags: for i in 0..known.len() {

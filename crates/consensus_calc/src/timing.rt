@@ -21,7 +21,7 @@ pub enum Timing {
 
 /// What a vote says.
 fn said(vote: &Vote, timing: Timing) -> u64
-    ensures value { result ≡ timings.said timing vote.now }
+    ensures value { result ≡ timings.said_timing timing vote.now }
     ensures within { result ≤ timings.most timing }
 {
     match timing {
@@ -35,7 +35,7 @@ fn said(vote: &Vote, timing: Timing) -> u64
 
 /// What the votes say, in their order.
 fn all_said(alloc: Global, votes: &Accepted, timing: Timing) -> Result<Vec<u64>, Memory>
-    ensures values { IfOk result (λ values. values.items ≡ map (timings.said timing) votes.now.votes) }
+    ensures values { IfOk result (λ values. values.items ≡ map (timings.said_timing timing) votes.now.votes) }
     ensures within { IfOk result (λ values. All (λ value. value ≤ timings.most timing) values.items) }
 {
     let count = votes.len();
@@ -48,7 +48,7 @@ fn all_said(alloc: Global, votes: &Accepted, timing: Timing) -> Result<Vec<u64>,
 
 /// The low median of what the votes say.
 pub fn median(alloc: Global, votes: &Accepted, timing: Timing) -> Result<u64, Memory>
-    ensures value { IfOk result (λ value. value ≡ median_of (timings.said timing) votes.now.votes) }
+    ensures value { IfOk result (λ value. value ≡ median_of (timings.said_timing timing) votes.now.votes) }
     ensures within { IfOk result (λ value. value ≤ timings.most timing) }
 {
     let mut values = all_said(alloc, votes, timing)?;

@@ -14,7 +14,7 @@ use Rattle.consensus_frame.specs.declared.value.ConsensusValue.{ConsensusValue}
 use Rattle.consensus_frame.specs.Tables.{consensus_tables}
 use Rattle.consensus_doc.specs.declared.draft.Draft.{Draft}
 use Rattle.consensus_doc.specs.Drafts.{no_draft, with_section}
-use Rattle.consensus_doc.specs.Keeping.{Kept, with_draft, keeping}
+use Rattle.consensus_doc.specs.Keeping.{Kept, with_draft, kept_with_section}
 use Rattle.consensus_doc.specs.Reading.{consensus_as, consensus_in, consensus_of, draft_of, flavour_of, max_consensus}
 use Rattle.consensus_doc.specs.Reading.{with_consensus}
 
@@ -28,11 +28,11 @@ Parts = Document ConsensusSection (Value ConsensusValue)
 
 -- keeping one section after the other changes the draft alone
 folds : (groups : List Part) (kept : Kept)
-    → fold (λ (k : Kept) (group : Part). keeping k group.section group.taken) kept groups
+    → fold (λ (k : Kept) (group : Part). kept_with_section k group.section group.taken) kept groups
     ≡ with_draft kept (fold (λ (d : Draft) (group : Part).
     with_section kept.flavour kept.bytes d group.section group.taken) kept.draft groups)
 folds [] kept = refl
-folds (group ∷ groups) kept = folds groups (keeping kept group.section group.taken)
+folds (group ∷ groups) kept = folds groups (kept_with_section kept group.section group.taken)
 
 -- a draft alone
 abbrev draft_only : Result (Kept × ℕ) ReadRefusal → Result (Draft × ℕ) ReadRefusal
@@ -45,7 +45,7 @@ ok_of draft used = Ok (draft, used)
 
 -- what is kept of a document, without the bytes
 without_bytes : (kept : Kept) (document : Result Parts ReadRefusal)
-    → finish (with_section kept.flavour kept.bytes) kept.draft document ≡ draft_only (finish keeping kept document)
+    → finish (with_section kept.flavour kept.bytes) kept.draft document ≡ draft_only (finish kept_with_section kept document)
 without_bytes kept (Ok document) =
     sym (ap (λ (k : Kept). draft_only (Ok (k, document.used))) (folds document.groups kept))
 without_bytes kept (Err refusal) = refl
@@ -57,7 +57,7 @@ started flavour bytes start = record { flavour = flavour; bytes = bytes; draft =
 -- what a reader answers that starts with this draft and these items
 abbrev pub kept_of : Flavour → List ℕ → Draft → Contents → Result (Kept × ℕ) ReadRefusal
 kept_of flavour bytes start items =
-    finish keeping (started flavour bytes start) (document_of (consensus_tables flavour) (length bytes) items)
+    finish kept_with_section (started flavour bytes start) (document_of (consensus_tables flavour) (length bytes) items)
 
 -- the same without the bytes is what is kept of the document
 answers : (flavour : Flavour) (bytes : List ℕ) (start : Draft) (items : Contents)

@@ -19,5 +19,5 @@ abbrev pub with_draft : Kept → Draft → Kept
 with_draft kept draft = record { flavour = kept.flavour; bytes = kept.bytes; draft = draft }
 
 -- after one more section
-abbrev pub keeping : Kept → ConsensusSection → List (Taken (Value ConsensusValue)) → Kept
-keeping kept section taken = with_draft kept (with_section kept.flavour kept.bytes kept.draft section taken)
+abbrev pub kept_with_section : Kept → ConsensusSection → List (Taken (Value ConsensusValue)) → Kept
+kept_with_section kept section taken = with_draft kept (with_section kept.flavour kept.bytes kept.draft section taken)

@@ -1,7 +1,7 @@
 // Reading a consensus.
 ghost use Rattle.std.specs.Prelude.{◌≡◌, ◌<◌, ◌≤◌, ◌^◌, length, IfOk, OnOk};
 ghost use Rattle.consensus_terms.specs.Moments.{HasMoments};
-ghost use Rattle.dirdoc_grammar.specs.Seen.{seen, IsInside};
+ghost use Rattle.dirdoc_grammar.specs.Seen.{seen_item, IsInside};
 ghost use Rattle.item_terms.specs.Items.{items_of};
 ghost use Rattle.consensus_doc.specs.Keeping as keeping;
 ghost use Rattle.consensus_doc.specs.Reading as terms;
@@ -47,7 +47,7 @@ impl<'a> Model for Reader<'a> {
 impl<'a> Reader<'a> {
     /// What is kept after a preamble.
     fn preamble(&mut self, taken: &[Taken<Value<ConsensusValue>>]) -> Result<(), Memory>
-        ensures { OnOk result (self.new ≡ keeping.keeping self.old ConsensusSection.Preamble taken.now) }
+        ensures { OnOk result (self.new ≡ keeping.kept_with_section self.old ConsensusSection.Preamble taken.now) }
     {
         self.draft.facts = preamble_facts(self.alloc, self.bytes, taken)?;
         self.draft.begin = place_at(taken, Keyword::NetworkStatusVersion);
@@ -56,7 +56,7 @@ impl<'a> Reader<'a> {
 
     /// What is kept after an authority.
     fn source(&mut self, taken: &[Taken<Value<ConsensusValue>>]) -> Result<(), Memory>
-        ensures { OnOk result (self.new ≡ keeping.keeping self.old ConsensusSection.Source taken.now) }
+        ensures { OnOk result (self.new ≡ keeping.kept_with_section self.old ConsensusSection.Source taken.now) }
     {
         let source = source_of(self.alloc, self.bytes, taken)?;
         self.draft.facts.sources.push(source)?;
@@ -65,7 +65,7 @@ impl<'a> Reader<'a> {
 
     /// What is kept after a relay.
     fn router(&mut self, taken: &[Taken<Value<ConsensusValue>>]) -> Result<(), Memory>
-        ensures { OnOk result (self.new ≡ keeping.keeping self.old ConsensusSection.Router taken.now) }
+        ensures { OnOk result (self.new ≡ keeping.kept_with_section self.old ConsensusSection.Router taken.now) }
     {
         let router = router_of(self.alloc, self.flavour, self.bytes, taken)?;
         self.draft.facts.routers.push(router)?;
@@ -74,7 +74,7 @@ impl<'a> Reader<'a> {
 
     /// What is kept after a footer.
     fn footer(&mut self, taken: &[Taken<Value<ConsensusValue>>]) -> Result<(), Memory>
-        ensures { OnOk result (self.new ≡ keeping.keeping self.old ConsensusSection.Footer taken.now) }
+        ensures { OnOk result (self.new ≡ keeping.kept_with_section self.old ConsensusSection.Footer taken.now) }
     {
         let weights = text_if(taken, Keyword::BandwidthWeights);
         self.draft.weights = copy_part_if(self.alloc, self.bytes, weights)?;
@@ -89,7 +89,7 @@ impl<'a> Reader<'a> {
         section: ConsensusSection,
         taken: &[Taken<Value<ConsensusValue>>],
     ) -> Result<(), Memory>
-        ensures { OnOk result (self.new ≡ keeping.keeping self.old section taken.now) }
+        ensures { OnOk result (self.new ≡ keeping.kept_with_section self.old section taken.now) }
     {
         match section {
             ConsensusSection::Preamble => self.preamble(taken),
@@ -101,7 +101,7 @@ impl<'a> Reader<'a> {
 }
 
 impl<'a> Facts<ConsensusFrame> for Reader<'a> {
-    ghost use Rattle.consensus_doc.specs.Keeping.{keeping as keeps};
+    ghost use Rattle.consensus_doc.specs.Keeping.{kept_with_section as keeps};
 
     ghost with = { keeps };
 
@@ -120,7 +120,7 @@ impl<'a> Facts<ConsensusFrame> for Reader<'a> {
 /// The flavour that a first item names by its second argument.
 fn flavour_of_item(item: &Item<'_>) -> Flavour
     requires { IsInside item.now }
-    ensures { result ≡ terms.flavour_of_item (seen item.now) }
+    ensures { result ≡ terms.flavour_of_item (seen_item item.now) }
 {
     let mut arguments = arguments_of(item);
     let _ = arguments.next();

@@ -23,7 +23,7 @@ use Rattle.value_groups.specs.ListLines.{params_of, protocols_of, versions_of}
 use Rattle.relay_entries.specs.declared.listed.Listed.{Listed}
 use Rattle.relay_entries.specs.declared.said.EntryKind.TheVariants as entry
 use Rattle.relay_entries.specs.declared.said.EntryValue.TheVariants as said
-use Rattle.relay_entries.specs.Lines.{entry_value, is_ignored, lifted}
+use Rattle.relay_entries.specs.Lines.{entry_value, is_ignored, lifted_entry_value}
 use Rattle.relay_entries.specs.Listing.{none_listed, note_entry}
 use Rattle.relay_entries.specs.Tables.{entry_shape}
 use Rattle.value_groups.specs.Lines.{random_of}
@@ -142,7 +142,7 @@ value_at flavour across VoteDigest item =
 value_at flavour across Nothing item = Ok value.Nothing
 value_at flavour across Signature item =
     next (signature_of across.is_signed item) (λ signature. Ok (value.Own (own.Signature signature)))
-value_at flavour across (Entry kind) item = next (entry_value kind item) (λ text. Ok (lifted own.Entry text))
+value_at flavour across (Entry kind) item = next (entry_value kind item) (λ text. Ok (lifted_entry_value own.Entry text))
 value_at flavour across Relay item = router_value flavour Relay item
 value_at flavour across Bandwidth item = router_value flavour Bandwidth item
 value_at flavour across MicroDigest item = router_value flavour MicroDigest item

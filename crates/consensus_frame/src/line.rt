@@ -1,7 +1,7 @@
 // What the lines of a consensus say that a vote has not, or has otherwise.
 ghost use Rattle.std.specs.Prelude.{◌≡◌};
 ghost use Rattle.dir_values.specs.Taking.{argument_of};
-ghost use Rattle.dirdoc_grammar.specs.Seen.{seen, IsInside};
+ghost use Rattle.dirdoc_grammar.specs.Seen.{seen_item, IsInside};
 ghost use Rattle.consensus_frame.specs.Lines as lines;
 
 use consensus_terms::{Bandwidth, Flavour};
@@ -39,7 +39,7 @@ fn flavour_here(flavour: Flavour, item: u64, arguments: &mut Arguments<'_>) -> R
 /// The version of a consensus of a flavour.
 pub fn version_of(flavour: Flavour, item: &Item<'_>) -> Result<(), u64>
     requires { IsInside item.now }
-    ensures { result ≡ lines.version_of flavour (seen item.now) }
+    ensures { result ≡ lines.version_of flavour (seen_item item.now) }
 {
     let mut arguments = arguments_of(item);
     let first = take_argument(&mut arguments, item.place);
@@ -50,7 +50,7 @@ pub fn version_of(flavour: Flavour, item: &Item<'_>) -> Result<(), u64>
 /// A number below 2 ^ 32.
 pub fn method_of(item: &Item<'_>) -> Result<u64, u64>
     requires { IsInside item.now }
-    ensures { result ≡ lines.method_of (seen item.now) }
+    ensures { result ≡ lines.method_of (seen_item item.now) }
 {
     let first = take_argument(&mut arguments_of(item), item.place);
     Ok(field(&first, number_of(first.text))? as u64)
@@ -59,7 +59,7 @@ pub fn method_of(item: &Item<'_>) -> Result<u64, u64>
 /// A digest in hex.
 pub fn vote_digest_of(item: &Item<'_>) -> Result<Digest1, u64>
     requires { IsInside item.now }
-    ensures { result ≡ lines.vote_digest_of (seen item.now) }
+    ensures { result ≡ lines.vote_digest_of (seen_item item.now) }
 {
     let first = take_argument(&mut arguments_of(item), item.place);
     field(&first, key_digest(first.text))
@@ -82,7 +82,7 @@ fn digest2(text: &[u8]) -> Option<Digest2>
 /// The digest of a microdescriptor.
 pub fn micro_digest_of(item: &Item<'_>) -> Result<Digest2, u64>
     requires { IsInside item.now }
-    ensures { result ≡ lines.micro_digest_of (seen item.now) }
+    ensures { result ≡ lines.micro_digest_of (seen_item item.now) }
 {
     let first = take_argument(&mut arguments_of(item), item.place);
     field(&first, digest2(first.text))
@@ -105,7 +105,7 @@ fn take_digest(flavour: Flavour, arguments: &mut Arguments<'_>, item: u64) -> Re
 /// Who a relay is and where.
 pub fn relay_of(flavour: Flavour, item: &Item<'_>) -> Result<RelayLine, u64>
     requires { IsInside item.now }
-    ensures { result ≡ lines.relay_of flavour (seen item.now) }
+    ensures { result ≡ lines.relay_of flavour (seen_item item.now) }
 {
     let mut arguments = arguments_of(item);
     let name = take_argument(&mut arguments, item.place);
@@ -187,7 +187,7 @@ fn with_words(arguments: &mut Arguments<'_>) -> Result<Said, u64>
 /// The bandwidth of a relay.
 pub fn bandwidth_of(item: &Item<'_>) -> Result<Bandwidth, u64>
     requires { IsInside item.now }
-    ensures { result ≡ lines.bandwidth_of (seen item.now) }
+    ensures { result ≡ lines.bandwidth_of (seen_item item.now) }
 {
     let said = with_words(&mut arguments_of(item))?;
     match said.bandwidths.bandwidth {

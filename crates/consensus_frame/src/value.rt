@@ -1,6 +1,6 @@
 // What the items of a consensus say, and what is remembered of them.
 ghost use Rattle.std.specs.Prelude.{◌≡◌};
-ghost use Rattle.dirdoc_grammar.specs.Seen.{seen, IsInside};
+ghost use Rattle.dirdoc_grammar.specs.Seen.{seen_item, IsInside};
 ghost use Rattle.frame_terms.specs.Refusals.{Becomes};
 ghost use Rattle.frame_reader.specs.Giving as giving;
 ghost use Rattle.frame_reader.specs.Giving.{Gives};
@@ -46,7 +46,7 @@ pub enum ConsensusValue {
 
 /// What an item of an entry says, as a consensus does.
 fn lifted(said: Value<EntryValue>) -> Value<ConsensusValue>
-    ensures { result ≡ entries.lifted ConsensusValue.Entry said }
+    ensures { result ≡ entries.lifted_entry_value ConsensusValue.Entry said }
 {
     match said {
         Value::Nothing => Value::Nothing,
@@ -60,7 +60,7 @@ fn lifted(said: Value<EntryValue>) -> Value<ConsensusValue>
 
 /// A value, or the refusal at the place of what is wrong.
 fn at<V>(value: Result<V, u64>) -> Result<V, ReadRefusal>
-    ensures { result ≡ giving.given (faults.at_place value) }
+    ensures { result ≡ giving.given_result (faults.at_place value) }
 {
     given(at_place(value))
 }
@@ -68,7 +68,7 @@ fn at<V>(value: Result<V, u64>) -> Result<V, ReadRefusal>
 /// What a signature says: behind the first one's keyword a space has to stand, where the signed part ends.
 fn signature_of(is_signed: bool, item: &Item<'_>) -> Result<Option<VoteSignature>, u64>
     requires { IsInside item.now }
-    ensures { result ≡ tables.signature_of is_signed (seen item.now) }
+    ensures { result ≡ tables.signature_of is_signed (seen_item item.now) }
 {
     if !is_signed {
         space_of(item)?;
@@ -83,7 +83,7 @@ fn router_value(
     item: &Item<'_>,
 ) -> Result<Value<ConsensusValue>, u64>
     requires { IsInside item.now }
-    ensures { result ≡ tables.router_value flavour kind (seen item.now) }
+    ensures { result ≡ tables.router_value flavour kind (seen_item item.now) }
 {
     match kind {
         ConsensusKind::Relay => {
@@ -110,7 +110,7 @@ pub(crate) fn value_at(
     item: &Item<'_>,
 ) -> Result<Value<ConsensusValue>, ReadRefusal>
     requires { IsInside item.now }
-    ensures { Gives (faults.at_place (tables.value_at flavour across.now kind (seen item.now))) result }
+    ensures { Gives (faults.at_place (tables.value_at flavour across.now kind (seen_item item.now))) result }
 {
     match kind {
         ConsensusKind::Version => {

@@ -6,13 +6,13 @@ use Rattle.item_terms.specs.Items.{Item}
 use Rattle.item_terms.specs.declared.fault.DocFault.{DocFault}
 use Rattle.dirdoc_grammar.specs.Writing.{all_written, written}
 use Rattle.frame_terms.specs.Documents.{Document, group, onto, read_items}
-use Rattle.frame_terms.specs.Sections.{lacking}
+use Rattle.frame_terms.specs.Sections.{lacking_keyword}
 use Rattle.frame_terms.specs.Tables.{Tables}
 use Rattle.frame_terms.specs.declared.document.Made.TheVariants.{Opens}
 use Rattle.frame_terms.specs.declared.document.Taken.{Taken}
 use Rattle.frame_terms.specs.declared.fault.ReadRefusal.{ReadRefusal}
 use Rattle.std.proofs.Common.{Result}
-use Rattle.frame_laws.proofs.Both.{both}
+use Rattle.frame_laws.proofs.Both.{both_hold}
 use Rattle.frame_laws.proofs.Entries.{Suits, item_of, taken_at}
 use Rattle.frame_laws.proofs.Following.{MayFollow, entries_all, groups_of, last_first, last_name, last_others, onto_all}
 use Rattle.frame_laws.proofs.MoreRows.{AreInTable, none_after, none_before, rows_more}
@@ -32,13 +32,13 @@ pub record IsWhole {S K V X : Type 0} (tables : Tables S K V X) (section : Secti
   pub said : AreSaid tables section.middle
   pub apart : are_apart (rows_of (rows_in section)) ≡ true
   pub opens : section.first.keyword ≡ section.opener.keyword
-  pub whole : (place : ℕ) → lacking (tables.rows section.name) (taken_in place section) ≡ None
+  pub whole : (place : ℕ) → lacking_keyword (tables.rows section.name) (taken_in place section) ≡ None
 
 module _ {S K V X : Type 0} where
   all_counted : (tables : Tables S K V X) (section : Section S K V) → IsWhole tables section
       → AreCounted (rows_in section)
   all_counted tables section is =
-      both (counted_once section.first section.opener is.opens) (counted tables section.middle is.said)
+      both_hold (counted_once section.first section.opener is.opens) (counted tables section.middle is.said)
 
   -- its items after the first are each one more of it
   section_more : (tables : Tables S K V X) (section : Section S K V) (place : ℕ) → IsWhole tables section
@@ -46,7 +46,7 @@ module _ {S K V X : Type 0} where
       (entries_of section.middle)
   section_more tables section place is =
       let middle = section.middle in
-      let named = both is.opens tt in
+      let named = both_hold is.opens tt in
       let parts =
       and_parts (lack section.first.keyword (rows_of middle)) (are_apart (rows_of middle)) is.apart in
       rows_more tables section.name (taken_at place section.opener) [] None (second_place place section) middle
@@ -64,7 +64,7 @@ module _ {S K V X : Type 0} where
   section_read : (tables : Tables S K V X) (length : ℕ) (across after : X) (before : S) (first : Taken V)
       (taken : List (Taken V)) (place : ℕ)
       (section : Section S K V) (fault : Option DocFault) (items : List Item)
-      → lacking (tables.rows before) (first ∷ taken) ≡ None → MayFollow tables before section.name section.first
+      → lacking_keyword (tables.rows before) (first ∷ taken) ≡ None → MayFollow tables before section.name section.first
       → IsWhole tables section → Suits tables across section.first place section.opener
       → Notes tables across (taken_in place section) after
       → read_items tables length across (opening before (first ∷ taken) None) fault
@@ -104,7 +104,7 @@ module _ {S K V X : Type 0} where
   pub sections_read : (tables : Tables S K V X) (length : ℕ) (across after : X) (before : S) (first : Taken V)
       (taken : List (Taken V)) (place : ℕ)
       (list : List (Section S K V)) (fault : Option DocFault) (items : List Item)
-      → lacking (tables.rows before) (first ∷ taken) ≡ None
+      → lacking_keyword (tables.rows before) (first ∷ taken) ≡ None
       → AreNext tables across before place list after
       → read_items tables length across (opening before (first ∷ taken) None) fault
       (all_written place (map item_of (entries_all list)) ++ items)
@@ -129,9 +129,9 @@ module _ {S K V X : Type 0} where
   -- what is open after them lacks nothing
   pub last_whole : (tables : Tables S K V X) (across after : X) (before : S) (first : Taken V)
       (taken : List (Taken V)) (place : ℕ)
-      (list : List (Section S K V)) → lacking (tables.rows before) (first ∷ taken) ≡ None
+      (list : List (Section S K V)) → lacking_keyword (tables.rows before) (first ∷ taken) ≡ None
       → AreNext tables across before place list after
-      → lacking (tables.rows (last_name before list)) (last_first first place list ∷ last_others taken place list)
+      → lacking_keyword (tables.rows (last_name before list)) (last_first first place list ∷ last_others taken place list)
       ≡ None
   last_whole tables across after before first taken place [] whole are = whole
   last_whole tables across after before first taken place (section ∷ list) whole are =

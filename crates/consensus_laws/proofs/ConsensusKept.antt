@@ -15,7 +15,7 @@ use Rattle.consensus_frame.specs.Tables.{consensus_tables}
 use Rattle.consensus_frame.specs.declared.rows.ConsensusSection.{ConsensusSection}
 use Rattle.consensus_frame.specs.declared.value.ConsensusValue.{ConsensusValue}
 use Rattle.consensus_doc.specs.Drafts.{with_section}
-use Rattle.consensus_doc.specs.Keeping.{Kept, keeping, with_draft}
+use Rattle.consensus_doc.specs.Keeping.{Kept, kept_with_section, with_draft}
 use Rattle.consensus_laws.specs.Again.{IsAuthorityInRange, IsRouterInRange, router_as_read}
 use Rattle.consensus_laws.proofs.AnyOrder.{whole_is_read}
 use Rattle.consensus_laws.proofs.ConsensusRows.{source_section, source_written}
@@ -31,7 +31,7 @@ ConsensusGroup = Group ConsensusSection (Value ConsensusValue)
 
 -- what a reader keeps with one more section
 abbrev pub keeps : Kept → ConsensusGroup → Kept
-keeps k group = keeping k group.section group.taken
+keeps k group = kept_with_section k group.section group.taken
 
 -- its draft is that of all sections
 pub drafts_same : (k : Kept) (groups : List ConsensusGroup)

@@ -7,7 +7,7 @@ use Rattle.frame_terms.specs.declared.keyword.Keyword.{Keyword}
 use Rattle.frame_terms.specs.declared.keyword.Keyword.TheVariants as the
 use Rattle.frame_values.specs.Values.{item_at, text_if}
 use Rattle.frame_values.specs.declared.values.Value.{Value}
-use Rattle.frame_laws.proofs.Both.{both}
+use Rattle.frame_laws.proofs.Both.{both_hold}
 use Rattle.frame_laws.proofs.ReadRows.{IsRead}
 use Rattle.frame_laws.proofs.SaidRows.{AreSaid}
 use Rattle.group_laws.specs.Lists.{some_list}
@@ -64,7 +64,7 @@ module _ (flavour : Flavour) (lists : ConsensusLists) (are : AreListsInRange lis
 
   pub params_said : AreSaid (consensus_tables flavour) (param_rows lists)
   params_said =
-      both (group.said_params (has_lists flavour) (some_list lists.params)
+      both_hold (group.said_params (has_lists flavour) (some_list lists.params)
       (if_list (AreParamsWithin None) lists.params (record { few = tt; each = are.params }))) tt
 
 -- ---- what is read of them

@@ -12,7 +12,7 @@ use Rattle.frame_values.specs.Items.{item_if}
 use Rattle.frame_values.specs.Values.{item_at}
 use Rattle.frame_values.specs.declared.values.Value.{Value}
 use Rattle.frame_values.specs.declared.values.Value.TheVariants as value
-use Rattle.frame_laws.proofs.Both.{both}
+use Rattle.frame_laws.proofs.Both.{both_hold}
 use Rattle.frame_laws.proofs.Entries.{item_of}
 use Rattle.frame_laws.proofs.Passing.{EachPasses}
 use Rattle.frame_laws.proofs.ReadRows.{IsRead, item_of_row}
@@ -54,7 +54,7 @@ random_row keyword random = record { row = random_of_table keyword; entries = ra
 -- nothing is remembered of it
 pub random_quiet : (keyword : Keyword) (random : Option SharedRandom) → EachPasses is_quiet (random_if keyword random)
 random_quiet keyword None = tt
-random_quiet keyword (Some random) = both (λ place. refl) tt
+random_quiet keyword (Some random) = both_hold (λ place. refl) tt
 
 pub said_random : (flavour : Flavour) (keyword : Keyword) (random : Option SharedRandom)
     → IfSome random IsRandomInRange → IsSaidHere flavour (random_row keyword random)

@@ -6,7 +6,7 @@ use Rattle.item_terms.specs.Items.{Item}
 use Rattle.dirdoc_grammar.specs.Writing.{all_written}
 use Rattle.frame_terms.specs.Documents.{Document, group, onto, read_items, start}
 use Rattle.frame_terms.specs.Keywords.{same}
-use Rattle.frame_terms.specs.Order.{following, must_open}
+use Rattle.frame_terms.specs.Order.{following_sections, must_open}
 use Rattle.frame_terms.specs.declared.document.Group.{Group}
 use Rattle.frame_terms.specs.declared.fault.ReadRefusal.{ReadRefusal}
 use Rattle.frame_terms.specs.declared.keyword.Keyword.TheVariants as the
@@ -171,7 +171,7 @@ its_groups c =
 
 -- no section has to follow the footer
 none_follows : (flavour : Flavour)
-    → must_open (consensus_tables flavour) (following (consensus_tables flavour) section.Footer) ≡ None
+    → must_open (consensus_tables flavour) (following_sections (consensus_tables flavour) section.Footer) ≡ None
 unfolding same
 none_follows flavour = refl
 

@@ -8,7 +8,7 @@ use Rattle.frame_terms.specs.declared.keyword.Keyword.TheVariants as the
 use Rattle.frame_terms.specs.declared.row.Count.TheVariants.{Many, One, Optional}
 use Rattle.frame_terms.specs.declared.row.Row.{Row}
 use Rattle.frame_values.specs.declared.values.Value.TheVariants as value
-use Rattle.frame_laws.proofs.Both.{both}
+use Rattle.frame_laws.proofs.Both.{both_hold}
 use Rattle.frame_laws.proofs.Following.{IsFirst, MayFollow, opener_follows, repeated_follows}
 use Rattle.frame_laws.proofs.ManyRows.{row_of_each, said_of_each}
 use Rattle.frame_laws.proofs.Passing.{EachPasses}
@@ -100,18 +100,18 @@ module _ (flavour : Flavour) where
       → AreSaid (consensus_tables flavour) (preamble_rows c)
   preamble_said c are =
       let tables = consensus_tables flavour in
-      both (said_once tables _ _ (suits_status flavour))
-      (both (said_once tables _ _ (suits_method flavour c.method are.method))
+      both_hold (said_once tables _ _ (suits_status flavour))
+      (both_hold (said_once tables _ _ (suits_method flavour c.method are.method))
       (both_said tables (time_rows c) (version_rows c.lists ++ (flag_rows c ++ list_rows c))
       (times_said (has_times flavour) (times_of c) are.vote_seconds are.dist_seconds)
       (both_said tables (version_rows c.lists) (flag_rows c ++ list_rows c)
       (versions_said flavour c.lists are.lists)
-      (both (said_once tables _ _ (suits_flags flavour c.known_flags are.known_flags))
+      (both_hold (said_once tables _ _ (suits_flags flavour c.known_flags are.known_flags))
       (both_said tables (protocol_rows c.lists) (param_rows c.lists ++ random_rows c)
       (protocols_said flavour c.lists are.lists)
       (both_said tables (param_rows c.lists) (random_rows c) (params_said flavour c.lists are.lists)
-      (both (said_random flavour the.SharedRandPreviousValue c.random_previous are.random_previous)
-      (both (said_random flavour the.SharedRandCurrentValue c.random_current are.random_current) tt))))))))
+      (both_hold (said_random flavour the.SharedRandPreviousValue c.random_previous are.random_previous)
+      (both_hold (said_random flavour the.SharedRandCurrentValue c.random_current are.random_current) tt))))))))
 
   pub preamble_written : (c : ConsensusFacts) → AreFactsInRange flavour c
       → IsWritten (consensus_tables flavour) (preamble flavour c) []
@@ -126,23 +126,23 @@ module _ (flavour : Flavour) where
 -- nothing is remembered of it
 pub preamble_quiet : (flavour : Flavour) (c : ConsensusFacts) → EachPasses is_quiet (entries_in (preamble flavour c))
 preamble_quiet flavour c =
-    both (λ place. refl) (rows_quiet (preamble_rows c)
-    (both (both (λ place. refl) tt)
-    (both (both (λ place. refl) tt)
-    (both (both (λ place. refl) tt)
-    (both (both (λ place. refl) tt)
-    (both (both (λ place. refl) tt)
-    (both (both (λ place. refl) tt)
-    (both (text_quiet the.ClientVersions _)
-    (both (text_quiet the.ServerVersions _)
-    (both (both (λ place. refl) tt)
-    (both (text_quiet the.RecommendedClientProtocols _)
-    (both (text_quiet the.RecommendedRelayProtocols _)
-    (both (text_quiet the.RequiredClientProtocols _)
-    (both (text_quiet the.RequiredRelayProtocols _)
-    (both (text_quiet the.Params _)
-    (both (random_quiet the.SharedRandPreviousValue c.random_previous)
-    (both (random_quiet the.SharedRandCurrentValue c.random_current) tt)))))))))))))))))
+    both_hold (λ place. refl) (rows_quiet (preamble_rows c)
+    (both_hold (both_hold (λ place. refl) tt)
+    (both_hold (both_hold (λ place. refl) tt)
+    (both_hold (both_hold (λ place. refl) tt)
+    (both_hold (both_hold (λ place. refl) tt)
+    (both_hold (both_hold (λ place. refl) tt)
+    (both_hold (both_hold (λ place. refl) tt)
+    (both_hold (text_quiet the.ClientVersions _)
+    (both_hold (text_quiet the.ServerVersions _)
+    (both_hold (both_hold (λ place. refl) tt)
+    (both_hold (text_quiet the.RecommendedClientProtocols _)
+    (both_hold (text_quiet the.RecommendedRelayProtocols _)
+    (both_hold (text_quiet the.RequiredClientProtocols _)
+    (both_hold (text_quiet the.RequiredRelayProtocols _)
+    (both_hold (text_quiet the.Params _)
+    (both_hold (random_quiet the.SharedRandPreviousValue c.random_previous)
+    (both_hold (random_quiet the.SharedRandCurrentValue c.random_current) tt)))))))))))))))))
 
 -- ---- an authority
 
@@ -173,15 +173,15 @@ module _ (flavour : Flavour) where
     plain = refl;
     opens = refl;
     said =
-        both (said_rest_if (has_rests flavour) the.Contact source.contact)
-        (both (said_once (consensus_tables flavour) _ _
+        both_hold (said_rest_if (has_rests flavour) the.Contact source.contact)
+        (both_hold (said_once (consensus_tables flavour) _ _
         (suits_vote_digest flavour source.vote_digest are.vote_digest)) tt);
   }
 
 pub source_quiet : (source : SourceLine) → EachPasses is_quiet (entries_in (source_section source))
 source_quiet source =
-    both (λ place. refl) (rows_quiet (source_rows source)
-    (both (text_quiet the.Contact source.contact) (both (both (λ place. refl) tt) tt)))
+    both_hold (λ place. refl) (rows_quiet (source_rows source)
+    (both_hold (text_quiet the.Contact source.contact) (both_hold (both_hold (λ place. refl) tt) tt)))
 
 -- ---- the footer
 
@@ -228,8 +228,8 @@ module _ (flavour : Flavour) where
     plain = refl;
     opens = refl;
     said =
-        both (said_rest_if (has_rests flavour) the.BandwidthWeights weights)
-        (both (said_of_each (consensus_tables flavour) signature_row signature_entry IsSignatureInRange lines refl refl
+        both_hold (said_rest_if (has_rests flavour) the.BandwidthWeights weights)
+        (both_hold (said_of_each (consensus_tables flavour) signature_row signature_entry IsSignatureInRange lines refl refl
         are suits_signature) tt);
   }
 

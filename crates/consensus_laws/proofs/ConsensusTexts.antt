@@ -13,7 +13,7 @@ use Rattle.dirdoc_grammar.specs.Writing.{NewItem, item_text, items_text}
 use Rattle.frame_terms.specs.Keywords.{text_of}
 use Rattle.frame_terms.specs.declared.keyword.Keyword.{Keyword}
 use Rattle.frame_terms.specs.declared.keyword.Keyword.TheVariants as the
-use Rattle.frame_values.specs.Items.{bare, item_if, timed}
+use Rattle.frame_values.specs.Items.{bare, item_if, moment_item}
 use Rattle.frame_values.proofs.ItemsTexts.{sections}
 use Rattle.frame_laws.proofs.Words.{length-word, word_of_identity, word_of_nickname, word_of_number, words_of_flags}
 use Rattle.list_values.specs.Params.{params_text}
@@ -69,7 +69,7 @@ moment_some : (m : ℕ) → 0 < length (moment_text m)
 moment_some m = omega (arith, length-append (date_text (m / 86400)) (32 ∷ clock_text (m % 86400)))
 
 moment_is : (keyword : Keyword) (m : ℕ) → m ≤ last_moment
-    → line (text_of keyword) (moment_text m ∷ []) ≡ items_text (timed keyword m ∷ [])
+    → line (text_of keyword) (moment_text m ∷ []) ≡ items_text (moment_item keyword m ∷ [])
 moment_is keyword m within =
     lines_are keyword (moment_text m ∷ []) (moment_some m)
     ∙ ap (λ (n : ℕ). items_text (bare keyword (moment_text n) ∷ [])) (sym (whole_moment m within))
@@ -94,8 +94,8 @@ times_are flavour c are =
     ++ moment_is the.FreshUntil c.fresh_until are.fresh_until i
     ++ moment_is the.ValidUntil c.valid_until are.valid_until i
     ++ lines_are the.VotingDelay (decimal c.vote_seconds ∷ decimal c.dist_seconds ∷ []) (number_some c.vote_seconds) i)
-    ∙ sym (four_texts (timed the.ValidAfter c.valid_after ∷ []) (timed the.FreshUntil c.fresh_until ∷ [])
-    (timed the.ValidUntil c.valid_until ∷ [])
+    ∙ sym (four_texts (moment_item the.ValidAfter c.valid_after ∷ []) (moment_item the.FreshUntil c.fresh_until ∷ [])
+    (moment_item the.ValidUntil c.valid_until ∷ [])
     (words_item the.VotingDelay (decimal c.vote_seconds ∷ decimal c.dist_seconds ∷ []) ∷ []))
 
 version_lists_are : (lists : ConsensusLists) → AreListsInRange lists

@@ -24,10 +24,10 @@ IsFilled [] = Unit {0}
 IsFilled (word ∷ words) = 0 < length word
 
 -- words behind spaces
-behind : (word : List ℕ) (rest : List (List ℕ))
+spaced_words_are_joined : (word : List ℕ) (rest : List (List ℕ))
     → word ++ flat_map behind_space rest ≡ join_with_byte 32 (word ∷ rest)
-behind word [] = append-nil word
-behind word (next ∷ rest) = ap (λ (l : List ℕ). word ++ 32 ∷ l) (behind next rest)
+spaced_words_are_joined word [] = append-nil word
+spaced_words_are_joined word (next ∷ rest) = ap (λ (l : List ℕ). word ++ 32 ∷ l) (spaced_words_are_joined next rest)
 
 pub join_some : (word : List ℕ) (rest : List (List ℕ)) → 0 < length word
     → 0 < length (join_with_byte 32 (word ∷ rest))
@@ -38,7 +38,7 @@ join_some word (next ∷ rest) some =
 words_tail : (words : List (List ℕ)) → IsFilled words → flat_map behind_space words ≡ tail (join_with_byte 32 words)
 words_tail [] filled = refl
 words_tail (word ∷ rest) filled =
-    ap (λ (l : List ℕ). 32 ∷ l) (behind word rest)
+    ap (λ (l : List ℕ). 32 ∷ l) (spaced_words_are_joined word rest)
     ∙ sym (tail_some (join_with_byte 32 (word ∷ rest)) (join_some word rest filled))
 
 -- a line with these words

@@ -4,7 +4,7 @@ use Rattle.frame_terms.specs.Tables.{Tables}
 use Rattle.frame_terms.specs.declared.keyword.Keyword.{Keyword}
 use Rattle.frame_values.specs.declared.values.Value.{Value}
 use Rattle.frame_values.specs.declared.values.Value.TheVariants as value
-use Rattle.frame_laws.proofs.Both.{both}
+use Rattle.frame_laws.proofs.Both.{both_hold}
 use Rattle.frame_laws.proofs.Passing.{EachPasses, IsForgotten, both_pass}
 use Rattle.frame_laws.proofs.RowValues.{text_entry_if}
 use Rattle.frame_laws.proofs.SaidRows.{AreSaid, RowSays, entries_of}
@@ -54,12 +54,12 @@ rows_quiet (says ∷ rows) quiet =
 
 pub both_quiet : (front back : List ConsensusRow) → AreQuiet front → AreQuiet back → AreQuiet (front ++ back)
 both_quiet [] back a b = b
-both_quiet (says ∷ front) back a b = both a.0 (both_quiet front back a.1 b)
+both_quiet (says ∷ front) back a b = both_hold a.0 (both_quiet front back a.1 b)
 
 -- a text or none
 pub text_quiet : (keyword : Keyword) (text : Option (List ℕ)) → EachPasses is_quiet (text_entry_if keyword text)
 text_quiet keyword None = tt
-text_quiet keyword (Some text) = both (λ place. refl) tt
+text_quiet keyword (Some text) = both_hold (λ place. refl) tt
 
 -- ---- the rows of two lists
 
@@ -67,4 +67,4 @@ module _ {S K V X : Type 0} where
   pub both_said : (tables : Tables S K V X) (front back : List (RowSays K V)) → AreSaid tables front
       → AreSaid tables back → AreSaid tables (front ++ back)
   both_said tables [] back a b = b
-  both_said tables (one ∷ front) back a b = both a.0 (both_said tables front back a.1 b)
+  both_said tables (one ∷ front) back a b = both_hold a.0 (both_said tables front back a.1 b)

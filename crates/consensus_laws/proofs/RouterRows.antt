@@ -13,12 +13,12 @@ use Rattle.frame_values.specs.Arguments.{next}
 use Rattle.frame_values.specs.declared.found.Span.{Span}
 use Rattle.frame_values.specs.declared.values.Value.{Value}
 use Rattle.frame_values.specs.declared.values.Value.TheVariants as value
-use Rattle.frame_laws.proofs.Both.{both}
+use Rattle.frame_laws.proofs.Both.{both_hold}
 use Rattle.frame_laws.proofs.RowCounts.{said_none, said_once}
 use Rattle.frame_laws.proofs.RowValues.{own_entry, row_if, said_if, text_entry}
 use Rattle.frame_laws.proofs.SaidRows.{AreSaid, row_none, row_once}
 use Rattle.frame_laws.proofs.WrittenItems.{start_of}
-use Rattle.relay_entries.specs.Lines.{lifted}
+use Rattle.relay_entries.specs.Lines.{lifted_entry_value}
 use Rattle.relay_entries.specs.declared.said.EntryKind.TheVariants as entry
 use Rattle.relay_entries.specs.declared.said.EntryValue.{EntryValue}
 use Rattle.relay_entries.specs.declared.said.EntryValue.TheVariants as said
@@ -50,7 +50,7 @@ use Rattle.consensus_laws.proofs.RelayLines.{bandwidth_again, micro_digest_again
 
 -- what a consensus says where an entry says this
 abbrev lifts : {A : Type 0} → (A → Value EntryValue) → Result A ℕ → Result (Value ConsensusValue) ℕ
-lifts of read = next (next read (λ found. Ok (of found))) (λ found. Ok (lifted own.Entry found))
+lifts of read = next (next read (λ found. Ok (of found))) (λ found. Ok (lifted_entry_value own.Entry found))
 
 -- who it is
 abbrev pub router_entry : Flavour → Routerline → ConsensusEntry
@@ -159,11 +159,11 @@ has_m Microdesc r listed is = listed
 pub router_said : (flavour : Flavour) (r : Routerline) → IsRouterInRange flavour r → is_listed flavour r ≡ true
     → AreSaid (consensus_tables flavour) (router_rows flavour r)
 router_said flavour r are listed =
-    both (said_if (consensus_tables flavour) a_row r.a IsAddressInRange refl are.a (suits_address flavour))
-    (both (said_m flavour r.m are.m (has_m flavour r listed))
-    (both (said_flags flavour r.flags are.flags)
-    (both (said_rest_if (has_rests flavour) the.V r.v)
-    (both (said_rest_if (has_rests flavour) the.Pr r.pr)
-    (both (said_w flavour r.w are.w)
-    (both (said_rest_if (has_rests flavour) the.P (p_text flavour r.p))
-    (both (said_none (consensus_tables flavour) (row the.Id Optional (kind.Entry entry.Ed)) refl) tt)))))))
+    both_hold (said_if (consensus_tables flavour) a_row r.a IsAddressInRange refl are.a (suits_address flavour))
+    (both_hold (said_m flavour r.m are.m (has_m flavour r listed))
+    (both_hold (said_flags flavour r.flags are.flags)
+    (both_hold (said_rest_if (has_rests flavour) the.V r.v)
+    (both_hold (said_rest_if (has_rests flavour) the.Pr r.pr)
+    (both_hold (said_w flavour r.w are.w)
+    (both_hold (said_rest_if (has_rests flavour) the.P (p_text flavour r.p))
+    (both_hold (said_none (consensus_tables flavour) (row the.Id Optional (kind.Entry entry.Ed)) refl) tt)))))))

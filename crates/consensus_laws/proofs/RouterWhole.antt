@@ -5,13 +5,13 @@ use Rattle.std.specs.Prelude.{not, if◌then◌else◌}
 use Rattle.dir_values.specs.declared.digest.Digest2.{Digest2}
 use Rattle.frame_terms.specs.Keywords.{same}
 use Rattle.frame_terms.specs.Rows.{row}
-use Rattle.frame_terms.specs.Sections.{keyword_if, lacking, stands}
+use Rattle.frame_terms.specs.Sections.{keyword_if, lacking_keyword, stands}
 use Rattle.frame_terms.specs.declared.document.Taken.{Taken}
 use Rattle.frame_terms.specs.declared.keyword.Keyword.TheVariants as the
 use Rattle.frame_terms.specs.declared.row.Count.TheVariants.{One, Optional}
 use Rattle.frame_terms.specs.declared.row.Row.{Row}
 use Rattle.frame_values.specs.declared.values.Value.{Value}
-use Rattle.frame_laws.proofs.Both.{both}
+use Rattle.frame_laws.proofs.Both.{both_hold}
 use Rattle.frame_laws.proofs.Following.{opener_follows, repeated_follows}
 use Rattle.frame_laws.proofs.MoreRows.{AreInTable}
 use Rattle.frame_laws.proofs.ReadRows.{each_taken, none_lacks}
@@ -67,8 +67,8 @@ in_table : (flavour : Flavour) (r : Routerline)
     → AreInTable (consensus_tables flavour) section.Router (router_rows flavour r)
 in_table flavour r =
     let t = in_order flavour r in
-    both t.0 (both t.1.1.1.1.1.1.0 (both t.1.0 (both t.1.1.0 (both t.1.1.1.0 (both t.1.1.1.1.0 (both t.1.1.1.1.1.0
-    (both t.1.1.1.1.1.1.1.0 tt)))))))
+    both_hold t.0 (both_hold t.1.1.1.1.1.1.0 (both_hold t.1.0 (both_hold t.1.1.0 (both_hold t.1.1.1.0 (both_hold t.1.1.1.1.0 (both_hold t.1.1.1.1.1.0
+    (both_hold t.1.1.1.1.1.1.1.0 tt)))))))
 
 -- the rows that have to stand
 abbrev s_row : Row ConsensusKind
@@ -90,8 +90,8 @@ swapped true false false is = absurd cc
 swapped false s m is = absurd cc
 
 in_any_order : (flavour : Flavour) (r : Routerline) (taken : List (Taken (Value ConsensusValue)))
-    → lacking (rows_of (rows_in (router_section flavour r))) taken ≡ None
-    → lacking (rows flavour section.Router) taken ≡ None
+    → lacking_keyword (rows_of (rows_in (router_section flavour r))) taken ≡ None
+    → lacking_keyword (rows flavour section.Router) taken ≡ None
 in_any_order Ns r taken none = none
 in_any_order Microdesc r taken none = swapped (stands the.R taken) (stands the.S taken) (stands the.M taken) none
 
@@ -102,7 +102,7 @@ router_whole flavour r are listed =
     let tables = consensus_tables flavour in
     let part = router_section flavour r in
     let said_ = router_said flavour r are listed in
-    let counts = both (counted_once router_row (router_entry flavour r) refl) (counted tables part.middle said_) in
+    let counts = both_hold (counted_once router_row (router_entry flavour r) refl) (counted tables part.middle said_) in
     let apart = router_apart flavour r in
     record {
       in_table = in_table flavour r;
@@ -118,24 +118,24 @@ router_whole flavour r are listed =
 m_quiet : (flavour : Flavour) (digest : Option Digest2) → EachPasses is_quiet (m_entries flavour digest)
 m_quiet Ns digest = tt
 m_quiet Microdesc None = tt
-m_quiet Microdesc (Some digest) = both (λ place. refl) tt
+m_quiet Microdesc (Some digest) = both_hold (λ place. refl) tt
 
 w_quiet : (w : Option Bandwidth) → EachPasses is_quiet (w_entries w)
 w_quiet None = tt
-w_quiet (Some w) = both (λ place. refl) tt
+w_quiet (Some w) = both_hold (λ place. refl) tt
 
 -- of its items after the first nothing is
 pub router_quiet : (flavour : Flavour) (r : Routerline) → EachPasses is_quiet (entries_of (router_rows flavour r))
 router_quiet flavour r =
     rows_quiet (router_rows flavour r)
-    (both (text_quiet the.A r.a)
-    (both (m_quiet flavour r.m)
-    (both (both (λ place. refl) tt)
-    (both (text_quiet the.V r.v)
-    (both (text_quiet the.Pr r.pr)
-    (both (w_quiet r.w)
-    (both (text_quiet the.P (p_text flavour r.p))
-    (both tt tt))))))))
+    (both_hold (text_quiet the.A r.a)
+    (both_hold (m_quiet flavour r.m)
+    (both_hold (both_hold (λ place. refl) tt)
+    (both_hold (text_quiet the.V r.v)
+    (both_hold (text_quiet the.Pr r.pr)
+    (both_hold (w_quiet r.w)
+    (both_hold (text_quiet the.P (p_text flavour r.p))
+    (both_hold tt tt))))))))
 
 -- ---- what may follow what
 

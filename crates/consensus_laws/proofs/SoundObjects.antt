@@ -6,7 +6,7 @@ use Rattle.std.specs.Result.{result_ok}
 use Rattle.std.proofs.lemmas.Bool.{and_parts}
 use Rattle.base64.specs.Engines.{standard}
 use Rattle.base64.specs.GeneralPurpose.{decode_of}
-use Rattle.item_terms.specs.Base64Text.{is_base64, is_body, joined, lines_fit}
+use Rattle.item_terms.specs.Base64Text.{is_base64, is_body, joined_text, lines_fit}
 use Rattle.item_terms.specs.declared.fault.DocFault.{DocFault}
 use Rattle.item_terms.specs.declared.fault.DocReason.TheVariants.{Keyword, ObjectBase64, ObjectEnd}
 use Rattle.item_terms.specs.Faults.{at, line_fault, max_object, object_line_fault}
@@ -16,7 +16,7 @@ use Rattle.item_terms.specs.Lines.{Line, lines, size}
 use Rattle.item_terms.specs.Steps.{first_object_line, item_unless, keyword_item, object_step, open_item, open_unless, read_line}
 use Rattle.item_terms.specs.Steps.{starts_dash, step_unless, with_line, with_object}
 use Rattle.item_terms.specs.Words.{begin_words, is_blank_line, is_end_line, is_keyword_line}
-use Rattle.dirdoc_grammar.specs.Bodies.{decoded}
+use Rattle.dirdoc_grammar.specs.Bodies.{decoded_bytes}
 use Rattle.dirdoc_grammar.specs.InPlace.{EachInPlace}
 use Rattle.dirdoc_grammar.proofs.Places.{stand_in_place}
 use Rattle.frame_laws.proofs.StandingParts.{at_span}
@@ -131,9 +131,9 @@ contents_sound limit place so_far (line ∷ rest) sound =
 
 -- ---- and so spells bytes
 
-base64_spells : (text : List ℕ) → is_base64 (joined text) ≡ true → decoded text ≡ Some (unwrap_or (decoded text) [])
-unfolding is_base64 decoded
-base64_spells text is = by (decode_of standard (joined text)) is
+base64_spells : (text : List ℕ) → is_base64 (joined_text text) ≡ true → decoded_bytes text ≡ Some (unwrap_or (decoded_bytes text) [])
+unfolding is_base64 decoded_bytes
+base64_spells text is = by (decode_of standard (joined_text text)) is
   where
     by : {E : Type 0} (read : Result (List ℕ) E) → is_ok read ≡ true
         → result_ok read ≡ Some (unwrap_or (result_ok read) [])
@@ -142,15 +142,15 @@ base64_spells text is = by (decode_of standard (joined text)) is
 
 spells_by : (bytes : List ℕ) (place : ℕ) (wanted : Bool) (object : Option Object) (found : Span)
     → IfSome object (λ o. take (length o.text) (drop o.start bytes) ≡ o.text) → IsSound object
-    → object_if wanted place object ≡ Ok found → decoded (part bytes found) ≡ Some (bytes_in bytes found)
+    → object_if wanted place object ≡ Ok found → decoded_bytes (part bytes found) ≡ Some (bytes_in bytes found)
 spells_by bytes place wanted None found there sound is = absurd (cc is)
 spells_by bytes place false (Some object) found there sound is = absurd (cc is)
 spells_by bytes place true (Some object) found there sound is =
     let same : span object.start object.text ≡ found = cc is in
     let text : part bytes (span object.start object.text) ≡ object.text = at_span bytes object.text object.start there in
-    let fits = and_parts (lines_fit 0 object.text) (is_base64 (joined object.text)) sound in
-    subst (λ (s : Span). decoded (part bytes s) ≡ Some (bytes_in bytes s)) same
-    (subst (λ (t : List ℕ). decoded t ≡ Some (unwrap_or (decoded t) [])) (sym text) (base64_spells object.text fits.1))
+    let fits = and_parts (lines_fit 0 object.text) (is_base64 (joined_text object.text)) sound in
+    subst (λ (s : Span). decoded_bytes (part bytes s) ≡ Some (bytes_in bytes s)) same
+    (subst (λ (t : List ℕ). decoded_bytes t ≡ Some (unwrap_or (decoded_bytes t) [])) (sym text) (base64_spells object.text fits.1))
 
 each_spells : (bytes : List ℕ) (items : List Item) → EachInPlace bytes items → EachSound items
     → EachSpellsBytes bytes items

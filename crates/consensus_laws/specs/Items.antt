@@ -8,7 +8,7 @@ use Rattle.dir_values.specs.declared.digest.Digest2.{Digest2}
 use Rattle.dirdoc_grammar.specs.Writing.{NewItem}
 use Rattle.frame_terms.specs.declared.keyword.Keyword.{Keyword}
 use Rattle.frame_terms.specs.declared.keyword.Keyword.TheVariants as the
-use Rattle.frame_values.specs.Items.{bare, item_if, timed}
+use Rattle.frame_values.specs.Items.{bare, item_if, moment_item}
 use Rattle.group_laws.specs.Lists.{some_list}
 use Rattle.value_groups.specs.Values.{random_text}
 use Rattle.list_values.specs.Params.{params_text}
@@ -46,7 +46,7 @@ kind_items flavour method =
 -- its times
 abbrev pub time_items : ConsensusFacts → List NewItem
 time_items c =
-    timed the.ValidAfter c.valid_after ∷ timed the.FreshUntil c.fresh_until ∷ timed the.ValidUntil c.valid_until
+    moment_item the.ValidAfter c.valid_after ∷ moment_item the.FreshUntil c.fresh_until ∷ moment_item the.ValidUntil c.valid_until
     ∷ words_item the.VotingDelay (decimal c.vote_seconds ∷ decimal c.dist_seconds ∷ []) ∷ []
 
 -- the versions of Tor

@@ -1,7 +1,7 @@
 -- The lines of each object of a document spell bytes (dir-spec, "Document meta-format").
 use Rattle.std.specs.Prelude.{◌≡◌, ℕ, Bool, List, [], ◌∷◌, Some, Ok}
 use Rattle.item_terms.specs.Items.{Item, items_from}
-use Rattle.dirdoc_grammar.specs.Bodies.{decoded}
+use Rattle.dirdoc_grammar.specs.Bodies.{decoded_bytes}
 use Rattle.frame_values.specs.Parts.{bytes_in, part}
 use Rattle.frame_values.specs.Signatures.{object_of}
 use Rattle.frame_values.specs.declared.found.Span.{Span}
@@ -10,7 +10,7 @@ use Rattle.frame_values.specs.declared.found.Span.{Span}
 abbrev pub SpellsBytes : List ℕ → Item → Type 0
 SpellsBytes bytes item =
     (wanted : Bool) (lines : Span) → object_of wanted item ≡ Ok lines
-    → decoded (part bytes lines) ≡ Some (bytes_in bytes lines)
+    → decoded_bytes (part bytes lines) ≡ Some (bytes_in bytes lines)
 
 -- it is so of each of these items
 abbrev pub EachSpellsBytes : List ℕ → List Item → Type 0

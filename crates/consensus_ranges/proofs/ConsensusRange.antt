@@ -24,7 +24,7 @@ use Rattle.consensus_frame.specs.declared.rows.ConsensusSection.{ConsensusSectio
 use Rattle.consensus_frame.specs.declared.rows.ConsensusSection.TheVariants as section
 use Rattle.consensus_frame.specs.declared.value.ConsensusValue.{ConsensusValue}
 use Rattle.consensus_doc.specs.Drafts.{no_draft, no_facts, router_of, source_of, with_section}
-use Rattle.consensus_doc.specs.Keeping.{Kept, keeping}
+use Rattle.consensus_doc.specs.Keeping.{Kept, kept_with_section}
 use Rattle.consensus_doc.specs.Reading.{consensus_as, consensus_in, consensus_of, flavour_of, max_consensus}
 use Rattle.consensus_doc.specs.Reading.{with_consensus}
 use Rattle.consensus_laws.specs.Again.{AreFactsInRange, Ascending, IsAuthorityInRange, IsRouterInRange}
@@ -90,11 +90,11 @@ nothing_kept flavour = record {
 }
 
 -- with one more section
-one_more : (k : Kept) → IsBytes k.bytes → (name : ConsensusSection) (taken : List (Taken (Value ConsensusValue)))
+one_more_section_kept : (k : Kept) → IsBytes k.bytes → (name : ConsensusSection) (taken : List (Taken (Value ConsensusValue)))
     → EachStands (consensus_tables k.flavour) k.bytes name taken → RowsStand (consensus_tables k.flavour) name taken
     → KeptIs k.flavour k.draft.facts k.draft.signatures
-    → KeptIs k.flavour (keeping k name taken).draft.facts (keeping k name taken).draft.signatures
-one_more k are section.Preamble taken each counts is =
+    → KeptIs k.flavour (kept_with_section k name taken).draft.facts (kept_with_section k name taken).draft.signatures
+one_more_section_kept k are section.Preamble taken each counts is =
     let facts = preamble_ranged k.flavour k.bytes are taken each in
     record {
       preamble = facts;
@@ -104,7 +104,7 @@ one_more k are section.Preamble taken each counts is =
       of_flavour = All-nil (IsOfFlavour k.flavour);
       known = is.known;
     }
-one_more k are section.Source taken each counts is = record {
+one_more_section_kept k are section.Source taken each counts is = record {
   preamble = is.preamble;
   sources = All-push IsAuthorityInRange k.draft.facts.sources (source_of k.bytes taken) is.sources
       (source_ranged k.flavour k.bytes are taken each counts);
@@ -113,7 +113,7 @@ one_more k are section.Source taken each counts is = record {
   of_flavour = is.of_flavour;
   known = is.known;
 }
-one_more k are section.Router taken each counts is = record {
+one_more_section_kept k are section.Router taken each counts is = record {
   preamble = is.preamble;
   sources = is.sources;
   routers = All-push (IsRouterInRange k.flavour) k.draft.facts.routers (router_of k.flavour k.bytes taken) is.routers
@@ -123,7 +123,7 @@ one_more k are section.Router taken each counts is = record {
       (router_whole k.flavour k.bytes are taken each counts);
   known = is.known;
 }
-one_more k are section.Footer taken each counts is = record {
+one_more_section_kept k are section.Footer taken each counts is = record {
   preamble = is.preamble;
   sources = is.sources;
   routers = is.routers;
@@ -203,7 +203,7 @@ as_read_is flavour bytes c used are is =
     read_is (consensus_tables flavour) bytes 0 max_consensus (length bytes) (with_section flavour bytes) no_draft
     (λ draft. KeptIs flavour draft.facts draft.signatures) (nothing_kept flavour)
     (λ draft name taken each counts kept.
-    one_more (record { flavour = flavour; bytes = bytes; draft = draft }) are name taken each counts kept)
+    one_more_section_kept (record { flavour = flavour; bytes = bytes; draft = draft }) are name taken each counts kept)
     (consensus_in flavour) (with_consensus flavour) (λ draft after. refl) (λ refusal. refl) c used is in
     let draft = found.0 in
     let ascend =

@@ -14,7 +14,7 @@ use Rattle.frame_values.specs.declared.values.Value.TheVariants as value
 use Rattle.value_groups.specs.Lines.{random_of}
 use Rattle.value_groups.specs.declared.value.SharedRandom.{SharedRandom}
 use Rattle.group_laws.specs.LineAgain.{IsRandomInRange}
-use Rattle.relay_entries.specs.Lines.{address_of, lifted}
+use Rattle.relay_entries.specs.Lines.{address_of, lifted_entry_value}
 use Rattle.relay_entries.specs.declared.said.EntryKind.TheVariants as entry
 use Rattle.relay_entries.specs.declared.said.EntryValue.{EntryValue}
 use Rattle.relay_entries.specs.declared.said.EntryValue.TheVariants as said
@@ -37,8 +37,8 @@ use Rattle.consensus_ranges.proofs.LineRanges.{micro_digest_reads, relay_reads, 
 
 -- what an item of an entry says is what is read of it, among the values of a consensus
 pub lifted_value : {A : Type 0} (read : Result A ℕ) (of : A → Value EntryValue)
-    → at_place (next (next read (λ a. Ok (of a))) (λ text. Ok (lifted own.Entry text)))
-    ≡ at_place (next read (λ a. Ok (lifted own.Entry (of a))))
+    → at_place (next (next read (λ a. Ok (of a))) (λ text. Ok (lifted_entry_value own.Entry text)))
+    ≡ at_place (next read (λ a. Ok (lifted_entry_value own.Entry (of a))))
 lifted_value (Ok a) of = refl
 lifted_value (Err place) of = refl
 

@@ -10,7 +10,7 @@ use Rattle.frame_values.specs.declared.values.Value.{Value}
 use Rattle.frame_values.specs.declared.values.Value.TheVariants as value
 use Rattle.value_groups.specs.ListLines.{params_of, protocols_of, versions_of}
 use Rattle.value_groups.specs.Lines.{random_of}
-use Rattle.relay_entries.specs.Lines.{address_of, bandwidths_of, ed_of, entry_value, lifted, micro_of}
+use Rattle.relay_entries.specs.Lines.{address_of, bandwidths_of, ed_of, entry_value, lifted_entry_value, micro_of}
 use Rattle.relay_entries.specs.declared.said.EntryKind.{EntryKind}
 use Rattle.relay_entries.specs.declared.said.EntryKind.TheVariants as entry
 use Rattle.relay_entries.specs.declared.said.EntryValue.{EntryValue}
@@ -59,7 +59,7 @@ signed_relay : (signature : Option VoteSignature) → is_relay (value.Own (own.S
 signed_relay signature = refl
 
 -- what an entry's item says is no signature
-entry_signature : (text : Value EntryValue) → SignatureIs (lifted own.Entry text)
+entry_signature : (text : Value EntryValue) → SignatureIs (lifted_entry_value own.Entry text)
 entry_signature value.Nothing = tt
 entry_signature _ = tt
 
@@ -117,11 +117,11 @@ module _ (flavour : Flavour) (across : Across) (item : Item) (v : Value Consensu
 
   -- what an entry's item says, by what is made of what is read
   entry_relay : (of : EntryKind) → may_relay (kind.Entry of) ≡ false
-      → ReadAs (λ (text : Value EntryValue). NoRelay (lifted own.Entry text)) (entry_value of item)
+      → ReadAs (λ (text : Value EntryValue). NoRelay (lifted_entry_value own.Entry text)) (entry_value of item)
   entry_relay of other = by of other
     where
       No : Value EntryValue → Type 0
-      No text = NoRelay (lifted own.Entry text)
+      No text = NoRelay (lifted_entry_value own.Entry text)
 
       none : {A : Type 0} (read : Result A ℕ) (make : A → Value EntryValue) → ((a : A) → No (make a))
           → ReadAs No (next read (λ a. Ok (make a)))
@@ -141,9 +141,9 @@ module _ (flavour : Flavour) (across : Across) (item : Item) (v : Value Consensu
   kind_relay : (of : ConsensusKind) → may_relay of ≡ false → value_at flavour across of item ≡ Ok v → NoRelay v
   kind_relay kind.Relay other is = absurd (cc other)
   kind_relay (kind.Entry of) other is =
-      was_read NoRelay (next (entry_value of item) (λ text. Ok (lifted own.Entry text))) v
-      (made_reads (λ text. NoRelay (lifted own.Entry text)) NoRelay (entry_value of item)
-      (λ text. lifted own.Entry text) (entry_relay of other) (λ text none. none)) is
+      was_read NoRelay (next (entry_value of item) (λ text. Ok (lifted_entry_value own.Entry text))) v
+      (made_reads (λ text. NoRelay (lifted_entry_value own.Entry text)) NoRelay (entry_value of item)
+      (λ text. lifted_entry_value own.Entry text) (entry_relay of other) (λ text none. none)) is
   kind_relay kind.Signature other is =
       said_by NoRelay (signature_of across.is_signed item) (λ signature. value.Own (own.Signature signature)) v
       signed_relay is
@@ -160,7 +160,7 @@ module _ (flavour : Flavour) (across : Across) (item : Item) (v : Value Consensu
   no_signature kind.Relay is signed =
       said_by SignatureIs (relay_of flavour item) (λ relay. value.Own (own.Entry (said.Relay relay))) v (λ a. tt) is
   no_signature (kind.Entry of) is signed =
-      said_by SignatureIs (entry_value of item) (λ text. lifted own.Entry text) v entry_signature is
+      said_by SignatureIs (entry_value of item) (λ text. lifted_entry_value own.Entry text) v entry_signature is
   no_signature of is signed = quiet_signature v (kind_quiet of refl is)
 
 -- whatever the kind of an item, a signature that it is is such

@@ -3,7 +3,7 @@ ghost use Rattle.std.specs.Prelude.{◌≡◌, IfOk};
 ghost use Rattle.consensus_terms.specs.Moments.{HasMoments};
 ghost use Rattle.consensus_terms.specs.Signed.{signed};
 ghost use Rattle.consensus_terms.specs.Texts as texts;
-ghost use Rattle.text_page.specs.Pages.{counted};
+ghost use Rattle.text_page.specs.Pages.{counted_length};
 
 use crate::body::put_facts;
 use crate::signed::write_signed;
@@ -16,7 +16,7 @@ use text_page::Page;
 #[tactic(auto, using(text_page::proofs::Pages::whole))]
 fn count(consensus: &SignedConsensus) -> Option<usize>
     requires { HasMoments consensus.now.facts }
-    ensures { result ≡ counted (texts.facts_text consensus.now) }
+    ensures { result ≡ counted_length (texts.facts_text consensus.now) }
 {
     let mut page = Page::counting();
     put_facts(&mut page, consensus);

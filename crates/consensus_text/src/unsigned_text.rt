@@ -1,6 +1,6 @@
 // The text of a consensus without its signatures, and how long it is.
 ghost use Rattle.std.specs.Prelude.{◌≡◌, ◌+◌, ◌≤◌, ◌++◌, IfOk, length, vec_len, vec_capacity};
-ghost use Rattle.text_page.specs.Pages.{counted};
+ghost use Rattle.text_page.specs.Pages.{counted_length};
 ghost use Rattle.consensus_terms.specs.Moments.{HasMoments};
 ghost use Rattle.consensus_terms.specs.Texts as texts;
 ghost use Rattle.consensus_terms.specs.declared.flavour.Flavour.TheVariants.{Ns, Microdesc};
@@ -17,7 +17,7 @@ use text_page::Page;
 #[tactic(auto, using(text_page::proofs::Pages::whole))]
 pub fn unsigned_len(consensus: &Consensus, flavour: Flavour) -> Option<usize>
     requires { HasMoments consensus.now.facts }
-    ensures { result ≡ counted (texts.unsigned flavour consensus.now) }
+    ensures { result ≡ counted_length (texts.unsigned flavour consensus.now) }
 {
     let mut page = Page::counting();
     put_unsigned(&mut page, flavour, consensus);
@@ -80,7 +80,7 @@ pub fn unsigned_both(alloc: Global, consensus: &Consensus) -> Result<Vec<u8>, Me
 /// How many bytes the texts of both flavours have. None where they have 2^64 or more.
 fn len_of_both(consensus: &Consensus) -> Option<usize>
     requires { HasMoments consensus.now.facts }
-    ensures { result ≡ counted (texts.unsigned Ns consensus.now ++ texts.unsigned Microdesc consensus.now) }
+    ensures { result ≡ counted_length (texts.unsigned Ns consensus.now ++ texts.unsigned Microdesc consensus.now) }
 {
     let mut page = Page::counting();
     put_unsigned(&mut page, Flavour::Ns, consensus);

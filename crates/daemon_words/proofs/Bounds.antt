@@ -11,8 +11,8 @@ use Rattle.daemon_words.specs.Methods.{newest_in}
 use Rattle.daemon_words.specs.Rehearsals.{IsWithinBounds, is_within, numbers_of, rehearse_in, rehearse_with}
 use Rattle.daemon_words.specs.Reports.{report_in}
 use Rattle.daemon_words.specs.Serving.{serve_in}
-use Rattle.daemon_words.specs.Words.{KeepsBounds, command_named, compute_with, computing, flavours_in, measures_in}
-use Rattle.daemon_words.specs.Words.{make_vote_in, serve_with, serving, subject_in, voting}
+use Rattle.daemon_words.specs.Words.{KeepsBounds, command_named, compute_with, command_to_compute, flavours_in, measures_in}
+use Rattle.daemon_words.specs.Words.{make_vote_in, serve_with, command_to_serve, subject_in, command_to_make_vote}
 use Rattle.daemon_words.specs.declared.command.Measures.{Measures}
 use Rattle.daemon_words.specs.declared.command.Command.{Command}
 use Rattle.daemon_words.specs.declared.command.Command.TheVariants as command
@@ -67,7 +67,7 @@ show_keeps None = tt
 show_keeps (Some named) = tt
 
 computing_keeps : (members : Option (List Fingerprint)) (valid_after : Option ℕ) (wanted : Flavours) (newest : Newest)
-    → Keeps (computing members valid_after wanted newest)
+    → Keeps (command_to_compute members valid_after wanted newest)
 computing_keeps (Some members) (Some valid_after) wanted newest = tt
 computing_keeps (Some members) None wanted newest = tt
 computing_keeps None valid_after wanted newest = tt
@@ -80,7 +80,7 @@ compute_keeps (Some authorities) (Some valid_after) None newest = tt
 compute_keeps (Some authorities) None wanted newest = tt
 compute_keeps None valid_after wanted newest = tt
 
-vote_keeps : (bandwidths : Measures) (newest : Option Newest) → Keeps (voting bandwidths newest)
+vote_keeps : (bandwidths : Measures) (newest : Option Newest) → Keeps (command_to_make_vote bandwidths newest)
 vote_keeps bandwidths (Some newest) = tt
 vote_keeps bandwidths None = tt
 
@@ -92,7 +92,7 @@ serve_keeps : (wanted : Option Serve) → Keeps (option_map command.Serve wanted
 serve_keeps None = tt
 serve_keeps (Some wanted) = tt
 
-serving_keeps : (values : List Row) (newest : Option Newest) → Keeps (serving values newest)
+serving_keeps : (values : List Row) (newest : Option Newest) → Keeps (command_to_serve values newest)
 serving_keeps values (Some newest) = serve_keeps (serve_in values (measures_in values) newest)
 serving_keeps values None = tt
 

@@ -15,13 +15,13 @@ abbrev pub is_within : ℕ → ℕ → Bool
 is_within relays authorities = nat_le relays 20000 && (nat_le 1 authorities && nat_le authorities 32)
 
 -- the rehearsal of three numbers, where they are within their bounds
-abbrev pub rehearsing : ℕ → ℕ → ℕ → Option Rehearse
-rehearsing seed relays authorities =
+abbrev pub rehearsal_of : ℕ → ℕ → ℕ → Option Rehearse
+rehearsal_of seed relays authorities =
     if is_within relays authorities then Some (record { seed = seed; relays = relays; authorities = authorities }) else None
 
 -- the same, where all three were read
 abbrev pub numbers_of : Option ℕ → Option ℕ → Option ℕ → Option Rehearse
-numbers_of (Some seed) (Some relays) (Some authorities) = rehearsing seed relays authorities
+numbers_of (Some seed) (Some relays) (Some authorities) = rehearsal_of seed relays authorities
 numbers_of _ _ _ = None
 
 -- the rehearsal that three words spell

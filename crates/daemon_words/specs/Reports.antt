@@ -6,13 +6,13 @@ use Rattle.daemon_words.specs.Values.{roster, moment}
 use Rattle.daemon_words.specs.declared.report.Report.{Report}
 
 -- the report of a roster at a moment, where both were read
-abbrev pub reporting : Option (List Fingerprint) → Option ℕ → Option Report
-reporting (Some members) (Some valid_after) = Some (record { roster = members; valid_after = valid_after })
-reporting _ _ = None
+abbrev pub roster_report : Option (List Fingerprint) → Option ℕ → Option Report
+roster_report (Some members) (Some valid_after) = Some (record { roster = members; valid_after = valid_after })
+roster_report _ _ = None
 
 -- the report that the texts of two options tell
 abbrev pub report_of : List ℕ → List ℕ → Option Report
-report_of authorities valid_after = reporting (roster authorities) (moment valid_after)
+report_of authorities valid_after = roster_report (roster authorities) (moment valid_after)
 
 -- the same, where both options stand there
 abbrev pub report_with : Option (List ℕ) → Option (List ℕ) → Option Report

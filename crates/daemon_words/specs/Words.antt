@@ -40,14 +40,14 @@ abbrev pub flavours_in : List Row → Option Flavours
 flavours_in options = flavours_of (first_of (codes "flavour") options)
 
 -- `compute` for a roster and a moment, where both were read, with these flavours and this newest method
-abbrev pub computing : Option (List Fingerprint) → Option ℕ → Flavours → Newest → Option Command
-computing (Some members) (Some valid_after) wanted newest =
+abbrev pub command_to_compute : Option (List Fingerprint) → Option ℕ → Flavours → Newest → Option Command
+command_to_compute (Some members) (Some valid_after) wanted newest =
     Some (command.Compute (record { roster = members; valid_after = valid_after; flavours = wanted; newest = newest }))
-computing _ _ wanted newest = None
+command_to_compute _ _ wanted newest = None
 
 -- `compute` with the texts of two options, these flavours and this newest method
 abbrev pub compute_of : List ℕ → List ℕ → Flavours → Newest → Option Command
-compute_of authorities valid_after wanted newest = computing (roster authorities) (moment valid_after) wanted newest
+compute_of authorities valid_after wanted newest = command_to_compute (roster authorities) (moment valid_after) wanted newest
 
 -- the same, where both options stand there, and flavours and a newest method are named
 abbrev pub compute_with : Option (List ℕ) → Option (List ℕ) → Option Flavours → Option Newest → Option Command
@@ -95,22 +95,22 @@ abbrev pub measures_in : List Row → Measures
 measures_in values = measures_of (first_of (codes "bandwidth") values)
 
 -- `make-vote` with these bandwidths, where a newest method is named
-abbrev pub voting : Measures → Option Newest → Option Command
-voting bandwidths (Some newest) = Some (command.MakeVote (record { bandwidths = bandwidths; newest = newest }))
-voting bandwidths None = None
+abbrev pub command_to_make_vote : Measures → Option Newest → Option Command
+command_to_make_vote bandwidths (Some newest) = Some (command.MakeVote (record { bandwidths = bandwidths; newest = newest }))
+command_to_make_vote bandwidths None = None
 
 -- `make-vote` with the values of its options
 abbrev pub make_vote_in : List Row → Option Command
-make_vote_in options = voting (measures_in options) (newest_in options)
+make_vote_in options = command_to_make_vote (measures_in options) (newest_in options)
 
 -- `serve` with the values of its options, where a newest method is named
-abbrev pub serving : List Row → Option Newest → Option Command
-serving options (Some newest) = option_map command.Serve (serve_in options (measures_in options) newest)
-serving options None = None
+abbrev pub command_to_serve : List Row → Option Newest → Option Command
+command_to_serve options (Some newest) = option_map command.Serve (serve_in options (measures_in options) newest)
+command_to_serve options None = None
 
 -- `serve` with the values of its options
 abbrev pub serve_with : List Row → Option Command
-serve_with options = serving options (newest_in options)
+serve_with options = command_to_serve options (newest_in options)
 
 -- the command of a name, with the values of its options: a line for each command
 abbrev pub command_named : Text → List Row → Option Command

@@ -138,7 +138,7 @@ fn make_vote_in(options: &ArgMatches<'_>) -> Option<Command>
 
 /// `make-vote` with these bandwidths, where a newest method is named.
 fn voting(bandwidths: Measures, newest: Option<Newest>) -> Option<Command>
-    ensures { result ≡ grammar.voting bandwidths newest }
+    ensures { result ≡ grammar.command_to_make_vote bandwidths newest }
 {
     match newest {
         Some(newest) => Some(Command::MakeVote(MakeVote { bandwidths, newest })),
@@ -162,7 +162,7 @@ fn serving(
     options: &ArgMatches<'_>,
     newest: Newest,
 ) -> Result<Option<Command>, Memory>
-    ensures { IfOk result (λ command. command ≡ grammar.serving (rows_of (found_of options.now)) (Some newest)) }
+    ensures { IfOk result (λ command. command ≡ grammar.command_to_serve (rows_of (found_of options.now)) (Some newest)) }
 {
     let bandwidths = measures_in(options);
     Ok(serve_in(alloc, options, bandwidths, newest)?.map(Command::Serve))

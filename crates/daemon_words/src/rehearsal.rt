@@ -49,7 +49,7 @@ fn rehearse_of(seed: &[u8], relays: &[u8], authorities: &[u8]) -> Option<Rehears
 
 /// The rehearsal of three numbers, where they are within their bounds.
 fn rehearsing(seed: u64, relays: u32, authorities: u32) -> Option<Rehearse>
-    ensures { result ≡ words.rehearsing seed relays authorities }
+    ensures { result ≡ words.rehearsal_of seed relays authorities }
 {
     if relays > 20_000 || authorities < 1 || authorities > 32 {
         return None;

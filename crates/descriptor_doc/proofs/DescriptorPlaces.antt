@@ -26,7 +26,7 @@ use Rattle.descriptor_frame.specs.declared.said.DescriptorKind.TheVariants as ki
 use Rattle.fault_places.specs.Within.{FaultsStandIn, HasFaultsWithin}
 use Rattle.fault_places.proofs.FirstFaults.{first_faults}
 use Rattle.fault_places.proofs.ArgumentPlaces.{EachBegins, PlaceIn, others_begin}
-use Rattle.fault_places.proofs.ItemPlaces.{IsItemIn, all_begin, begins, first_begins, item_in, more_in, object_in, one_in}
+use Rattle.fault_places.proofs.ItemPlaces.{IsItemIn, all_begin, front_argument_begins, first_begins, item_in, more_in, object_in, one_in}
 use Rattle.fault_places.proofs.ItemPlaces.{then_in, time_in}
 use Rattle.fault_places.proofs.Placed.{last_in, placed_in}
 
@@ -50,10 +50,10 @@ module _ (n : ℕ) (item : Item) (is : IsItemIn n item) where
       let d = front item.place l3 in
       let e = front item.place l4 in
       more_in n a (span_if (is_nickname a.text) a) _ (first_begins n item is) (λ nickname.
-      more_in n b (address b.text) _ (begins n item is l1 e1) (λ ip_number.
-      more_in n c (port_of c.text) _ (begins n item is l2 e2) (λ or_number.
-      more_in n d (port_of d.text) _ (begins n item is l3 e3) (λ socks_number.
-      last_in n e (port_of e.text) _ (begins n item is l4 e4)))))
+      more_in n b (address b.text) _ (front_argument_begins n item is l1 e1) (λ ip_number.
+      more_in n c (port_of c.text) _ (front_argument_begins n item is l2 e2) (λ or_number.
+      more_in n d (port_of d.text) _ (front_argument_begins n item is l3 e3) (λ socks_number.
+      last_in n e (port_of e.text) _ (front_argument_begins n item is l4 e4)))))
 
   bandwidth_in : PlaceIn n (bandwidth_of item)
   bandwidth_in =
@@ -66,8 +66,8 @@ module _ (n : ℕ) (item : Item) (is : IsItemIn n item) where
       let b = front item.place l1 in
       let c = front item.place l2 in
       more_in n a (long_number a.text) _ (first_begins n item is) (λ average.
-      more_in n b (long_number b.text) _ (begins n item is l1 e1) (λ burst.
-      last_in n c (long_number c.text) _ (begins n item is l2 e2)))
+      more_in n b (long_number b.text) _ (front_argument_begins n item is l1 e1) (λ burst.
+      last_in n c (long_number c.text) _ (front_argument_begins n item is l2 e2)))
 
   first_in : {X : Type 0} (value : List ℕ → Option X) → PlaceIn n (first_of value item)
   first_in value =
@@ -85,7 +85,7 @@ module _ (n : ℕ) (item : Item) (is : IsItemIn n item) where
   groups_in zero arguments each = tt
   groups_in (suc count) arguments each =
       let first = front item.place arguments in
-      more_in n first (group_of first.text) _ (begins n item is arguments each) (λ bytes.
+      more_in n first (group_of first.text) _ (front_argument_begins n item is arguments each) (λ bytes.
       then_in n (groups_of count item.place (others arguments)) _
       (groups_in count (others arguments) (others_begin n arguments each)))
 

@@ -29,9 +29,9 @@ abbrev which : Descriptor → Result (Descriptor × ℕ) ReadRefusal → Descrip
 which other (Ok found) = found.0
 which other (Err why) = other
 
-abbrev behind : Result (Descriptor × ℕ) ReadRefusal → ℕ
-behind (Ok found) = found.1
-behind (Err why) = 0
+abbrev place_behind_read : Result (Descriptor × ℕ) ReadRefusal → ℕ
+place_behind_read (Ok found) = found.1
+place_behind_read (Err why) = 0
 
 abbrev fault_in : ReadRefusal → Result (Descriptor × ℕ) ReadRefusal → ReadRefusal
 fault_in other (Ok found) = other
@@ -51,7 +51,7 @@ own_read newest bytes d used is = by (descriptor_of bytes) refl is
         → OwnRead newest bytes d used
     by (Ok (own, end)) there e = record {
       own = own;
-      read = there ∙ ap (λ (n : ℕ). answer own n) (ap behind e);
+      read = there ∙ ap (λ (n : ℕ). answer own n) (ap place_behind_read e);
       same = sym (ap (which own) e);
     }
     by (Err why) there e = absurd (cc e)

@@ -5,7 +5,7 @@ use Rattle.std.specs.Prelude.{if◌then◌else◌}
 use Rattle.std.specs.List.{list_any}
 use Rattle.std.specs.Str.{bytes_eq}
 use Rattle.item_terms.specs.Items.{Item, Object}
-use Rattle.dirdoc_grammar.specs.Bodies.{decoded}
+use Rattle.dirdoc_grammar.specs.Bodies.{decoded_bytes}
 use Rattle.frame_values.specs.Signatures.{has_words}
 use Rattle.descriptor_frame.specs.Certificates.{family_certificate_of}
 use Rattle.descriptor_frame.specs.declared.certificate.EdCert.{EdCert}
@@ -19,7 +19,7 @@ is_family_item item = bytes_eq item.keyword (codes "family-cert")
 -- the family certificate that the lines of an object spell, where they spell one
 abbrev pub cert_in : Option Object → Option EdCert
 cert_in None = None
-cert_in (Some object) = option_and_then family_certificate_of (decoded object.text)
+cert_in (Some object) = option_and_then family_certificate_of (decoded_bytes object.text)
 
 -- the family certificate that an object is, where it is one: its words are `FAMILY CERT`
 abbrev pub cert_of : Option Object → Option EdCert

@@ -1,6 +1,6 @@
 // The family certificates of a descriptor.
 ghost use Rattle.std.specs.Prelude.{◌≡◌, IfOk};
-ghost use Rattle.dirdoc_grammar.specs.Seen.{seen, seen_object_if};
+ghost use Rattle.dirdoc_grammar.specs.Seen.{seen_item, seen_object_if};
 ghost use Rattle.descriptor_doc.specs.FamilyCerts as families;
 ghost use Rattle.descriptor_doc.specs.Reading as reading;
 
@@ -28,7 +28,7 @@ pub(crate) enum FamilyItem {
 
 /// Whether an item is one of a family.
 fn is_family_item(item: &Item<'_>) -> bool
-    ensures { result ≡ families.is_family_item (seen item.now) }
+    ensures { result ≡ families.is_family_item (seen_item item.now) }
 {
     item.keyword == b"family-cert".as_slice()
 }
@@ -68,7 +68,7 @@ fn cert_of(alloc: Global, item: &Item<'_>) -> Result<Option<EdCert>, Memory>
 /// # Errors
 /// `Memory` is want of memory.
 fn family_item(alloc: Global, item: &Item<'_>) -> Result<FamilyItem, Memory>
-    ensures { IfOk result (λ said. said ≡ families.family_item (seen item.now)) }
+    ensures { IfOk result (λ said. said ≡ families.family_item (seen_item item.now)) }
 {
     if !is_family_item(item) {
         return Ok(FamilyItem::Other);

@@ -7,9 +7,9 @@ use Rattle.frame_values.specs.Arguments.{Argument, others, next}
 use Rattle.descriptor_frame.specs.Fields.{group_in, groups_of}
 
 -- bytes that were read before others
-abbrev pub behind : List ℕ → Result (List ℕ) ℕ → Result (List ℕ) ℕ
-behind bytes (Err place) = Err place
-behind bytes (Ok rest) = Ok (bytes ++ rest)
+abbrev pub groups_behind_bytes : List ℕ → Result (List ℕ) ℕ → Result (List ℕ) ℕ
+groups_behind_bytes bytes (Err place) = Err place
+groups_behind_bytes bytes (Ok rest) = Ok (bytes ++ rest)
 
 -- what follows from the group in front
 abbrev then_groups : ℕ → ℕ → List Argument → Result (List ℕ) ℕ → Result (List ℕ) ℕ
@@ -24,34 +24,34 @@ groups_next count item arguments = refl
 
 -- bytes before bytes
 behind_both : (before bytes : List ℕ) (rest : Result (List ℕ) ℕ)
-    → behind before (next rest (λ rest. Ok (bytes ++ rest))) ≡ behind (before ++ bytes) rest
+    → groups_behind_bytes before (next rest (λ rest. Ok (bytes ++ rest))) ≡ groups_behind_bytes (before ++ bytes) rest
 behind_both before bytes (Err place) = refl
 behind_both before bytes (Ok rest) = ap (λ (l : List ℕ). Ok l) (sym (append_assoc before bytes rest))
 
 -- a group that is one
-pub one_more : (count i item : ℕ) (before bytes : List ℕ) (arguments : List Argument) → i < count
+pub one_more_group_read : (count i item : ℕ) (before bytes : List ℕ) (arguments : List Argument) → i < count
     → group_in item arguments ≡ Ok bytes
-    → behind before (groups_of (count - i) item arguments)
-    ≡ behind (before ++ bytes) (groups_of (count - (i + 1)) item (others arguments))
-one_more count i item before bytes arguments lt is =
+    → groups_behind_bytes before (groups_of (count - i) item arguments)
+    ≡ groups_behind_bytes (before ++ bytes) (groups_of (count - (i + 1)) item (others arguments))
+one_more_group_read count i item before bytes arguments lt is =
     let more : count - i ≡ suc (count - (i + 1)) = omega arith in
-    ap (λ (n : ℕ). behind before (groups_of n item arguments)) more
-    ∙ ap (behind before) (groups_next (count - (i + 1)) item arguments)
-    ∙ ap (λ (g : Result (List ℕ) ℕ). behind before (then_groups (count - (i + 1)) item arguments g)) is
+    ap (λ (n : ℕ). groups_behind_bytes before (groups_of n item arguments)) more
+    ∙ ap (groups_behind_bytes before) (groups_next (count - (i + 1)) item arguments)
+    ∙ ap (λ (g : Result (List ℕ) ℕ). groups_behind_bytes before (then_groups (count - (i + 1)) item arguments g)) is
     ∙ behind_both before bytes (groups_of (count - (i + 1)) item (others arguments))
 
 -- one that is none
 pub no_more : (count i item place : ℕ) (before : List ℕ) (arguments : List Argument) → i < count
-    → group_in item arguments ≡ Err place → behind before (groups_of (count - i) item arguments) ≡ Err place
+    → group_in item arguments ≡ Err place → groups_behind_bytes before (groups_of (count - i) item arguments) ≡ Err place
 no_more count i item place before arguments lt is =
     let more : count - i ≡ suc (count - (i + 1)) = omega arith in
-    ap (λ (n : ℕ). behind before (groups_of n item arguments)) more
-    ∙ ap (behind before) (groups_next (count - (i + 1)) item arguments)
-    ∙ ap (λ (g : Result (List ℕ) ℕ). behind before (then_groups (count - (i + 1)) item arguments g)) is
+    ap (λ (n : ℕ). groups_behind_bytes before (groups_of n item arguments)) more
+    ∙ ap (groups_behind_bytes before) (groups_next (count - (i + 1)) item arguments)
+    ∙ ap (λ (g : Result (List ℕ) ℕ). groups_behind_bytes before (then_groups (count - (i + 1)) item arguments g)) is
 
 -- the two bytes of a group
-pub both : (bytes : List ℕ) → length bytes ≡ 2 → slice_index_or bytes 0 0 ∷ slice_index_or bytes 1 0 ∷ [] ≡ bytes
-both bytes is = grind (arith, common_steps)
+pub two_are_all : (bytes : List ℕ) → length bytes ≡ 2 → slice_index_or bytes 0 0 ∷ slice_index_or bytes 1 0 ∷ [] ≡ bytes
+two_are_all bytes is = grind (arith, common_steps)
 
 -- two bytes that were set are the last ones before the next
 pub two_set : (bytes : List ℕ) (i a b : ℕ) → 2 * i + 1 < length bytes
@@ -60,11 +60,11 @@ two_set bytes i a b lt = grind (arith, common_steps)
 
 -- no group is left
 pub at_end : (count i item : ℕ) (bytes : List ℕ) (arguments : List Argument) → count ≤ i
-    → behind bytes (groups_of (count - i) item arguments) ≡ Ok bytes
+    → groups_behind_bytes bytes (groups_of (count - i) item arguments) ≡ Ok bytes
 unfolding groups_of
 at_end count i item bytes arguments all =
     let none : count - i ≡ 0 = omega arith in
-    ap (λ (n : ℕ). behind bytes (groups_of n item arguments)) none ∙ ap (λ (l : List ℕ). Ok l) (append-nil bytes)
+    ap (λ (n : ℕ). groups_behind_bytes bytes (groups_of n item arguments)) none ∙ ap (λ (l : List ℕ). Ok l) (append-nil bytes)
 
 -- no byte is beyond the last one
 pub whole : (bytes : List ℕ) (n : ℕ) → length bytes ≤ n → take n bytes ≡ bytes

@@ -9,11 +9,11 @@ abbrev signer_behind : ℕ → List ℕ → Option (Option (List ℕ)) → Optio
 signer_behind count bytes made = then_signer made (λ next. signer_in count next (drop (4 + content_len bytes) bytes))
 
 -- an extension that may stand there
-pub one_more : (count i : ℕ) (signer next : Option (List ℕ)) (bytes : List ℕ) → i < count
+pub one_more_extension_passed : (count i : ℕ) (signer next : Option (List ℕ)) (bytes : List ℕ) → i < count
     → first_extension signer bytes ≡ Some next
     → signer_in (count - i) signer bytes ≡ signer_in (count - (i + 1)) next (drop (4 + content_len bytes) bytes)
 unfolding signer_in
-one_more count i signer next bytes lt is =
+one_more_extension_passed count i signer next bytes lt is =
     let more : count - i ≡ suc (count - (i + 1)) = omega arith in
     ap (λ (n : ℕ). signer_in n signer bytes) more ∙ ap (signer_behind (count - (i + 1)) bytes) is
 

@@ -10,7 +10,7 @@ use Rattle.dir_values.specs.Ports.{Ports, port_summary}
 use Rattle.dir_values.specs.declared.digest.Fingerprint.{Fingerprint}
 use Rattle.dir_values.specs.declared.refusal.ValueRefusal.{ValueRefusal}
 use Rattle.dir_values.specs.declared.refusal.ValueRefusal.TheVariants.{BadValue, Memory}
-use Rattle.dirdoc_grammar.specs.Bodies.{decoded}
+use Rattle.dirdoc_grammar.specs.Bodies.{decoded_bytes}
 use Rattle.descriptor_frame.specs.Certificates.{certificate_of}
 use Rattle.frame_values.specs.declared.found.Span.{Span}
 use Rattle.frame_values.specs.declared.values.Value.{Value}
@@ -61,7 +61,7 @@ router_of item =
 -- whether an object is an Ed25519 certificate
 abbrev pub is_certificate : Option Object → Bool
 is_certificate None = false
-is_certificate (Some object) = is_some (option_and_then certificate_of (decoded object.text))
+is_certificate (Some object) = is_some (option_and_then certificate_of (decoded_bytes object.text))
 
 -- an Ed25519 certificate
 abbrev pub certificate_lines : Item → Result Span ℕ

@@ -1,6 +1,6 @@
 // The frame of a server descriptor: the table of its items.
 ghost use Rattle.std.specs.Prelude.{◌≡◌};
-ghost use Rattle.dirdoc_grammar.specs.Seen.{seen, IsInside};
+ghost use Rattle.dirdoc_grammar.specs.Seen.{seen_item, IsInside};
 ghost use Rattle.frame_reader.specs.Giving as giving;
 ghost use Rattle.frame_reader.specs.Giving.{Gives};
 ghost use Rattle.frame_values.specs.Faults as faults;
@@ -64,7 +64,7 @@ const ROWS: [Row<DescriptorKind>; 22] = [
 
 /// A value, or the refusal at the place of what is wrong.
 fn at<V>(value: Result<V, u64>) -> Result<V, ReadRefusal>
-    ensures { result ≡ giving.given (faults.at_place value) }
+    ensures { result ≡ giving.given_result (faults.at_place value) }
 {
     given(at_place(value))
 }
@@ -76,7 +76,7 @@ fn value_at(
     item: &Item<'_>,
 ) -> Result<Value<DescriptorValue>, ReadRefusal>
     requires { IsInside item.now }
-    ensures { Gives (faults.at_place (lines.value_at kind (seen item.now))) result }
+    ensures { Gives (faults.at_place (lines.value_at kind (seen_item item.now))) result }
 {
     let own = match kind {
         DescriptorKind::Router => DescriptorValue::Router(at(router_of(item))?),

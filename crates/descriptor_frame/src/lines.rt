@@ -1,6 +1,6 @@
 // What the items of a server descriptor say.
 ghost use Rattle.std.specs.Prelude.{◌≡◌, IfOk};
-ghost use Rattle.dirdoc_grammar.specs.Seen.{seen, seen_object_if, IsInside};
+ghost use Rattle.dirdoc_grammar.specs.Seen.{seen_item, seen_object_if, IsInside};
 ghost use Rattle.frame_reader.specs.Giving.{Gives};
 ghost use Rattle.frame_values.specs.Faults as faults;
 ghost use Rattle.descriptor_frame.specs.Fields as fields;
@@ -23,7 +23,7 @@ use std::alloc::{AllocError, Global};
 /// A relay.
 pub(crate) fn router_of(item: &Item<'_>) -> Result<RouterLine, u64>
     requires { IsInside item.now }
-    ensures { result ≡ lines.router_of (seen item.now) }
+    ensures { result ≡ lines.router_of (seen_item item.now) }
 {
     let mut arguments = arguments_of(item);
     let name = take_argument(&mut arguments, item.place);
@@ -61,7 +61,7 @@ fn holds_certificate(alloc: Global, item: &Item<'_>) -> Result<bool, AllocError>
 /// Where the lines of an Ed25519 certificate stand.
 pub(crate) fn certificate_lines(alloc: Global, item: &Item<'_>) -> Result<Span, ReadRefusal>
     requires { IsInside item.now }
-    ensures { Gives (faults.at_place (lines.certificate_lines (seen item.now))) result }
+    ensures { Gives (faults.at_place (lines.certificate_lines (seen_item item.now))) result }
 {
     let is_wanted = has_words(item, b"ED25519 CERT") && holds_certificate(alloc, item)?;
     given(at_place(object_of(is_wanted, item)))
@@ -73,7 +73,7 @@ pub(crate) fn certificate_lines(alloc: Global, item: &Item<'_>) -> Result<Span, 
 /// The place of what is wrong.
 pub fn key_of(item: &Item<'_>) -> Result<[u8; 32], u64>
     requires { IsInside item.now }
-    ensures { result ≡ lines.first_of fields.key (seen item.now) }
+    ensures { result ≡ lines.first_of fields.key (seen_item item.now) }
 {
     let first = take_argument(&mut arguments_of(item), item.place);
     field(&first, key(first.text))
@@ -82,7 +82,7 @@ pub fn key_of(item: &Item<'_>) -> Result<[u8; 32], u64>
 /// A key with or without padding.
 pub(crate) fn padded_key_of(item: &Item<'_>) -> Result<[u8; 32], u64>
     requires { IsInside item.now }
-    ensures { result ≡ lines.first_of fields.padded_key (seen item.now) }
+    ensures { result ≡ lines.first_of fields.padded_key (seen_item item.now) }
 {
     let first = take_argument(&mut arguments_of(item), item.place);
     field(&first, padded_key(first.text))
@@ -91,7 +91,7 @@ pub(crate) fn padded_key_of(item: &Item<'_>) -> Result<[u8; 32], u64>
 /// An Ed25519 signature.
 pub(crate) fn ed_signature_of(item: &Item<'_>) -> Result<[u8; 64], u64>
     requires { IsInside item.now }
-    ensures { result ≡ lines.first_of fields.signature (seen item.now) }
+    ensures { result ≡ lines.first_of fields.signature (seen_item item.now) }
 {
     let first = take_argument(&mut arguments_of(item), item.place);
     field(&first, signature(first.text))
@@ -100,7 +100,7 @@ pub(crate) fn ed_signature_of(item: &Item<'_>) -> Result<[u8; 64], u64>
 /// An identity in ten groups of four hex digits.
 pub(crate) fn identity_of(item: &Item<'_>) -> Result<Fingerprint, u64>
     requires { IsInside item.now }
-    ensures { result ≡ lines.identity_of (seen item.now) }
+    ensures { result ≡ lines.identity_of (seen_item item.now) }
 {
     Ok(Fingerprint(groups_of(&mut arguments_of(item), item.place)?))
 }
@@ -108,7 +108,7 @@ pub(crate) fn identity_of(item: &Item<'_>) -> Result<Fingerprint, u64>
 /// A number of seconds.
 pub(crate) fn uptime_of(item: &Item<'_>) -> Result<u64, u64>
     requires { IsInside item.now }
-    ensures { result ≡ lines.first_of fields.long_number (seen item.now) }
+    ensures { result ≡ lines.first_of fields.long_number (seen_item item.now) }
 {
     let first = take_argument(&mut arguments_of(item), item.place);
     field(&first, long_number(first.text))
@@ -117,7 +117,7 @@ pub(crate) fn uptime_of(item: &Item<'_>) -> Result<u64, u64>
 /// Three numbers of bytes a second.
 pub(crate) fn bandwidth_of(item: &Item<'_>) -> Result<BandwidthLine, u64>
     requires { IsInside item.now }
-    ensures { result ≡ lines.bandwidth_of (seen item.now) }
+    ensures { result ≡ lines.bandwidth_of (seen_item item.now) }
 {
     let mut arguments = arguments_of(item);
     let average = take_argument(&mut arguments, item.place);
@@ -136,7 +136,7 @@ pub(crate) fn bandwidth_of(item: &Item<'_>) -> Result<BandwidthLine, u64>
 /// Whether a relay rests.
 pub(crate) fn hibernating_of(item: &Item<'_>) -> Result<bool, u64>
     requires { IsInside item.now }
-    ensures { result ≡ lines.first_of fields.hibernating (seen item.now) }
+    ensures { result ≡ lines.first_of fields.hibernating (seen_item item.now) }
 {
     let first = take_argument(&mut arguments_of(item), item.place);
     field(&first, hibernating(first.text))
@@ -145,7 +145,7 @@ pub(crate) fn hibernating_of(item: &Item<'_>) -> Result<bool, u64>
 /// An item of an exit policy.
 pub(crate) fn policy_of(accept: bool, item: &Item<'_>) -> Result<PolicyItem, u64>
     requires { IsInside item.now }
-    ensures { result ≡ lines.first_of (policies.item_of accept) (seen item.now) }
+    ensures { result ≡ lines.first_of (policies.item_of accept) (seen_item item.now) }
 {
     let first = take_argument(&mut arguments_of(item), item.place);
     field(&first, item_of(accept, first.text))
@@ -157,7 +157,7 @@ pub(crate) fn policy_of(accept: bool, item: &Item<'_>) -> Result<PolicyItem, u64
 /// `Frame` is the fault at the place of what is wrong. `Memory` is want of memory.
 pub fn ports_of(alloc: Global, item: &Item<'_>) -> Result<Span, ReadRefusal>
     requires { IsInside item.now }
-    ensures { Gives (faults.at_place (lines.ports_of (seen item.now))) result }
+    ensures { Gives (faults.at_place (lines.ports_of (seen_item item.now))) result }
 {
     let place = match PortSummary::read(alloc, item.arguments) {
         Ok(_) => return Ok(rest_of(item)),
@@ -175,7 +175,7 @@ pub fn ports_of(alloc: Global, item: &Item<'_>) -> Result<Span, ReadRefusal>
 /// Where an address stands that ends with a colon and a port.
 pub(crate) fn address_of(item: &Item<'_>) -> Result<Span, u64>
     requires { IsInside item.now }
-    ensures { result ≡ lines.address_of (seen item.now) }
+    ensures { result ≡ lines.address_of (seen_item item.now) }
 {
     let first = take_argument(&mut arguments_of(item), item.place);
     field(&first, address(&first))

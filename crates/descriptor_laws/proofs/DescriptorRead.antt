@@ -17,7 +17,7 @@ use Rattle.frame_terms.specs.declared.document.Taken.{Taken}
 use Rattle.frame_terms.specs.declared.keyword.Keyword.{Keyword}
 use Rattle.frame_terms.specs.declared.keyword.Keyword.TheVariants as the
 use Rattle.frame_terms.specs.declared.row.Count.TheVariants.{One}
-use Rattle.frame_laws.proofs.Both.{both}
+use Rattle.frame_laws.proofs.Both.{both_hold}
 use Rattle.frame_laws.proofs.Entries.{after_one, all_taken, item_of, taken_at}
 use Rattle.frame_laws.proofs.Following.{first_made}
 use Rattle.frame_laws.proofs.Limits.{fits}
@@ -52,7 +52,7 @@ pub use Rattle.descriptor_laws.proofs.DescriptorParts.{table_apart, whole_middle
 module _ (d : Descriptor) (are : SaysInRange d) where
   pub front_counted : AreCounted (front_all d)
   front_counted =
-      both (counted_once first_row (router_entry d.router) refl)
+      both_hold (counted_once first_row (router_entry d.router) refl)
       (counted descriptor_tables (front_rows d) (front_said d are))
 
   pub back_counted : AreCounted (back_rows d)
@@ -61,7 +61,7 @@ module _ (d : Descriptor) (are : SaysInRange d) where
   pub back_all_counted : AreCounted (back_all d)
   back_all_counted =
       counted_both (back_rows d) (row_once last_row (signature_entry d) ∷ []) back_counted
-      (both (counted_once last_row (signature_entry d) refl) tt)
+      (both_hold (counted_once last_row (signature_entry d) refl) tt)
 
   -- the items after the first are each one more of it
   none_of_back : NoneStand (front_taken d ++ policy_taken d) (back_rows d)
@@ -79,7 +79,7 @@ module _ (d : Descriptor) (are : SaysInRange d) where
       let apart = middle_apart d in
       more_both descriptor_tables tt one [] None (second_place d) front (policy_entries d ++ entries_of (back_rows d))
       (rows_more descriptor_tables tt one [] None (second_place d) (front_rows d) (front_in d) (front_said d are) apart.0
-      (none_after [] 0 first_row (router_entry d.router ∷ []) (front_rows d) (both refl tt) apart.1
+      (none_after [] 0 first_row (router_entry d.router ∷ []) (front_rows d) (both_hold refl tt) apart.1
       (none_before (front_rows d))) tt)
       (more_both descriptor_tables tt one taken None (policy_place d) (policy_entries d) (entries_of (back_rows d))
       (mixed_more descriptor_tables tt (λ (item : PolicyItem). policy_row item.accept) policy_entry IsItemInRange
@@ -105,8 +105,8 @@ module _ (d : Descriptor) (are : SaysInRange d) where
   front_each = each_taken 0 (front_all d) front_counted (front_apart d)
 
   -- an item of a first row stands
-  there : (k : Keyword) → stands k (front_taken d) ≡ true → stands k before_last ≡ true
-  there k is =
+  front_one_stands : (k : Keyword) → stands k (front_taken d) ≡ true → stands k before_last ≡ true
+  front_one_stands k is =
       let test : Taken Says → Bool = λ one. same one.keyword k in
       let behind = policy_taken d ++ all_taken (back_place d) (entries_of (back_rows d)) in
       ap (λ (l : List (Taken Says)). stands k l) before_parts ∙ list_any-append test (front_taken d) behind
@@ -142,8 +142,8 @@ module _ (d : Descriptor) (are : SaysInRange d) where
 
   whole : lacking_but rows the.RouterSignature before_last ≡ None
   whole =
-      whole_with before_last (there the.Router router_there) (there the.Published published_there)
-      (there the.Bandwidth bandwidth_there) (there the.SigningKey signing_there)
+      whole_with before_last (front_one_stands the.Router router_there) (front_one_stands the.Published published_there)
+      (front_one_stands the.Bandwidth bandwidth_there) (front_one_stands the.SigningKey signing_there)
 
   -- no last item stands before it
   pub none_of_last : stands the.RouterSignature before_last ≡ false

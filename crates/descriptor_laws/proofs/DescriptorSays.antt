@@ -10,7 +10,7 @@ use Rattle.frame_terms.specs.Keywords.{same, text_of}
 use Rattle.frame_terms.specs.declared.document.Taken.{Taken}
 use Rattle.frame_terms.specs.declared.keyword.Keyword.TheVariants as the
 use Rattle.frame_values.specs.Values.{after_in, item_at, line_end_in}
-use Rattle.frame_laws.proofs.Both.{both}
+use Rattle.frame_laws.proofs.Both.{both_hold}
 use Rattle.frame_laws.proofs.Entries.{after_one, all_taken, item_of}
 use Rattle.frame_laws.proofs.MoreRows.{none_before}
 use Rattle.frame_laws.proofs.Places.{after_all, after_all-append, after_all-same, all_taken-append}
@@ -67,29 +67,29 @@ parts_same d =
 -- no row but its own says an item of its exit policy
 front_quiet : (d : Descriptor) → EachQuiet (front_all d)
 front_quiet d =
-    both (both (λ p. refl) tt)
-    (both (quiet_if certificate_entry d.identity_ed25519 (λ a p. refl))
-    (both (quiet_if (key_entry the.MasterKeyEd25519) d.master_key_ed25519 (λ a p. refl))
-    (both (quiet_text the.Platform d.platform)
-    (both (both (λ p. refl) tt)
-    (both (quiet_if groups_entry d.fingerprint (λ a p. refl))
-    (both (quiet_if uptime_entry d.uptime (λ a p. refl))
-    (both (both (λ p. refl) tt)
-    (both (quiet_if hibernating_entry d.hibernating (λ a p. refl))
-    (both (quiet_if (key_object the.OnionKey) d.onion_key (λ a p. refl))
-    (both (both (λ p. refl) tt)
-    (both (quiet_if (key_entry the.NtorOnionKey) d.ntor_onion_key (λ a p. refl)) tt)))))))))))
+    both_hold (both_hold (λ p. refl) tt)
+    (both_hold (quiet_if certificate_entry d.identity_ed25519 (λ a p. refl))
+    (both_hold (quiet_if (key_entry the.MasterKeyEd25519) d.master_key_ed25519 (λ a p. refl))
+    (both_hold (quiet_text the.Platform d.platform)
+    (both_hold (both_hold (λ p. refl) tt)
+    (both_hold (quiet_if groups_entry d.fingerprint (λ a p. refl))
+    (both_hold (quiet_if uptime_entry d.uptime (λ a p. refl))
+    (both_hold (both_hold (λ p. refl) tt)
+    (both_hold (quiet_if hibernating_entry d.hibernating (λ a p. refl))
+    (both_hold (quiet_if (key_object the.OnionKey) d.onion_key (λ a p. refl))
+    (both_hold (both_hold (λ p. refl) tt)
+    (both_hold (quiet_if (key_entry the.NtorOnionKey) d.ntor_onion_key (λ a p. refl)) tt)))))))))))
 
 back_quiet : (d : Descriptor) → EachQuiet (back_all d)
 back_quiet d =
-    both (quiet_if ports_entry d.ipv6_policy (λ a p. refl))
-    (both (quiet_if family_entry d.family (λ a p. refl))
-    (both (quiet_each the.OrAddress d.or_addresses)
-    (both (quiet_mark d.tunnelled_dir_server)
-    (both (quiet_text the.Proto d.proto)
-    (both (quiet_text the.Contact d.contact)
-    (both (quiet_if ed_signature_entry d.router_sig_ed25519 (λ a p. refl))
-    (both (both (λ p. refl) tt) tt)))))))
+    both_hold (quiet_if ports_entry d.ipv6_policy (λ a p. refl))
+    (both_hold (quiet_if family_entry d.family (λ a p. refl))
+    (both_hold (quiet_each the.OrAddress d.or_addresses)
+    (both_hold (quiet_mark d.tunnelled_dir_server)
+    (both_hold (quiet_text the.Proto d.proto)
+    (both_hold (quiet_text the.Contact d.contact)
+    (both_hold (quiet_if ed_signature_entry d.router_sig_ed25519 (λ a p. refl))
+    (both_hold (both_hold (λ p. refl) tt) tt)))))))
 
 module _ (d : Descriptor) (are : SaysInRange d) where
   -- all that is taken
@@ -137,7 +137,7 @@ module _ (d : Descriptor) (are : SaysInRange d) where
       ∙ ap first_if (filter-append (λ (other : Taken Says). same other.keyword the.RouterSignature) front (one ∷ [])
       ∙ ap (λ (l : List (Taken Says)). l ++ items_at (one ∷ []) the.RouterSignature)
       (none_at the.RouterSignature front (none_of_last d are))
-      ∙ all_at (last_place d) last_row (signature_entry d ∷ []) (both refl tt))
+      ∙ all_at (last_place d) last_row (signature_entry d ∷ []) (both_hold refl tt))
 
   -- the items of its exit policy
   pub policy_is : filter_map policy_if taken ≡ d.policy

@@ -17,7 +17,7 @@ use Rattle.frame_terms.specs.declared.section.Again.TheVariants as again
 use Rattle.frame_terms.specs.Documents.{Document, finish}
 use Rattle.frame_values.specs.Items.{item_if}
 use Rattle.frame_values.specs.declared.values.Value.{Value}
-use Rattle.frame_laws.proofs.Both.{both}
+use Rattle.frame_laws.proofs.Both.{both_hold}
 use Rattle.frame_laws.proofs.Steps.{IsAgain}
 use Rattle.descriptor_frame.specs.Families.{family_text}
 use Rattle.micro_desc.specs.Tables.{micro_tables}
@@ -136,7 +136,7 @@ next_read place next others may =
     ∙ ap (λ (l : List ℕ). l ++ rest) (sym (append-nil (item_text first))) in (
       after,
       ap (λ (l : List ℕ). contents max_micro place nothing l) parts
-          ∙ items_again max_micro place (first ∷ []) rest (both may tt)
+          ∙ items_again max_micro place (first ∷ []) rest (both_hold may tt)
           (closed (first ∷ []) rest (no_dash_others next others))
           ∙ ap (λ (i : NewItem). in_front (written place i ∷ []) after) (sym (onion_item next.onion_key)),
     )

@@ -20,7 +20,7 @@ use Rattle.frame_values.specs.Parts.{bytes_in, part}
 use Rattle.frame_values.specs.declared.values.Value.{Value}
 use Rattle.frame_values.specs.declared.values.Value.TheVariants as value
 use Rattle.frame_laws.proofs.Words.{words_of-join}
-use Rattle.frame_laws.proofs.Both.{both}
+use Rattle.frame_laws.proofs.Both.{both_hold}
 use Rattle.descriptor_doc.specs.Descriptors.{words_in}
 use Rattle.descriptor_frame.specs.Families.{family_text}
 use Rattle.micro_desc.specs.Heads.{ItemIf, head_of, id_in, key_in, onion_key_in}
@@ -266,16 +266,16 @@ any_text (Some t) = tt
 
 pub spoken_so : (micro : Micro) → SaysInRange micro → AreSpoken MayWrite (rows_of micro)
 spoken_so micro are =
-    both (record {
+    both_hold (record {
       count = refl;
       each = All-cons (MayWrite kind.OnionKey) (onion micro.onion_key) [] tt
           (All-nil (MayWrite kind.OnionKey));
     })
-    (both (perhaps the.NtorOnionKey kind.Key a_key (AreBytes 32) micro.ntor_onion_key are.ntor_onion_key (λ a is. is))
-    (both (perhaps the.Family kind.Rest (λ l. text (family_text l)) (λ l. Unit {0}) micro.family
+    (both_hold (perhaps the.NtorOnionKey kind.Key a_key (AreBytes 32) micro.ntor_onion_key are.ntor_onion_key (λ a is. is))
+    (both_hold (perhaps the.Family kind.Rest (λ l. text (family_text l)) (λ l. Unit {0}) micro.family
     (any_text micro.family) (λ a is. tt))
-    (both (perhaps the.FamilyIds kind.Rest text (λ t. Unit {0}) micro.family_ids (any_text micro.family_ids)
+    (both_hold (perhaps the.FamilyIds kind.Rest text (λ t. Unit {0}) micro.family_ids (any_text micro.family_ids)
     (λ a is. tt))
-    (both (perhaps the.P kind.Rest text (λ t. Unit {0}) micro.p (any_text micro.p) (λ a is. tt))
-    (both (perhaps the.P6 kind.Rest text (λ t. Unit {0}) micro.p6 (any_text micro.p6) (λ a is. tt))
-    (both (perhaps the.Id kind.Id an_id IsIdInRange micro.id are.id (λ a is. is)) tt))))))
+    (both_hold (perhaps the.P kind.Rest text (λ t. Unit {0}) micro.p (any_text micro.p) (λ a is. tt))
+    (both_hold (perhaps the.P6 kind.Rest text (λ t. Unit {0}) micro.p6 (any_text micro.p6) (λ a is. tt))
+    (both_hold (perhaps the.Id kind.Id an_id IsIdInRange micro.id are.id (λ a is. is)) tt))))))

@@ -12,14 +12,14 @@ use Rattle.frame_terms.specs.Tables.{Tables}
 use Rattle.frame_terms.specs.declared.document.Taken.{Taken}
 use Rattle.frame_terms.specs.declared.keyword.Keyword.{Keyword}
 use Rattle.frame_terms.specs.declared.row.Row.{Row}
-use Rattle.frame_laws.proofs.Both.{both}
+use Rattle.frame_laws.proofs.Both.{both_hold}
 use Rattle.frame_laws.proofs.Entries.{AlwaysSuits, Entry, after_one, all_taken, taken_at}
 use Rattle.frame_laws.proofs.MoreRows.{AreInTable, NoneStand}
 use Rattle.frame_laws.proofs.Places.{after_all}
 use Rattle.frame_laws.proofs.ReadRows.{Each, IsRead, IsTaken, Stand, both_stand, none_at, none_of_rows}
 use Rattle.frame_laws.proofs.Reading.{AreMore}
 use Rattle.frame_laws.proofs.SaidRows.{AreCounted, RowSays, entries_of, items_at, lack, rows_of}
-use Rattle.frame_laws.proofs.Steps.{IsInTable, IsNew, one_more}
+use Rattle.frame_laws.proofs.Steps.{IsInTable, IsNew, later_item_is_pushed}
 
 module _ {K : Type 0} where
   -- none of these keywords is one of those rows
@@ -32,7 +32,7 @@ module _ {S K V X : Type 0} where
       → AreInTable tables section (front ++ back) → AreInTable tables section front
   in_table_front tables section [] back are = tt
   in_table_front tables section (says ∷ front) back are =
-      both are.0 (in_table_front tables section front back are.1)
+      both_hold are.0 (in_table_front tables section front back are.1)
 
   pub in_table_back : (tables : Tables S K V X) (section : S) (front back : List (RowSays K V))
       → AreInTable tables section (front ++ back) → AreInTable tables section back
@@ -47,7 +47,7 @@ module _ {K V : Type 0} where
   none_of_both a b [] first second = tt
   none_of_both a b (says ∷ rows) first second =
       let k = says.row.keyword in
-      both (list_any-append (λ (one : Taken V). same one.keyword k) a b ∙ or_from (stands k a) (stands k b) first.0 second.0)
+      both_hold (list_any-append (λ (one : Taken V). same one.keyword k) a b ∙ or_from (stands k a) (stands k b) first.0 second.0)
       (none_of_both a b rows first.1 second.1)
 
   -- none of other rows stands among the items of rows
@@ -56,7 +56,7 @@ module _ {K V : Type 0} where
   none_of_others place [] others counted apart = tt
   none_of_others place (says ∷ rows) others counted apart =
       let parts = and_parts (lack says.row.keyword (rows_of others)) (each_lacks (rows_of rows) (rows_of others)) apart in
-      both (none_of_rows says.row.keyword place others counted parts.0)
+      both_hold (none_of_rows says.row.keyword place others counted parts.0)
       (none_of_others place rows others counted parts.1)
 
 -- ---- items of several rows, each for a value
@@ -80,7 +80,7 @@ module _ {A K V : Type 0} (entry : A → Entry V) (kinds : List (Row K)) where
   none_of_mixed place [] values of apart = tt
   none_of_mixed place (says ∷ rows) values of apart =
       let parts = and_parts (lack says.row.keyword kinds) (each_lacks (rows_of rows) kinds) apart in
-      both (stands_not says.row.keyword place values (of says.row.keyword parts.0))
+      both_hold (stands_not says.row.keyword place values (of says.row.keyword parts.0))
       (none_of_mixed place rows values of parts.1)
 
 module _ {A S K V X : Type 0} (tables : Tables S K V X) (section : S) (row : A → Row K) (entry : A → Entry V)
@@ -94,7 +94,7 @@ module _ {A S K V X : Type 0} (tables : Tables S K V X) (section : S) (row : A �
   mixed_more first taken place (a ∷ values) are =
       let new : IsNew (row a) (first ∷ taken) =
       ap (λ (t : Bool). not t && stands (row a).keyword (first ∷ taken)) (many a) in
-      both (λ (across : X). one_more tables across section first taken None place (entry a) (row a) (table a) tt new
+      both_hold (λ (across : X). later_item_is_pushed tables across section first taken None place (entry a) (row a) (table a) tt new
       (suits a (All-head P a values are) across place))
       (mixed_more first (taken ++ taken_at place (entry a) ∷ []) (after_one place (entry a)) values
       (All-tail P a values are))
@@ -110,7 +110,7 @@ module _ {K V : Type 0} where
   taken_among before taken after place (says ∷ rows) each front back =
       let k = says.row.keyword in
       let test : Taken V → Bool = λ one. same one.keyword k in
-      both (filter-append test before (taken ++ after)
+      both_hold (filter-append test before (taken ++ after)
       ∙ ap (λ (l : List (Taken V)). l ++ items_at (taken ++ after) k) (none_at k before front.0)
       ∙ filter-append test taken after
       ∙ ap (λ (l : List (Taken V)). items_at taken k ++ l) (none_at k after back.0)
@@ -124,7 +124,7 @@ module _ {K V : Type 0} where
   each_stands limit bytes taken place [] each stand = tt
   each_stands limit bytes taken place (says ∷ rows) each stand =
       let parts = both_stand limit bytes place says.entries (entries_of rows) stand in
-      both (record { items = each.0; stand = parts.front })
+      both_hold (record { items = each.0; stand = parts.front })
       (each_stands limit bytes taken (after_all place says.entries) rows each.1 parts.back)
 
 module _ {V : Type 0} where

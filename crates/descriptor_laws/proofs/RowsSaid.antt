@@ -28,7 +28,7 @@ use Rattle.frame_values.specs.Ranges.{AreTwenty}
 use Rattle.frame_values.specs.Signatures.{object_of}
 use Rattle.frame_values.specs.declared.found.Span.{Span}
 use Rattle.frame_values.specs.declared.values.Value.TheVariants as value
-use Rattle.frame_laws.proofs.Both.{both}
+use Rattle.frame_laws.proofs.Both.{both_hold}
 use Rattle.frame_laws.proofs.Entries.{AlwaysSuits, item_of}
 use Rattle.frame_laws.proofs.ManyRows.{said_of_each}
 use Rattle.frame_laws.proofs.RowCounts.{said_once}
@@ -85,7 +85,7 @@ said_maybe row entry P None optional is suits_ = record {
   suits = tt;
 }
 said_maybe row entry P (Some a) optional is suits_ =
-    record { some = λ i. omega arith; few = λ i. omega arith; suits = both (suits_ a is) tt }
+    record { some = λ i. omega arith; few = λ i. omega arith; suits = both_hold (suits_ a is) tt }
 
 -- any value or none
 said_any : {A : Type 0} (row : Row DescriptorKind) (entry : A → Written) (value : Option A)
@@ -261,24 +261,24 @@ said_ed_signature signature are =
 
 pub front_said : (d : Descriptor) → SaysInRange d → AreSaid descriptor_tables (front_rows d)
 front_said d are =
-    both (said_certificate d.identity_ed25519 are.identity_ed25519)
-    (both (said_key the.MasterKeyEd25519 d.master_key_ed25519 are.master_key_ed25519)
-    (both (said_rest the.Platform d.platform)
-    (both (said_published d.published)
-    (both (said_identity d.fingerprint are.fingerprint)
-    (both (said_uptime d.uptime are.uptime)
-    (both (said_bandwidth d.bandwidth are.bandwidth)
-    (both (said_hibernating d.hibernating)
-    (both (said_onion d.onion_key)
-    (both (said_signing d.signing_key)
-    (both (said_padded the.NtorOnionKey d.ntor_onion_key are.ntor_onion_key) tt))))))))))
+    both_hold (said_certificate d.identity_ed25519 are.identity_ed25519)
+    (both_hold (said_key the.MasterKeyEd25519 d.master_key_ed25519 are.master_key_ed25519)
+    (both_hold (said_rest the.Platform d.platform)
+    (both_hold (said_published d.published)
+    (both_hold (said_identity d.fingerprint are.fingerprint)
+    (both_hold (said_uptime d.uptime are.uptime)
+    (both_hold (said_bandwidth d.bandwidth are.bandwidth)
+    (both_hold (said_hibernating d.hibernating)
+    (both_hold (said_onion d.onion_key)
+    (both_hold (said_signing d.signing_key)
+    (both_hold (said_padded the.NtorOnionKey d.ntor_onion_key are.ntor_onion_key) tt))))))))))
 
 pub back_said : (d : Descriptor) → SaysInRange d → AreSaid descriptor_tables (back_rows d)
 back_said d are =
-    both (said_ports d.ipv6_policy are.ipv6_policy)
-    (both (said_family d.family)
-    (both (said_addresses d.or_addresses are.or_addresses)
-    (both (said_mark d.tunnelled_dir_server)
-    (both (said_rest the.Proto d.proto)
-    (both (said_rest the.Contact d.contact)
-    (both (said_ed_signature d.router_sig_ed25519 are.router_sig_ed25519) tt))))))
+    both_hold (said_ports d.ipv6_policy are.ipv6_policy)
+    (both_hold (said_family d.family)
+    (both_hold (said_addresses d.or_addresses are.or_addresses)
+    (both_hold (said_mark d.tunnelled_dir_server)
+    (both_hold (said_rest the.Proto d.proto)
+    (both_hold (said_rest the.Contact d.contact)
+    (both_hold (said_ed_signature d.router_sig_ed25519 are.router_sig_ed25519) tt))))))

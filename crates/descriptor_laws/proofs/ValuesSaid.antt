@@ -28,7 +28,7 @@ use Rattle.frame_values.specs.Fields.{span}
 use Rattle.frame_values.specs.Parts.{bytes_in, part}
 use Rattle.frame_values.specs.Values.{item_at, text_if, text_of_value}
 use Rattle.frame_values.specs.declared.found.Span.{Span}
-use Rattle.frame_laws.proofs.Both.{both}
+use Rattle.frame_laws.proofs.Both.{both_hold}
 use Rattle.frame_laws.proofs.Entries.{after_one, all_taken, taken_at}
 use Rattle.frame_laws.proofs.Places.{after_all, all_taken-append}
 use Rattle.frame_laws.proofs.ReadRows.{IsRead, Stand, item_of_row}
@@ -210,19 +210,19 @@ quiet_rows place (says ∷ rows) are =
 pub quiet_if : {A : Type 0} (entry : A → Written) (value : Option A)
     → ((a : A) (p : ℕ) → policy_of_value ((entry a).value p) ≡ None) → AreQuiet (entries_if entry value)
 quiet_if entry None is = tt
-quiet_if entry (Some a) is = both (is a) tt
+quiet_if entry (Some a) is = both_hold (is a) tt
 
 pub quiet_text : (keyword : Keyword) (text : Option (List ℕ)) → AreQuiet (text_entry_if keyword text)
 quiet_text keyword None = tt
-quiet_text keyword (Some text) = both (λ p. refl) tt
+quiet_text keyword (Some text) = both_hold (λ p. refl) tt
 
 pub quiet_mark : (holds : Bool) → AreQuiet (marks_if holds)
-quiet_mark true = both (λ p. refl) tt
+quiet_mark true = both_hold (λ p. refl) tt
 quiet_mark false = tt
 
 pub quiet_each : (keyword : Keyword) (texts : List (List ℕ)) → AreQuiet (map (text_entry keyword) texts)
 quiet_each keyword [] = tt
-quiet_each keyword (text ∷ texts) = both (λ p. refl) (quiet_each keyword texts)
+quiet_each keyword (text ∷ texts) = both_hold (λ p. refl) (quiet_each keyword texts)
 
 -- no more bits count than an address has
 net_bits : (item : PolicyItem) → IsItemInRange item → is_net item.net ≡ true

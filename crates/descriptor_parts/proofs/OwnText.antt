@@ -6,7 +6,7 @@ use Rattle.std.specs.Prelude.{map, option_map}
 use Rattle.item_terms.specs.Items.{Contents, Item, Object, items_of, nothing}
 use Rattle.item_terms.specs.Lines.{Line, lines}
 use Rattle.frame_terms.specs.Documents.{document_of}
-use Rattle.grammar_laws.specs.Moved.{Reads, moved, moved_object, sizes}
+use Rattle.grammar_laws.specs.Moved.{Reads, moved_item, moved_object, sizes}
 use Rattle.grammar_laws.proofs.LastLines.{cut_lines}
 use Rattle.grammar_laws.proofs.LinesTogether.{AllEnded, sizes_all}
 use Rattle.grammar_laws.proofs.MovedLines.{reads_moved}
@@ -27,7 +27,7 @@ object_stays : (object : Option Object) → option_map (moved_object 0) object �
 object_stays None = refl
 object_stays (Some object) = λ i. Some (record { words = object.words; start = stays object.start i; text = object.text })
 
-item_stays : (item : Item) → moved 0 item ≡ item
+item_stays : (item : Item) → moved_item 0 item ≡ item
 item_stays item =
     λ i. record {
       keyword = item.keyword;
@@ -40,7 +40,7 @@ item_stays item =
       after = stays item.after i;
     }
 
-items_stay : (items : List Item) → map (moved 0) items ≡ items
+items_stay : (items : List Item) → map (moved_item 0) items ≡ items
 items_stay [] = refl
 items_stay (item ∷ items) = λ i. item_stays item i ∷ items_stay items i
 
@@ -94,8 +94,8 @@ module _ (limit : ℕ) (small : limit ≤ max_descriptor) (rest : List ℕ) (tak
       let enough : 0 + 0 + sizes (lines text) ≤ 65536 = omega (arith, fits, small) in
       let moved_ =
       reads_moved (0 + limit) 65536 0 0 nothing (lines text) own_items nothing reads enough in
-      let here : items_of max_descriptor text ≡ record { items = map (moved 0) own_items; fault = None } =
-      hold 65536 0 (lines text) (map (moved 0) own_items) moved_ in
+      let here : items_of max_descriptor text ≡ record { items = map (moved_item 0) own_items; fault = None } =
+      hold 65536 0 (lines text) (map (moved_item 0) own_items) moved_ in
       here ∙ ap (λ (l : List Item). record { items = l; fault = None }) (items_stay own_items)
       ∙ sym (hold (0 + limit) 0 (lines text) own_items reads)
 

@@ -37,9 +37,9 @@ behind_two bytes i =
     drop-drop 2 (2 * i) bytes ∙ ap (λ (n : ℕ). drop n bytes) more
 
 -- what is left to write before a group is written
-pub one_more : (bytes : List ℕ) (i : ℕ) → i < 10
+pub one_more_group_behind : (bytes : List ℕ) (i : ℕ) → i < 10
     → groups_behind bytes i ≡ 32 ∷ (hex_text (slice_range bytes (2 * i) (2 * i + 2)) ++ groups_behind bytes (i + 1))
-one_more bytes i lt =
+one_more_group_behind bytes i lt =
     let more : 10 - i ≡ suc (10 - (i + 1)) = omega arith in
     ap (λ (n : ℕ). after_text (map hex_text (groups_from n (drop (2 * i) bytes)))) more
     ∙ ap (λ (l : List (List ℕ)). after_text (map hex_text l)) (groups_from-next (10 - (i + 1)) (drop (2 * i) bytes))

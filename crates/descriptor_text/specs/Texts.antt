@@ -10,7 +10,7 @@ use Rattle.dirdoc_grammar.specs.Writing.{NewItem, items_text}
 use Rattle.descriptor_frame.specs.declared.certificate.EdCert.{EdCert}
 use Rattle.frame_terms.specs.declared.keyword.Keyword.{Keyword}
 use Rattle.frame_terms.specs.declared.keyword.Keyword.TheVariants as the
-use Rattle.frame_values.specs.Items.{bare, with_object, item_if, timed}
+use Rattle.frame_values.specs.Items.{bare, with_object, item_if, moment_item}
 use Rattle.exit_summary.specs.Texts.{item_text}
 use Rattle.descriptor_doc.specs.declared.descriptor.Descriptor.{Descriptor}
 use Rattle.descriptor_text.specs.Lines.{bandwidth_text, ed_signature_text, family_text, groups_text}
@@ -41,7 +41,7 @@ name_items d =
 -- what it runs on, when the descriptor was made, and its RSA identity
 abbrev pub origin_items : Descriptor → List NewItem
 origin_items d =
-    item_if the.Platform d.platform ++ timed the.Published d.published
+    item_if the.Platform d.platform ++ moment_item the.Published d.published
     ∷ item_if the.Fingerprint (option_map groups_text d.fingerprint)
 
 -- for how long it runs, what it can carry, and whether it rests

@@ -6,7 +6,7 @@ use Rattle.item_terms.specs.Bytes.{space}
 use Rattle.dir_bytes.specs.FieldTexts.{hex_text}
 use Rattle.dirdoc_grammar.specs.Writing.{NewItem, items_text}
 use Rattle.frame_terms.specs.declared.keyword.Keyword.TheVariants as the
-use Rattle.frame_values.specs.Items.{bare, timed, with_object}
+use Rattle.frame_values.specs.Items.{bare, moment_item, with_object}
 use Rattle.consensus_terms.specs.Signed.{signature_item}
 use Rattle.consensus_terms.specs.declared.signature.SignatureLine.{SignatureLine}
 use Rattle.detached_doc.specs.declared.detached.AdditionalDigest.{AdditionalDigest}
@@ -45,9 +45,9 @@ plain_if (Some flavour) line = []
 abbrev pub head_items : Detached → List NewItem
 head_items d =
     bare the.ConsensusDigest (hex_text d.ns.0)
-    ∷ timed the.ValidAfter d.valid_after
-    ∷ timed the.FreshUntil d.fresh_until
-    ∷ timed the.ValidUntil d.valid_until
+    ∷ moment_item the.ValidAfter d.valid_after
+    ∷ moment_item the.FreshUntil d.fresh_until
+    ∷ moment_item the.ValidUntil d.valid_until
     ∷ []
 
 -- those of signatures over other flavours, in this order

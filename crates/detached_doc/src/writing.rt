@@ -4,8 +4,8 @@ ghost use Rattle.std.specs.List.{flat_map};
 ghost use Rattle.dir_bytes.specs.FieldTexts.{hex_text};
 ghost use Rattle.dirdoc_grammar.specs.Writing.{item_text};
 ghost use Rattle.consensus_terms.specs.Signed.{signature_item};
-ghost use Rattle.frame_values.specs.Items.{bare, timed};
-ghost use Rattle.text_page.specs.Pages.{counted, with_text};
+ghost use Rattle.frame_values.specs.Items.{bare, moment_item};
+ghost use Rattle.text_page.specs.Pages.{counted_length, with_text};
 ghost use Rattle.detached_doc.specs.Private as own;
 ghost use Rattle.detached_doc.specs.Texts as texts;
 
@@ -32,7 +32,7 @@ fn put_hex_line(page: &mut Page, keyword: Keyword, digest: &[u8; 20])
 
 /// Puts the line of a moment; one past the calendar is written as its last one.
 fn put_moment_line(page: &mut Page, keyword: Keyword, number: u64)
-    ensures { page.new ≡ with_text page.old (item_text (timed keyword number)) }
+    ensures { page.new ≡ with_text page.old (item_text (moment_item keyword number)) }
 {
     page.put(keyword.text());
     page.put(b" ");
@@ -187,7 +187,7 @@ fn put_detached(page: &mut Page, detached: &Detached, lines: &[DetachedLine])
 /// How many bytes the text has with these lines in this order.
 #[tactic(auto, using(text_page::proofs::Pages::whole))]
 fn count(detached: &Detached, lines: &[DetachedLine]) -> Option<usize>
-    ensures { result ≡ counted (own.parts detached.now lines.now) }
+    ensures { result ≡ counted_length (own.parts detached.now lines.now) }
 {
     let mut page = Page::counting();
     put_detached(&mut page, detached, lines);

@@ -1,6 +1,6 @@
 // The frame of detached signatures: the table of their items.
 ghost use Rattle.std.specs.Prelude.{◌≡◌};
-ghost use Rattle.dirdoc_grammar.specs.Seen.{seen, IsInside};
+ghost use Rattle.dirdoc_grammar.specs.Seen.{seen_item, IsInside};
 ghost use Rattle.detached_frame.specs.Tables as tables;
 
 use crate::lines::{additional_digest_of, additional_signature_of, digest_of};
@@ -42,7 +42,7 @@ const ROWS: [Row<DetachedKind>; 7] = [
 /// The place of what is wrong.
 fn value_of(kind: DetachedKind, item: &Item<'_>) -> Result<Value<DetachedValue>, u64>
     requires { IsInside item.now }
-    ensures { result ≡ tables.value_at kind (seen item.now) }
+    ensures { result ≡ tables.value_at kind (seen_item item.now) }
 {
     match kind {
         DetachedKind::Digest => Ok(Value::Own(DetachedValue::Digest(digest_of(item)?))),

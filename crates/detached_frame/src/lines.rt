@@ -1,7 +1,7 @@
 // What the lines of detached signatures say.
 ghost use Rattle.std.specs.Prelude.{◌≡◌, ◌<◌, ◌+◌, ◌^◌, length};
 ghost use Rattle.dir_values.specs.Taking.{argument_of};
-ghost use Rattle.dirdoc_grammar.specs.Seen.{seen, IsInside};
+ghost use Rattle.dirdoc_grammar.specs.Seen.{seen_item, IsInside};
 ghost use Rattle.detached_frame.specs.Lines as lines;
 
 use crate::said::{AdditionalDigestLine, AdditionalSignatureLine};
@@ -15,7 +15,7 @@ use frame_values::{
 /// The digest of a consensus, as 40 hex digits.
 pub(crate) fn digest_of(item: &Item<'_>) -> Result<Digest1, u64>
     requires { IsInside item.now }
-    ensures { result ≡ lines.digest_of (seen item.now) }
+    ensures { result ≡ lines.digest_of (seen_item item.now) }
 {
     let first = take_argument(&mut arguments_of(item), item.place);
     field(&first, key_digest(first.text))
@@ -36,7 +36,7 @@ fn hex(argument: &Argument<'_>) -> Option<Span>
 /// The digest of another flavour's consensus.
 pub(crate) fn additional_digest_of(item: &Item<'_>) -> Result<AdditionalDigestLine, u64>
     requires { IsInside item.now }
-    ensures { result ≡ lines.additional_digest_of (seen item.now) }
+    ensures { result ≡ lines.additional_digest_of (seen_item item.now) }
 {
     let mut arguments = arguments_of(item);
     let first = take_argument(&mut arguments, item.place);
@@ -55,7 +55,7 @@ pub(crate) fn additional_digest_of(item: &Item<'_>) -> Result<AdditionalDigestLi
 /// A signature over another flavour's consensus.
 pub(crate) fn additional_signature_of(item: &Item<'_>) -> Result<AdditionalSignatureLine, u64>
     requires { IsInside item.now }
-    ensures { result ≡ lines.additional_signature_of (seen item.now) }
+    ensures { result ≡ lines.additional_signature_of (seen_item item.now) }
 {
     let mut arguments = arguments_of(item);
     let first = take_argument(&mut arguments, item.place);

@@ -14,7 +14,7 @@ use Rattle.frame_terms.specs.declared.keyword.Keyword.{Keyword}
 use Rattle.frame_terms.specs.declared.keyword.Keyword.TheVariants as the
 use Rattle.frame_values.specs.Parts.{moment_of}
 use Rattle.frame_values.specs.declared.values.Value.{Value}
-use Rattle.frame_laws.proofs.Both.{as_ok, both}
+use Rattle.frame_laws.proofs.Both.{as_ok, both_hold}
 use Rattle.consensus_laws.specs.Again.{is_known}
 use Rattle.detached_frame.specs.Tables.{detached_tables}
 use Rattle.detached_frame.specs.declared.said.DetachedKind.{DetachedKind}
@@ -240,13 +240,13 @@ one k s may = All-cons (MayWrite k) s [] may (All-nil (MayWrite k))
 spoken_so : (d : Detached) → IsInRange d → AreSpoken MayWrite (rows_of d)
 spoken_so d are =
     let each = each_in_order IsLineInRange d.signatures are.signatures in
-    both (record { count = refl; each = one kind.Digest (digest d.ns) are.ns })
-    (both (record { count = refl; each = one kind.Time (moment d.valid_after) are.valid_after })
-    (both (record { count = refl; each = one kind.Time (moment d.fresh_until) are.fresh_until })
-    (both (record { count = refl; each = one kind.Time (moment d.valid_until) are.valid_until })
-    (both (record { count = tt; each = digests_may d.additional are.additional })
-    (both (record { count = tt; each = over_may (in_order d.signatures) each })
-    (both (record { count = tt; each = signed_may (in_order d.signatures) each }) tt))))))
+    both_hold (record { count = refl; each = one kind.Digest (digest d.ns) are.ns })
+    (both_hold (record { count = refl; each = one kind.Time (moment d.valid_after) are.valid_after })
+    (both_hold (record { count = refl; each = one kind.Time (moment d.fresh_until) are.fresh_until })
+    (both_hold (record { count = refl; each = one kind.Time (moment d.valid_until) are.valid_until })
+    (both_hold (record { count = tt; each = digests_may d.additional are.additional })
+    (both_hold (record { count = tt; each = over_may (in_order d.signatures) each })
+    (both_hold (record { count = tt; each = signed_may (in_order d.signatures) each }) tt))))))
 
 -- ---- the laws
 

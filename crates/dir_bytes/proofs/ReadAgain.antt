@@ -22,7 +22,7 @@ use Rattle.base64.specs.GeneralPurpose.{IsBytes}
 use Rattle.base64.proofs.EngineFacts.{decode_of-encode_of}
 use Rattle.jiff_core.proofs.CalendarLemmas.{days_in_month_bounds}
 use Rattle.dir_bytes.specs.Causes.{last_moment}
-use Rattle.dir_bytes.specs.Fields.{number, signed, date, time_of_day, moment, hex, base64, address, address_of, is_dot}
+use Rattle.dir_bytes.specs.Fields.{number, signed_number, date, time_of_day, moment, hex, base64, address, address_of, is_dot}
 use Rattle.dir_bytes.specs.FieldTexts.{date_of, two_digits, date_text, clock_text, hex_text, base64_text, address_text}
 use Rattle.dir_bytes.proofs.Calendars.{day_of-real}
 use Rattle.dir_bytes.proofs.Days.{date_of_is}
@@ -50,8 +50,8 @@ no_minus n fits =
     let first = digit_at (decimal n) 0 is.0.1 is.0.0 in
     ne_eqb (get_or (decimal n) 0 0) 45 (λ e. omega (arith, first, e))
 
-pub signed-signed_decimal : (z : ℤ) → FitsSigned w32 z → signed (signed_decimal z) ≡ Some z
-unfolding signed
+pub signed-signed_decimal : (z : ℤ) → FitsSigned w32 z → signed_number (signed_decimal z) ≡ Some z
+unfolding signed_number
 signed-signed_decimal (pos n) fits =
     let small : n < 2147483648 = omega (arith, ints, fits) in
     rw (no_minus n (omega arith)) (ap (option_map pos) (number-decimal 2147483647 n (omega arith) (omega arith)))

@@ -25,8 +25,8 @@ unfoldable pub number : ℕ → List ℕ → Option ℕ
 number limit text = if is_numeral text && nat_le (digits_value 10 text) limit then Some (digits_value 10 text) else None
 
 -- a number from -2147483648 to 2147483647: digits, or `-` and digits
-unfoldable pub signed : List ℕ → Option ℤ
-signed text =
+unfoldable pub signed_number : List ℕ → Option ℤ
+signed_number text =
     if starts_with_minus text then option_map (λ n. neg_ℤ (pos n)) (number 2147483648 (drop 1 text))
     else option_map pos (number 2147483647 text)
 

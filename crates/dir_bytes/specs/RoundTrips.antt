@@ -4,7 +4,7 @@ use Rattle.std.specs.Fmt.{decimal, signed_decimal}
 use Rattle.std.specs.Int.{w32}
 use Rattle.base64.specs.GeneralPurpose.{IsBytes}
 use Rattle.dir_bytes.specs.Causes.{last_moment}
-use Rattle.dir_bytes.specs.Fields.{number, signed, date, time_of_day, moment, hex, base64, address}
+use Rattle.dir_bytes.specs.Fields.{number, signed_number, date, time_of_day, moment, hex, base64, address}
 use Rattle.dir_bytes.specs.FieldTexts.{date_text, clock_text, hex_text, base64_text, address_text}
 
 -- the digits of a number are read as that number
@@ -13,7 +13,7 @@ NumberIsReadAgain = (limit n : ℕ) → n ≤ limit → n < 2 ^ 64 → number li
 
 -- and so with a sign
 abbrev pub SignedIsReadAgain : Type 0
-SignedIsReadAgain = (z : ℤ) → FitsSigned w32 z → signed (signed_decimal z) ≡ Some z
+SignedIsReadAgain = (z : ℤ) → FitsSigned w32 z → signed_number (signed_decimal z) ≡ Some z
 
 -- a day, up to 9999-12-31
 abbrev pub DateIsReadAgain : Type 0

@@ -62,9 +62,9 @@ pub fn read_u64(text: &[u8]) -> Result<u64, BadField>
 
 /// The number that the text spells in decimal digits, with a `-` before a negative one. `BadField` where it has another
 /// form or does not fit.
-#[tactic(auto, unfolding(crate::specs::Fields::signed))]
+#[tactic(auto, unfolding(crate::specs::Fields::signed_number))]
 pub fn read_i32(text: &[u8]) -> Result<i32, BadField>
-    ensures { result ≡ fields.or_bad (fields.signed text.now) }
+    ensures { result ≡ fields.or_bad (fields.signed_number text.now) }
 {
     if text.is_empty() || text[0] != b'-' {
         return match number_up_to(text, 2147483647) {

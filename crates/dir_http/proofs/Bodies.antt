@@ -57,9 +57,9 @@ source_comes head given count now (Some bytes) (Some left) piece sum within past
     ∙ ap (λ (e : List ℕ). piece ++ take (head.length - now) (e ++ left)) (sym gone_now)
 
 -- nothing is to come where the source has ended and what was read with the head was given
-pub ends : (head : Head) (given : ℕ) (left : Option (List ℕ)) → length head.early.items ≤ given → IsAtEnd left
+pub body_ends_with_source : (head : Head) (given : ℕ) (left : Option (List ℕ)) → length head.early.items ≤ given → IsAtEnd left
     → IsAtEnd (body_ahead given head left)
-ends head given None past end = tt
-ends head given (Some l) past end =
+body_ends_with_source head given None past end = tt
+body_ends_with_source head given (Some l) past end =
     ap (λ (e : List ℕ). take (head.length - given) (e ++ l)) (drop_all given head.early.items past)
     ∙ ap (λ (b : List ℕ). take (head.length - given) b) end ∙ take_all (head.length - given) [] (omega arith)

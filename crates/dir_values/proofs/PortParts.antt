@@ -68,12 +68,12 @@ abbrev pub more_after : List PortRange → List (List ℕ) → PortRange → Opt
 more_after before texts range = ranges_after (range.high + 2) (before ++ range ∷ []) texts
 
 -- a first part that spells a range, with more parts behind it
-pub one_more : (next : ℕ) (before : List PortRange) (text : List ℕ) (range : PortRange)
+pub one_more_range_spelled : (next : ℕ) (before : List PortRange) (text : List ℕ) (range : PortRange)
     → list_any is_comma text ≡ true
     → from_port next (range_of (before_first is_comma text)) ≡ Some range
     → ranges_after next before (slice_split is_comma text)
     ≡ ranges_after (range.high + 2) (before ++ range ∷ []) (slice_split is_comma (after_first is_comma text))
-one_more next before text range has spells =
+one_more_range_spelled next before text range has spells =
     let rest = slice_split is_comma (after_first is_comma text) in
     let parts : slice_split is_comma text ≡ before_first is_comma text ∷ rest =
     slice_split_first is_comma text 0 (found is_comma text has) in

@@ -85,18 +85,18 @@ range_ordered text range is =
 -- ---- the whole list
 
 -- ranges behind others, if they stand from a port on and are apart
-abbrev behind : ℕ → List PortRange → List PortRange → Option (List PortRange)
-behind next before ranges = if are_apart next ranges then Some (before ++ ranges) else None
+abbrev ranges_behind_others : ℕ → List PortRange → List PortRange → Option (List PortRange)
+ranges_behind_others next before ranges = if are_apart next ranges then Some (before ++ ranges) else None
 
 -- the same of those that come later than a range
 abbrev behind_range : List PortRange → Option (List PortRange) → PortRange → Option (List PortRange)
-behind_range before later range = option_and_then (behind (range.high + 2) (before ++ range ∷ [])) later
+behind_range before later range = option_and_then (ranges_behind_others (range.high + 2) (before ++ range ∷ [])) later
 
 -- a range in front of those that come later
 one_first : (next : ℕ) (before : List PortRange) (range : PortRange) (later : Option (List PortRange))
     → IsOrdered range
     → option_and_then (behind_range before later) (from_port next (Some range))
-    ≡ option_and_then (behind next before) (option_map (λ ranges. range ∷ ranges) later)
+    ≡ option_and_then (ranges_behind_others next before) (option_map (λ ranges. range ∷ ranges) later)
 one_first next before range None is =
     elim (nat_le next range.low)
     as (λ b. option_and_then (behind_range before None) (if b then Some range else None) ≡ None) [
@@ -122,16 +122,16 @@ one_first next before range (Some ranges) is =
 
 -- the ranges that texts spell one after the other are those that each of them spells, if they are apart
 after_all : (next : ℕ) (before : List PortRange) (texts : List (List ℕ))
-    → ranges_after next before texts ≡ option_and_then (behind next before) (all_of (map range_of texts))
+    → ranges_after next before texts ≡ option_and_then (ranges_behind_others next before) (all_of (map range_of texts))
 after_all next before [] = ap (λ (l : List PortRange). Some l) (sym (append-nil before))
 after_all next before (text ∷ texts) =
     let each = all_of (map range_of texts) in
     let by : (o : Option PortRange) → range_of text ≡ o
     → option_and_then (more_after before texts) (from_port next o)
-    ≡ option_and_then (behind next before) (all_of (o ∷ map range_of texts)) =
+    ≡ option_and_then (ranges_behind_others next before) (all_of (o ∷ map range_of texts)) =
     λ o. elim o as (λ o. range_of text ≡ o
     → option_and_then (more_after before texts) (from_port next o)
-    ≡ option_and_then (behind next before) (all_of (o ∷ map range_of texts))) [
+    ≡ option_and_then (ranges_behind_others next before) (all_of (o ∷ map range_of texts))) [
       | None ↦ λ is. refl
       | Some range ↦ λ is.
           let later = after_all (range.high + 2) (before ++ range ∷ []) texts in

@@ -88,12 +88,12 @@ port_again n one last =
     read ∙ ap (λ (b : Bool). if b then None else Some n) other
 
 -- the first byte that passes stands behind those that do not
-behind : (p : ℕ → Bool) (xs ys : List ℕ) (y : ℕ) → All (λ b. p b ≡ false) xs → p y ≡ true
+position_of_first_passing : (p : ℕ → Bool) (xs ys : List ℕ) (y : ℕ) → All (λ b. p b ≡ false) xs → p y ≡ true
     → position_or_len p (xs ++ y ∷ ys) ≡ length xs
-behind p [] ys y lacks is = rw is refl
-behind p (x ∷ xs) ys y lacks is =
+position_of_first_passing p [] ys y lacks is = rw is refl
+position_of_first_passing p (x ∷ xs) ys y lacks is =
     let other : p x ≡ false = All-head (λ b. p b ≡ false) x xs lacks in
-    let rest = behind p xs ys y (All-tail (λ b. p b ≡ false) x xs lacks) is in
+    let rest = position_of_first_passing p xs ys y (All-tail (λ b. p b ≡ false) x xs lacks) is in
     rw other (omega (arith, rest))
 
 -- and what stands behind it is what follows
@@ -133,7 +133,7 @@ range_again range is =
     let some : list_any is_hyphen both ≡ true =
     has_one is_hyphen (decimal range.low) (decimal range.high) hyphen refl in
     let place : position_or_len is_hyphen both ≡ length (decimal range.low) =
-    behind is_hyphen (decimal range.low) (decimal range.high) hyphen low refl in
+    position_of_first_passing is_hyphen (decimal range.low) (decimal range.high) hyphen low refl in
     let front : before_first is_hyphen both ≡ decimal range.low =
     ap (λ (n : ℕ). take n both) place
     ∙ take_at (decimal range.low) (hyphen ∷ decimal range.high) (length (decimal range.low)) refl in

@@ -9,7 +9,7 @@ use Rattle.base64.specs.Tables.{all_below}
 use Rattle.base64.proofs.Tables.{all_below_at}
 use Rattle.base64.proofs.EngineFacts.{encode_of-nil, encode_of-append}
 use Rattle.dirdoc_grammar.specs.declared.base64_text.Group.TheVariants.{Start, One, Two, Three, PaddedOnce, Closed}
-use Rattle.dirdoc_grammar.specs.Groups.{symbol, may_grow, grown, may_end, goes_on}
+use Rattle.dirdoc_grammar.specs.Groups.{symbol, may_grow, grown_group, may_end, goes_on}
 
 -- ---- symbols and their values
 
@@ -228,7 +228,7 @@ accepted_is_encoding (c0 ∷ c1 ∷ []) fit h =
 accepted_is_encoding (c0 ∷ c1 ∷ c2 ∷ []) fit h =
     let first = and_parts (nat_le (symbol c0) 63) (goes_on One (c1 ∷ c2 ∷ [])) h in
     let second = and_parts (nat_le (symbol c1) 63) (goes_on (Two (symbol c1)) (c2 ∷ [])) first.1 in
-    let last = and_parts (may_grow (Two (symbol c1)) c2) (may_end (grown (Two (symbol c1)) c2)) second.1 in
+    let last = and_parts (may_grow (Two (symbol c1)) c2) (may_end (grown_group (Two (symbol c1)) c2)) second.1 in
     absurd (three_alone (c2 == 61) (symbol c2) last.1)
 accepted_is_encoding (c0 ∷ c1 ∷ c2 ∷ c3 ∷ rest) fit h =
     let first = and_parts (nat_le (symbol c0) 63) (goes_on One (c1 ∷ c2 ∷ c3 ∷ rest)) h in

@@ -8,7 +8,7 @@ use Rattle.base64.specs.declared.decode.DecodeAllocError.TheVariants.{DecodeErro
 use Rattle.base64.specs.GeneralPurpose.{IsBytes, IsDecodeFailure, decode_of, encode_of}
 use Rattle.base64.specs.Engines.{standard}
 use Rattle.base64.proofs.EngineFacts.{decode_of-encode_of, decode_of_strict, encode_of-nil}
-use Rattle.item_terms.specs.Base64Text.{is_inside, joined, is_base64}
+use Rattle.item_terms.specs.Base64Text.{is_inside, joined_text, is_base64}
 use Rattle.dirdoc_grammar.specs.declared.base64_text.Group.TheVariants.{Start, One, Two, Three, PaddedOnce, Closed}
 use Rattle.dirdoc_grammar.specs.Groups.{symbol, goes_on}
 use Rattle.dirdoc_grammar.proofs.DecodedBytes.{decoded_is_bytes}
@@ -107,17 +107,17 @@ is_base64-decoded : (text : List ℕ) → is_ok (decoded text) ≡ is_base64 tex
 unfolding decoded is_base64
 is_base64-decoded text = refl
 
-joined_by : (inside : Bool) (b : ℕ) (text : List ℕ) → b < 256 → IsBytes (joined text) → IsBytes (cond inside (b ∷ joined text) (joined text))
-joined_by true b text h rest = bytes_cons b (joined text) h rest
+joined_by : (inside : Bool) (b : ℕ) (text : List ℕ) → b < 256 → IsBytes (joined_text text) → IsBytes (cond inside (b ∷ joined_text text) (joined_text text))
+joined_by true b text h rest = bytes_cons b (joined_text text) h rest
 joined_by false b text h rest = rest
 
-joined_bytes : (text : List ℕ) → IsBytes text → IsBytes (joined text)
+joined_bytes : (text : List ℕ) → IsBytes text → IsBytes (joined_text text)
 joined_bytes [] fit = bytes_nil
 joined_bytes (b ∷ text) fit = joined_by (is_inside b) b text (fit 0) (joined_bytes text (λ i. fit (suc i)))
 
-pub goes_on-joined : (text : List ℕ) → IsBytes text → goes_on Start (joined text) ≡ is_base64 (joined text)
+pub goes_on-joined : (text : List ℕ) → IsBytes text → goes_on Start (joined_text text) ≡ is_base64 (joined_text text)
 goes_on-joined text fit =
-    by_cases (joined text) (goes_on Start (joined text)) (decoded (joined text)) (joined_bytes text fit) refl refl ∙ is_base64-decoded (joined text)
+    by_cases (joined_text text) (goes_on Start (joined_text text)) (decoded (joined_text text)) (joined_bytes text fit) refl refl ∙ is_base64-decoded (joined_text text)
 
 by_failure : (text : List ℕ) (failure : DecodeAllocError) (fault : DecodeError) → is_ok (decode_of standard text) ≡ true → failure ≡ Failed fault → IsDecodeFailure standard text failure → ⊥
 by_failure text (Failed found) fault ok e failed = absurd (let wrong : is_ok (decode_of standard text) ≡ false = ap is_ok failed in cc)

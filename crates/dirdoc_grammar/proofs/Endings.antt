@@ -9,13 +9,13 @@ use Rattle.item_terms.specs.Lines.{Line, size}
 use Rattle.item_terms.specs.Words.{begins_dash, nul_in}
 use Rattle.item_terms.specs.Faults.{at, or_else, nul_fault, line_fault, object_line_fault, max_line, max_object}
 use Rattle.item_terms.specs.Items as model
-use Rattle.item_terms.specs.Items.{Open, nothing, keyword_line, object_lines, also, failed}
+use Rattle.item_terms.specs.Items.{Open, nothing, keyword_line, object_lines, also, failed_contents}
 use Rattle.dirdoc_grammar.specs.declared.item.Item.{Item}
 use Rattle.dirdoc_grammar.specs.declared.front.Phase.{Phase}
 use Rattle.dirdoc_grammar.specs.declared.front.Phase.TheVariants.{Between, Keyword, Object}
 use Rattle.dirdoc_grammar.specs.declared.front.Found.{Found}
 use Rattle.dirdoc_grammar.specs.declared.front.Found.TheVariants.{Whole, Fault, Open as More}
-use Rattle.dirdoc_grammar.specs.Seen.{seen}
+use Rattle.dirdoc_grammar.specs.Seen.{seen_item}
 use Rattle.dirdoc_grammar.specs.Reading.{first_line, from_place, IsOf, IsCut, Ends, Finds, LastOf, last_by, all_of}
 use Rattle.dirdoc_grammar.specs.Cursors.{IsOver}
 use Rattle.dirdoc_grammar.specs.Feeding.{first_of}
@@ -26,7 +26,7 @@ use Rattle.dirdoc_grammar.proofs.ObjectSteps.{object_fails}
 
 -- ---- where no more bytes follow
 
-pub cut_now : (limit line : ℕ) (open_ : Open) (bytes : List ℕ) → IsCut limit line open_ bytes → from_place limit line open_ bytes ≡ failed (at (length bytes) Unterminated)
+pub cut_now : (limit line : ℕ) (open_ : Open) (bytes : List ℕ) → IsCut limit line open_ bytes → from_place limit line open_ bytes ≡ failed_contents (at (length bytes) Unterminated)
 cut_now limit line nothing bytes cut = line_fails limit line bytes (at (length bytes) Unterminated) cut.inside cut.fault
 cut_now limit line (keyword_line item) bytes cut =
     begin_fails limit line bytes (at (length bytes) Unterminated) cut.inside (first_dash (drop line bytes) ∙ cut.object) cut.fault item
@@ -51,7 +51,7 @@ last_now limit place line bytes Keyword (object_lines item begin object) kind sa
 last_now limit place line bytes (Object b) nothing kind same end_ = absurd kind
 last_now limit place line bytes (Object b) (keyword_line item) kind same end_ = absurd kind
 last_now limit place line bytes (Object b) (object_lines item begin object) kind same (inl h) =
-    at_true limit place line (length bytes) bytes (Object b) h.0 (same ∙ ends limit line (object_lines item begin object) bytes (omega (arith, h.0)) ∙ ap (λ (n : ℕ). failed (at n Unterminated)) h.0)
+    at_true limit place line (length bytes) bytes (Object b) h.0 (same ∙ ends limit line (object_lines item begin object) bytes (omega (arith, h.0)) ∙ ap (λ (n : ℕ). failed_contents (at n Unterminated)) h.0)
 last_now limit place line bytes (Object b) (object_lines item begin object) kind same (inr cut) =
     at_false limit place line (length bytes) bytes (Object b) cut.inside (same ∙ cut_now limit line (object_lines item begin object) bytes cut)
 
@@ -60,8 +60,8 @@ item_now : (limit place line : ℕ) (bytes : List ℕ) (open_ : Open) (item : It
 item_now limit place line bytes open_ item some same h = (
   same
       ∙ ap (λ (o : Open). from_place limit line o bytes) h.1
-      ∙ ends limit line (keyword_line (seen item)) bytes (omega (arith, h.0))
-      ∙ ap (λ (c : model.Contents). also (Some (seen item)) c) (sym (ends limit item.after nothing bytes (omega (arith, h.0, h.2)))),
+      ∙ ends limit line (keyword_line (seen_item item)) bytes (omega (arith, h.0))
+      ∙ ap (λ (c : model.Contents). also (Some (seen_item item)) c) (sym (ends limit item.after nothing bytes (omega (arith, h.0, h.2)))),
   some,
   omega (arith, h.0, h.2),
 )
@@ -72,8 +72,8 @@ plain limit place line one other bytes e = subst (λ (l : List ℕ). from_place 
 -- what is found is what the bytes hold
 pub all_now : (limit place : ℕ) (bytes : List ℕ) (found : Found) → Finds limit place bytes found → LastOf limit place bytes (all_of (length bytes) found)
 all_now limit place bytes (Whole item) found =
-    (subst (λ (l : List ℕ). from_place limit place nothing l ≡ also (Some (seen item)) (from_place limit item.after nothing l)) (append-nil bytes) (found.0 []), found.1, found.2)
-all_now limit place bytes (Fault fault) found = subst (λ (l : List ℕ). from_place limit place nothing l ≡ failed fault) (append-nil bytes) (found [])
+    (subst (λ (l : List ℕ). from_place limit place nothing l ≡ also (Some (seen_item item)) (from_place limit item.after nothing l)) (append-nil bytes) (found.0 []), found.1, found.2)
+all_now limit place bytes (Fault fault) found = subst (λ (l : List ℕ). from_place limit place nothing l ≡ failed_contents fault) (append-nil bytes) (found [])
 all_now limit place bytes (More stop None) found =
     let waits = found.3 in
     last_now limit place stop.line bytes stop.phase waits.stands.open_ waits.stands.kind (plain limit place stop.line nothing waits.stands.open_ bytes (waits.stands.same [])) waits.ends
@@ -141,7 +141,7 @@ later_object limit begin place n line open_ lt =
 -- the bytes end before a line or within it, and one more byte follows
 pub record OneMore (limit line : ℕ) (open_ : Open) (bytes : List ℕ) : Type 0 where
   pub fault : DocFault
-  pub is : from_place limit line open_ (bytes ++ 45 ∷ []) ≡ failed fault
+  pub is : from_place limit line open_ (bytes ++ 45 ∷ []) ≡ failed_contents fault
   pub later : IsLater (length bytes) fault
 
 -- the line is in an object, if it follows a keyword line
@@ -158,16 +158,16 @@ longer line bytes le e =
     let all : List ℕ = bytes ++ 45 ∷ [] in
     omega (arith, le, unended_len (drop line all) (open_more line bytes le e), length-drop line all, length-append bytes (45 ∷ []))
 
-one_more : (limit line : ℕ) (open_ : Open) (bytes : List ℕ) → line ≤ length bytes → (first_line (drop line bytes)).ended ≡ false → Dashes open_ (drop line (bytes ++ 45 ∷ [])) → OneMore limit line open_ bytes
-one_more limit line nothing bytes le e dash =
+one_more_dash_is_a_fault : (limit line : ℕ) (open_ : Open) (bytes : List ℕ) → line ≤ length bytes → (first_line (drop line bytes)).ended ≡ false → Dashes open_ (drop line (bytes ++ 45 ∷ [])) → OneMore limit line open_ bytes
+one_more_dash_is_a_fault limit line nothing bytes le e dash =
     let all : List ℕ = bytes ++ 45 ∷ [] in
     let h = later_line limit line (length bytes) (first_line (drop line all)) (open_more line bytes le e) (longer line bytes le e) in
     record { fault = h.fault; is = line_fails limit line all h.fault (omega (arith, le, length-append bytes (45 ∷ []))) h.is; later = h.later }
-one_more limit line (keyword_line item) bytes le e dash =
+one_more_dash_is_a_fault limit line (keyword_line item) bytes le e dash =
     let all : List ℕ = bytes ++ 45 ∷ [] in
     let h = later_line limit line (length bytes) (first_line (drop line all)) (open_more line bytes le e) (longer line bytes le e) in
     record { fault = h.fault; is = begin_fails limit line all h.fault (omega (arith, le, length-append bytes (45 ∷ []))) dash h.is item; later = h.later }
-one_more limit line (object_lines item begin object) bytes le e dash =
+one_more_dash_is_a_fault limit line (object_lines item begin object) bytes le e dash =
     let all : List ℕ = bytes ++ 45 ∷ [] in
     let h = later_object limit begin line (length bytes) (first_line (drop line all)) (open_more line bytes le e) (longer line bytes le e) in
     record { fault = h.fault; is = object_fails limit begin line all item object h.fault (omega (arith, le, length-append bytes (45 ∷ []))) h.is; later = h.later }
@@ -196,7 +196,7 @@ empty_dash line (keyword_line item) bytes e = ap begins_dash (all_empty line byt
 empty_dash line (object_lines item begin object) bytes e = tt
 
 -- one answer for both can't be
-apart : (answer : Result (Option model.Item) DocFault) (now then_ : model.Contents) (n : ℕ) (fault : DocFault) → then_ ≡ failed fault → IsLater n fault
+apart : (answer : Result (Option model.Item) DocFault) (now then_ : model.Contents) (n : ℕ) (fault : DocFault) → then_ ≡ failed_contents fault → IsLater n fault
     → ((other : DocFault) → first_of now ≡ Err other → other ≡ at n Unterminated) → first_of now ≡ answer → first_of then_ ≡ answer → ⊥
 apart answer now then_ n fault is later only one two =
     let err : Err fault ≡ answer = sym (ap first_of is) ∙ two in
@@ -218,12 +218,12 @@ now_only limit line (keyword_line item) bytes (inl e) =
     only_item (from_place limit line (keyword_line item) bytes) item (length bytes) (ap first_of (ends limit line (keyword_line item) bytes (omega (arith, e))))
 now_only limit line (object_lines item begin object) bytes (inl e) =
     only_cut (from_place limit line (object_lines item begin object) bytes) (length bytes)
-    (ap first_of (ends limit line (object_lines item begin object) bytes (omega (arith, e)) ∙ ap (λ (n : ℕ). failed (at n Unterminated)) e))
+    (ap first_of (ends limit line (object_lines item begin object) bytes (omega (arith, e)) ∙ ap (λ (n : ℕ). failed_contents (at n Unterminated)) e))
 now_only limit line open_ bytes (inr cut) = only_cut (from_place limit line open_ bytes) (length bytes) (ap first_of (cut_now limit line open_ bytes cut))
 
 pub more_of : (limit line : ℕ) (open_ : Open) (bytes : List ℕ) → IsOver limit line open_ bytes → OneMore limit line open_ bytes
-more_of limit line open_ bytes (inl e) = one_more limit line open_ bytes (omega (arith, e)) (ends_empty line bytes e) (empty_dash line open_ bytes e)
-more_of limit line open_ bytes (inr cut) = one_more limit line open_ bytes (omega (arith, cut.inside)) (cut_open limit line open_ bytes cut) (cut_dash limit line open_ bytes cut)
+more_of limit line open_ bytes (inl e) = one_more_dash_is_a_fault limit line open_ bytes (omega (arith, e)) (ends_empty line bytes e) (empty_dash line open_ bytes e)
+more_of limit line open_ bytes (inr cut) = one_more_dash_is_a_fault limit line open_ bytes (omega (arith, cut.inside)) (cut_open limit line open_ bytes cut) (cut_dash limit line open_ bytes cut)
 
 pub over_of : (limit line : ℕ) (open_ : Open) (bytes : List ℕ) (last : Option Item) → Ends limit bytes line open_ last → IsOver limit line open_ bytes
 over_of limit line open_ bytes (Some item) h = inl h.0

@@ -8,7 +8,7 @@ use Rattle.std.proofs.lemmas.Bool.{lt-ltb, ltb-true}
 use Rattle.item_terms.specs.declared.fault.DocFault.{DocFault}
 use Rattle.item_terms.specs.Lines.{Line, lines, onto, size}
 use Rattle.item_terms.specs.Steps.{Item, Open, Step, step}
-use Rattle.item_terms.specs.Items.{contents, contents_of, also, proceed, failed, at_end}
+use Rattle.item_terms.specs.Items.{contents, contents_of, also, proceed, failed_contents, at_end}
 use Rattle.dirdoc_grammar.specs.Reading.{first_line_len, first_line, from_place}
 
 -- the first line of b and more, where it is known whether b is a NL
@@ -100,7 +100,7 @@ goes_on limit place so_far bytes text whole next inside line e =
 
 -- A step that fails.
 pub fails : (limit place : ℕ) (so_far : Open) (bytes : List ℕ) (fault : DocFault) → place < length bytes
-    → step limit place so_far (first_line (drop place bytes)) ≡ record { whole = None; next = Err fault } → from_place limit place so_far bytes ≡ failed fault
+    → step limit place so_far (first_line (drop place bytes)) ≡ record { whole = None; next = Err fault } → from_place limit place so_far bytes ≡ failed_contents fault
 fails limit place so_far bytes fault inside e = at_step limit place so_far bytes (record { whole = None; next = Err fault }) inside e
 
 pub ends : (limit place : ℕ) (so_far : Open) (bytes : List ℕ) → length bytes ≤ place → from_place limit place so_far bytes ≡ at_end place so_far

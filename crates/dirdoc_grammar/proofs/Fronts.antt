@@ -8,7 +8,7 @@ use Rattle.item_terms.specs.declared.fault.DocReason.TheVariants.{Nul, Untermina
 use Rattle.item_terms.specs.declared.fault.DocFault.{DocFault}
 use Rattle.item_terms.specs.Lines.{Line, size}
 use Rattle.item_terms.specs.Words.{nul_in}
-use Rattle.item_terms.specs.Faults.{at, or_else, too_long, unterminated, nul_fault, line_fault, object_line_fault, max_line, max_object}
+use Rattle.item_terms.specs.Faults.{at, or_else, too_long, unterminated_fault, nul_fault, line_fault, object_line_fault, max_line, max_object}
 use Rattle.dirdoc_grammar.specs.Reading.{first_line_len, first_line}
 use Rattle.dirdoc_grammar.proofs.FirstLine.{line_after, line_grows, with_byte}
 
@@ -128,7 +128,7 @@ fault_stays limit place line other fault (inr h) e sure =
     let m = min (limit - place) max_line in
     let far : DocFault = cond (nat_le (limit - place) max_line) (at limit DocumentTooLong) (at (place + max_line) LineTooLong) in
     let over : nat_le (size line) m ≡ true → ⊥ = λ fits. sure (unended_fault limit place line fault h.0 fits e) in
-    let rest : Line → Option DocFault = λ l. or_else (unterminated place l) (nul_fault place (nul_in l.text)) in
+    let rest : Line → Option DocFault = λ l. or_else (unterminated_fault place l) (nul_fault place (nul_in l.text)) in
     ap (λ (t : Option DocFault). or_else t (rest other)) (long_stays limit place (size line) (size other) h.1 over)
     ∙ by_long (too_long limit place (size line)) (rest line) (rest other) fault (λ none. over (fits_if (nat_le (size line) m) far none)) e
 

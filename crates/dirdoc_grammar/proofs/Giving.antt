@@ -3,13 +3,13 @@ use Rattle.std.proofs.Common.{◌≡◌, ℕ, ◌-◌, ◌<◌, ◌≤◌, Bool,
 use Rattle.std.proofs.lemmas.List.{length-drop, drop-append-le, drop-drop, append-nil}
 use Rattle.item_terms.specs.declared.fault.DocFault.{DocFault}
 use Rattle.item_terms.specs.Items as model
-use Rattle.item_terms.specs.Items.{Open, nothing, also, failed}
+use Rattle.item_terms.specs.Items.{Open, nothing, also, failed_contents}
 use Rattle.dirdoc_grammar.specs.declared.cursor.Cursor.{Cursor}
 use Rattle.dirdoc_grammar.specs.declared.item.Item.{Item}
 use Rattle.dirdoc_grammar.specs.declared.take.Take.TheVariants as take_
 use Rattle.dirdoc_grammar.specs.declared.front.Stop.{Stop}
 use Rattle.dirdoc_grammar.specs.declared.front.Found.TheVariants.{Open as More}
-use Rattle.dirdoc_grammar.specs.Seen.{seen}
+use Rattle.dirdoc_grammar.specs.Seen.{seen_item}
 use Rattle.dirdoc_grammar.specs.Reading.{from_place, IsOf, Finds, LastOf}
 use Rattle.dirdoc_grammar.specs.Cursors.{IsOver, IsAt, behind, fed_by}
 use Rattle.dirdoc_grammar.specs.Feeding.{first_of, Takes, MayFollow}
@@ -24,7 +24,7 @@ rest_is : (place after : ℕ) (bytes : List ℕ) → place ≤ after → drop af
 rest_is place after bytes le = sym (drop-drop (after - place) place bytes ∙ ap (λ (n : ℕ). drop n bytes) (omega arith))
 
 pub gives_item : (bytes : List ℕ) (cursor : Cursor) (item : Item) (finished : Bool) → IsAt bytes cursor
-    → ((more : List ℕ) → MayFollow finished more → from_place cursor.limit cursor.stop.item nothing (bytes ++ more) ≡ also (Some (seen item)) (from_place cursor.limit item.after nothing (bytes ++ more)))
+    → ((more : List ℕ) → MayFollow finished more → from_place cursor.limit cursor.stop.item nothing (bytes ++ more) ≡ also (Some (seen_item item)) (from_place cursor.limit item.after nothing (bytes ++ more)))
     → cursor.stop.item < item.after → item.after ≤ length bytes
     → Takes (fed_by cursor bytes finished) (take_.Item item) (fed_by (behind cursor.limit item.after) bytes finished)
 gives_item bytes cursor item finished is found some inside =
@@ -33,14 +33,14 @@ gives_item bytes cursor item finished is found some inside =
     let le : place ≤ length bytes = omega (arith, is.taken, some, inside) in (
       λ more may.
           left_is limit place bytes more le ∙ is.item more ∙ found more may
-          ∙ ap (λ (c : model.Contents). also (Some (seen item)) c) (sym (left_is limit item.after bytes more inside)),
+          ∙ ap (λ (c : model.Contents). also (Some (seen_item item)) c) (sym (left_is limit item.after bytes more inside)),
       ap (λ (r : List ℕ). record { limit = limit; place = item.after; rest = r; finished = finished }) (rest_is place item.after bytes (omega (arith, is.taken, some))),
       omega (arith, is.taken, some),
       omega (arith, inside, le, length-drop place bytes),
     )
 
 pub gives_fault : (bytes : List ℕ) (cursor : Cursor) (fault : DocFault) (finished : Bool) → IsAt bytes cursor
-    → ((more : List ℕ) → MayFollow finished more → from_place cursor.limit cursor.stop.item nothing (bytes ++ more) ≡ failed fault)
+    → ((more : List ℕ) → MayFollow finished more → from_place cursor.limit cursor.stop.item nothing (bytes ++ more) ≡ failed_contents fault)
     → Takes (fed_by cursor bytes finished) (take_.Fault fault) (fed_by cursor bytes finished)
 gives_fault bytes cursor fault finished is found =
     let le : cursor.place ≤ length bytes = omega (arith, is.taken, is.order, is.later, is.within) in
@@ -69,10 +69,10 @@ pub last_item : (bytes : List ℕ) (cursor : Cursor) (item : Item) → IsAt byte
     → Takes (fed_by cursor bytes true) (take_.Item item) (fed_by (behind cursor.limit item.after) bytes true)
 last_item bytes cursor item is last =
     gives_item bytes cursor item true is
-    (λ more none. plain (from_place cursor.limit cursor.stop.item nothing) bytes more (λ l. also (Some (seen item)) (from_place cursor.limit item.after nothing l)) none last.0) last.1 last.2
+    (λ more none. plain (from_place cursor.limit cursor.stop.item nothing) bytes more (λ l. also (Some (seen_item item)) (from_place cursor.limit item.after nothing l)) none last.0) last.1 last.2
 
 pub last_fault : (bytes : List ℕ) (cursor : Cursor) (fault : DocFault) → IsAt bytes cursor → LastOf cursor.limit cursor.stop.item bytes (Err fault) → Takes (fed_by cursor bytes true) (take_.Fault fault) (fed_by cursor bytes true)
-last_fault bytes cursor fault is last = gives_fault bytes cursor fault true is (λ more none. plain (from_place cursor.limit cursor.stop.item nothing) bytes more (λ l. failed fault) none last)
+last_fault bytes cursor fault is last = gives_fault bytes cursor fault true is (λ more none. plain (from_place cursor.limit cursor.stop.item nothing) bytes more (λ l. failed_contents fault) none last)
 
 pub last_none : (bytes : List ℕ) (cursor : Cursor) → IsAt bytes cursor → LastOf cursor.limit cursor.stop.item bytes (Ok None) → Takes (fed_by cursor bytes true) take_.End (fed_by cursor bytes true)
 last_none bytes cursor is last =

@@ -70,9 +70,9 @@ begun : (long : Bool) (n begin : ℕ) (fault : DocFault) (item : Item) (object :
 begun true n begin fault item object = tt
 begun false n begin fault item object = tt
 
-begins : (n place : ℕ) (item : Item) (line : Line) (words : Option (List ℕ)) → NextFrom n (first_object_line place item line words)
-begins n place item line None = tt
-begins n place item line (Some words) = begun (nat_lt max_object (size line)) n place (at place ObjectTooLong) item (begun_object place line words)
+first_object_line_is_from : (n place : ℕ) (item : Item) (line : Line) (words : Option (List ℕ)) → NextFrom n (first_object_line place item line words)
+first_object_line_is_from n place item line None = tt
+first_object_line_is_from n place item line (Some words) = begun (nat_lt max_object (size line)) n place (at place ObjectTooLong) item (begun_object place line words)
 
 unless : (n : ℕ) (fault : Option DocFault) (next : Result Open DocFault) → NextFrom n next → NextFrom n (open_unless fault next)
 unless n None next h = h
@@ -106,7 +106,7 @@ object_from limit begin place item object line =
 keyword_from : (m limit place : ℕ) (item : Item) (line : Line) → (starts_dash line ≡ false → m ≤ item.after) → StepFrom m (place + size line) (step limit place (keyword_line item) line)
 keyword_from m limit place item line le =
     by_dash (starts_dash line) m (place + size line) item (open_unless (line_fault limit place line) (first_object_line place item line (begin_words line.text))) (open_item (read_line limit place line)) le
-    (unless (place + size line) (line_fault limit place line) (first_object_line place item line (begin_words line.text)) (begins (place + size line) place item line (begin_words line.text)))
+    (unless (place + size line) (line_fault limit place line) (first_object_line place item line (begin_words line.text)) (first_object_line_is_from (place + size line) place item line (begin_words line.text)))
     (between limit place line)
 
 earlier : (m n : ℕ) (whole : Option Item) → m ≤ n → WholeFrom n whole → WholeFrom m whole

@@ -10,11 +10,11 @@ use Rattle.item_terms.specs.Words.{begin_words, begins_dash, is_blank_line, is_k
 use Rattle.item_terms.specs.Items as model
 use Rattle.item_terms.specs.Faults.{line_fault, at, max_object}
 use Rattle.item_terms.specs.Steps.{read_line, begun_object, keyword_item, Step, step, nothing, keyword_line, object_lines, line_item, item_unless, open_item, starts_dash, first_object_line, open_unless}
-use Rattle.item_terms.specs.Items.{also, failed}
+use Rattle.item_terms.specs.Items.{also, failed_contents}
 use Rattle.dirdoc_grammar.specs.declared.item.Item.{Item}
 use Rattle.dirdoc_grammar.specs.Reading.{first_line, from_place, Reads, BeginsObject}
 use Rattle.dirdoc_grammar.proofs.Fronts.{grows_at, ended_at, fault_stays, cut_line}
-use Rattle.dirdoc_grammar.specs.Seen.{seen, seen_if}
+use Rattle.dirdoc_grammar.specs.Seen.{seen_item, seen_if}
 use Rattle.dirdoc_grammar.proofs.FirstLine.{whole_rest, goes_on, fails, ends_inside, at_step, line_after, line_grows}
 
 -- what is known of a line whose text was found
@@ -35,7 +35,7 @@ faulty_here limit place bytes fault h = subst (λ (r : List ℕ). line_fault lim
 -- ---- between items
 
 pub line_fails : (limit place : ℕ) (bytes : List ℕ) (fault : DocFault) → place < length bytes
-    → line_fault limit place (first_line (drop place bytes)) ≡ Some fault → from_place limit place nothing bytes ≡ failed fault
+    → line_fault limit place (first_line (drop place bytes)) ≡ Some fault → from_place limit place nothing bytes ≡ failed_contents fault
 line_fails limit place bytes fault inside e =
     fails limit place nothing bytes fault inside (ap (λ (f : Option DocFault). record { whole = None; next = open_item (item_unless f (line_item place (first_line (drop place bytes)))) }) e)
 
@@ -47,7 +47,7 @@ read_is limit place bytes text read found e =
     ∙ ap (λ (r : Result (Option model.Item) DocFault). record { whole = None; next = open_item r }) e
 
 no_keyword : (limit place : ℕ) (bytes text : List ℕ) (fault : DocFault) → place < length bytes → Found limit place (drop place bytes) text
-    → line_item place (record { text = text; ended = true }) ≡ Err fault → from_place limit place nothing bytes ≡ failed fault
+    → line_item place (record { text = text; ended = true }) ≡ Err fault → from_place limit place nothing bytes ≡ failed_contents fault
 no_keyword limit place bytes text fault inside found e = fails limit place nothing bytes fault inside (read_is limit place bytes text (Err fault) found e)
 
 -- ---- the same where more bytes follow
@@ -110,7 +110,7 @@ reads_line limit place bytes text (Some i) inside h e after =
     let found = here limit place bytes text h in (
       λ more.
           let there = found_more limit place bytes more text inside found in
-          goes_on limit place nothing (bytes ++ more) text None (keyword_line (seen i)) (inside_more place bytes more inside) there.line (read_is limit place (bytes ++ more) text (Ok (Some (seen i))) there e),
+          goes_on limit place nothing (bytes ++ more) text None (keyword_line (seen_item i)) (inside_more place bytes more inside) there.line (read_is limit place (bytes ++ more) text (Ok (Some (seen_item i))) there e),
       omega arith,
       ends_inside place bytes text inside found.line,
       after,
@@ -134,7 +134,7 @@ begun : (limit place : ℕ) (item : model.Item) (line : Line) → starts_dash li
 begun limit place item line dash = ap (λ (b : Bool). cond b (record { whole = None; next = open_unless (line_fault limit place line) (first_object_line place item line (begin_words line.text)) }) (record { whole = Some item; next = open_item (read_line limit place line) })) dash
 
 pub begin_fails : (limit place : ℕ) (bytes : List ℕ) (fault : DocFault) → place < length bytes → begins_dash (drop place bytes) ≡ true
-    → line_fault limit place (first_line (drop place bytes)) ≡ Some fault → (item : model.Item) → from_place limit place (keyword_line item) bytes ≡ failed fault
+    → line_fault limit place (first_line (drop place bytes)) ≡ Some fault → (item : model.Item) → from_place limit place (keyword_line item) bytes ≡ failed_contents fault
 begin_fails limit place bytes fault inside dash e item =
     let line = first_line (drop place bytes) in
     fails limit place (keyword_line item) bytes fault inside (begun limit place item line (dash_first bytes place dash) ∙ ap (λ (f : Option DocFault). record { whole = None; next = open_unless f (first_object_line place item line (begin_words line.text)) }) e)
@@ -148,9 +148,9 @@ pub dash_more : (place : ℕ) (bytes more : List ℕ) → place < length bytes �
 dash_more place bytes more inside =
     ap begins_dash (drop-append-le place bytes more (omega arith)) ∙ same_dash (drop place bytes) more (omega (arith, length-drop place bytes, inside))
 
-begins : (limit place : ℕ) (bytes text : List ℕ) (words : Option (List ℕ)) (item : model.Item) → begins_dash (drop place bytes) ≡ true → Found limit place (drop place bytes) text → begin_words text ≡ words
+step_of_first_object_line : (limit place : ℕ) (bytes text : List ℕ) (words : Option (List ℕ)) (item : model.Item) → begins_dash (drop place bytes) ≡ true → Found limit place (drop place bytes) text → begin_words text ≡ words
     → step limit place (keyword_line item) (first_line (drop place bytes)) ≡ record { whole = None; next = first_object_line place item (record { text = text; ended = true }) words }
-begins limit place bytes text words item dash found e =
+step_of_first_object_line limit place bytes text words item dash found e =
     let line = first_line (drop place bytes) in
     begun limit place item line (dash_first bytes place dash)
     ∙ ap (λ (f : Option DocFault). record { whole = None; next = open_unless f (first_object_line place item line (begin_words line.text)) }) found.sound
@@ -158,13 +158,13 @@ begins limit place bytes text words item dash found e =
     ∙ ap (λ (w : Option (List ℕ)). record { whole = None; next = first_object_line place item (record { text = text; ended = true }) w }) e
 
 no_words : (limit place : ℕ) (bytes text : List ℕ) → place < length bytes → begins_dash (drop place bytes) ≡ true → Found limit place (drop place bytes) text
-    → begin_words text ≡ None → (item : model.Item) → from_place limit place (keyword_line item) bytes ≡ failed (at place ObjectWords)
-no_words limit place bytes text inside dash found e item = fails limit place (keyword_line item) bytes (at place ObjectWords) inside (begins limit place bytes text None item dash found e)
+    → begin_words text ≡ None → (item : model.Item) → from_place limit place (keyword_line item) bytes ≡ failed_contents (at place ObjectWords)
+no_words limit place bytes text inside dash found e item = fails limit place (keyword_line item) bytes (at place ObjectWords) inside (step_of_first_object_line limit place bytes text None item dash found e)
 
 begin_too_long : (limit place : ℕ) (bytes text words : List ℕ) → place < length bytes → begins_dash (drop place bytes) ≡ true → Found limit place (drop place bytes) text
-    → begin_words text ≡ Some words → nat_lt max_object (length text + 1) ≡ true → (item : model.Item) → from_place limit place (keyword_line item) bytes ≡ failed (at place ObjectTooLong)
+    → begin_words text ≡ Some words → nat_lt max_object (length text + 1) ≡ true → (item : model.Item) → from_place limit place (keyword_line item) bytes ≡ failed_contents (at place ObjectTooLong)
 begin_too_long limit place bytes text words inside dash found e long item =
-    fails limit place (keyword_line item) bytes (at place ObjectTooLong) inside (begins limit place bytes text (Some words) item dash found e
+    fails limit place (keyword_line item) bytes (at place ObjectTooLong) inside (step_of_first_object_line limit place bytes text (Some words) item dash found e
     ∙ ap (λ (b : Bool). record { whole = None; next = cond b (Err (at place ObjectTooLong)) (Ok (object_lines item place (begun_object place (record { text = text; ended = true }) words))) }) long)
 
 object_begins : (limit place : ℕ) (bytes text words : List ℕ) → place < length bytes → begins_dash (drop place bytes) ≡ true → Found limit place (drop place bytes) text
@@ -173,7 +173,7 @@ object_begins : (limit place : ℕ) (bytes text words : List ℕ) → place < le
 object_begins limit place bytes text words inside dash found e short item =
     let line : Line = record { text = text; ended = true } in
     goes_on limit place (keyword_line item) bytes text None (object_lines item place (begun_object place line words)) inside found.line
-    (begins limit place bytes text (Some words) item dash found e ∙ ap (λ (b : Bool). record { whole = None; next = cond b (Err (at place ObjectTooLong)) (Ok (object_lines item place (begun_object place line words))) }) short)
+    (step_of_first_object_line limit place bytes text (Some words) item dash found e ∙ ap (λ (b : Bool). record { whole = None; next = cond b (Err (at place ObjectTooLong)) (Ok (object_lines item place (begun_object place line words))) }) short)
     ∙ ap (λ (k : ℕ). from_place limit (place + length text + 1) (object_lines item place (record { words = words; start = k; text = [] })) bytes) (omega arith)
 
 -- ---- the same where more bytes follow

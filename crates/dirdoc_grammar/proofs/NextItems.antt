@@ -9,7 +9,7 @@ use Rattle.dirdoc_grammar.specs.declared.front.Stop.{Stop}
 use Rattle.dirdoc_grammar.specs.declared.front.Phase.TheVariants.{Between}
 use Rattle.dirdoc_grammar.specs.declared.front.Found.TheVariants.{Whole, Fault, Open}
 use Rattle.dirdoc_grammar.specs.Reading.{from_place, Reads, IsCut, Ends, Finds, FindsObject}
-use Rattle.dirdoc_grammar.specs.Seen.{seen}
+use Rattle.dirdoc_grammar.specs.Seen.{seen_item}
 
 -- nothing but blank lines stands up to a line
 pub record BlankTo (limit place line : ℕ) (bytes : List ℕ) : Type 0 where
@@ -37,14 +37,14 @@ stops_between limit place line bytes blank ends = (
 -- the item of a keyword line, with what follows it
 pub whole_found : (limit place line after : ℕ) (bytes : List ℕ) (item whole : Item) → BlankTo limit place line bytes → Reads limit line bytes (Ok (Some item, after)) → FindsObject limit bytes item (Whole whole) → Finds limit place bytes (Whole whole)
 whole_found limit place line after bytes item whole blank read found = (
-  λ more. blank.same more ∙ read.0 more ∙ ap (λ (n : ℕ). from_place limit n (model.keyword_line (seen item)) (bytes ++ more)) (sym read.3) ∙ found.0 more,
+  λ more. blank.same more ∙ read.0 more ∙ ap (λ (n : ℕ). from_place limit n (model.keyword_line (seen_item item)) (bytes ++ more)) (sym read.3) ∙ found.0 more,
   omega (arith, blank.order, read.1, read.3, found.1),
   found.2,
 )
 
 pub fault_found : (limit place line after : ℕ) (bytes : List ℕ) (item : Item) (fault : DocFault) → BlankTo limit place line bytes → Reads limit line bytes (Ok (Some item, after)) → FindsObject limit bytes item (Fault fault) → Finds limit place bytes (Fault fault)
 fault_found limit place line after bytes item fault blank read found = λ more.
-    blank.same more ∙ read.0 more ∙ ap (λ (n : ℕ). from_place limit n (model.keyword_line (seen item)) (bytes ++ more)) (sym read.3) ∙ found more
+    blank.same more ∙ read.0 more ∙ ap (λ (n : ℕ). from_place limit n (model.keyword_line (seen_item item)) (bytes ++ more)) (sym read.3) ∙ found more
 
 last_behind : (limit place : ℕ) (bytes : List ℕ) (line : ℕ) (open_ : model.Open) (last : Option Item) → place < line → Ends limit bytes line open_ last → IfSome last (λ item. place < item.after)
 last_behind limit place bytes line open_ None lt h = tt
@@ -62,7 +62,7 @@ found_open limit place line after bytes item stop last blank read found =
           open_ = s.open_;
           kind = s.kind;
           behind = s.behind;
-          same = λ more. blank.same more ∙ read.0 more ∙ ap (λ (n : ℕ). from_place limit n (model.keyword_line (seen item)) (bytes ++ more)) (sym read.3) ∙ s.same more;
+          same = λ more. blank.same more ∙ read.0 more ∙ ap (λ (n : ℕ). from_place limit n (model.keyword_line (seen_item item)) (bytes ++ more)) (sym read.3) ∙ s.same more;
           order = omega (arith, blank.order, read.1, read.3, s.order);
           within = s.within;
         };

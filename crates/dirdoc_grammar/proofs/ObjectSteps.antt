@@ -8,7 +8,7 @@ use Rattle.item_terms.specs.Words.{begins_dash}
 use Rattle.item_terms.specs.Items as model
 use Rattle.item_terms.specs.Faults.{object_line_fault}
 use Rattle.item_terms.specs.Steps.{with_line, Object, step, nothing, object_lines, object_step, step_unless}
-use Rattle.item_terms.specs.Items.{also, failed}
+use Rattle.item_terms.specs.Items.{also, failed_contents}
 use Rattle.dirdoc_grammar.specs.declared.item.Item.{Item}
 use Rattle.item_terms.specs.declared.fault.DocReason.TheVariants.{Unterminated}
 use Rattle.item_terms.specs.Faults.{at}
@@ -19,7 +19,7 @@ use Rattle.dirdoc_grammar.specs.declared.front.Found.{Found}
 use Rattle.dirdoc_grammar.specs.declared.front.Found.TheVariants.{Whole, Fault, Open}
 use Rattle.dirdoc_grammar.specs.Reading.{first_line, from_place, last_step, lines_from, Waits, IsCut, IsFault, Fails, FindsLines, FindsObject}
 use Rattle.dirdoc_grammar.proofs.Fronts.{grows_at, ended_at, object_fault_stays, cut_object}
-use Rattle.dirdoc_grammar.specs.Seen.{seen}
+use Rattle.dirdoc_grammar.specs.Seen.{seen_item}
 use Rattle.dirdoc_grammar.proofs.FirstLine.{goes_on, fails, ends_inside, line_grows, line_after, with_byte}
 
 -- what is known of a line of an object whose text was found
@@ -31,7 +31,7 @@ found : (limit begin place : ℕ) (bytes text : List ℕ) → (first_line (drop 
 found limit begin place bytes text h = record { line = h.0; sound = h.1 }
 
 pub object_fails : (limit begin place : ℕ) (bytes : List ℕ) (item : model.Item) (object : Object) (fault : DocFault) → place < length bytes
-    → object_line_fault limit begin place (first_line (drop place bytes)) ≡ Some fault → from_place limit place (object_lines item begin object) bytes ≡ failed fault
+    → object_line_fault limit begin place (first_line (drop place bytes)) ≡ Some fault → from_place limit place (object_lines item begin object) bytes ≡ failed_contents fault
 object_fails limit begin place bytes item object fault inside e =
     fails limit place (object_lines item begin object) bytes fault inside (ap (λ (f : Option DocFault). step_unless f (object_step item begin object place (first_line (drop place bytes)))) e)
 
@@ -55,15 +55,15 @@ object_goes_on limit begin place bytes text item object inside h dash =
 
 -- what the last line of an object leaves
 abbrev pub Ends : ℕ → ℕ → List ℕ → model.Contents → ℕ → Result Item DocFault → Type 0
-Ends limit place bytes before after (Ok whole) = (before ≡ also (Some (seen whole)) (from_place limit after nothing bytes)) × (after ≤ length bytes)
-Ends limit place bytes before after (Err fault) = before ≡ failed fault
+Ends limit place bytes before after (Ok whole) = (before ≡ also (Some (seen_item whole)) (from_place limit after nothing bytes)) × (after ≤ length bytes)
+Ends limit place bytes before after (Err fault) = before ≡ failed_contents fault
 
 pub object_ends : (limit begin place : ℕ) (bytes text : List ℕ) (item : model.Item) (object : Object) (r : Result Item DocFault) → place < length bytes → FoundHere limit begin place bytes text
     → object_step item begin object place (record { text = text; ended = true }) ≡ last_step r
     → Ends limit place bytes (from_place limit place (object_lines item begin object) bytes) (place + length text + 1) r
 object_ends limit begin place bytes text item object (Ok whole) inside h e =
     let f = found limit begin place bytes text h in
-    (goes_on limit place (object_lines item begin object) bytes text (Some (seen whole)) nothing inside f.line (object_made limit begin place bytes text item object f ∙ e), ends_inside place bytes text inside f.line)
+    (goes_on limit place (object_lines item begin object) bytes text (Some (seen_item whole)) nothing inside f.line (object_made limit begin place bytes text item object f ∙ e), ends_inside place bytes text inside f.line)
 object_ends limit begin place bytes text item object (Err fault) inside h e =
     let f = found limit begin place bytes text h in
     fails limit place (object_lines item begin object) bytes fault inside (object_made limit begin place bytes text item object f ∙ e)
@@ -86,9 +86,9 @@ pub first_line_bytes : (bytes text : List ℕ) → first_line bytes ≡ record {
 first_line_bytes [] text e = absurd (false≢true (ap (λ (l : Line). l.ended) e))
 first_line_bytes (b ∷ bytes) text e = nl_case (eqb b 10) b bytes refl (first_line_bytes bytes) text e
 
-pub one_more : (first place : ℕ) (bytes text : List ℕ) → first ≤ place → first_line (drop place bytes) ≡ record { text = text; ended = true }
+pub bytes_with_one_more_line : (first place : ℕ) (bytes text : List ℕ) → first ≤ place → first_line (drop place bytes) ≡ record { text = text; ended = true }
     → (take (place - first) (drop first bytes) ++ text) ++ 10 ∷ [] ≡ take (place + length text + 1 - first) (drop first bytes)
-one_more first place bytes text le e =
+bytes_with_one_more_line first place bytes text le e =
     let front = take (place - first) (drop first bytes) in
     let n : place + length text + 1 - first ≡ (place - first) + (length text + 1) = omega arith in
     let back : drop (place - first) (drop first bytes) ≡ drop place bytes = drop-drop (place - first) first bytes ∙ ap (λ (k : ℕ). drop k bytes) (omega arith) in
@@ -132,7 +132,7 @@ pub one_turn : (limit first place : ℕ) (bytes text words : List ℕ) (item : m
 one_turn limit first place bytes text words item so inside h dash =
     let begin = item.after in
     let next = place + length text + 1 in
-    let grown : with_line (lines_up_to first place words bytes) text ≡ lines_up_to first next words bytes = ap (λ (t : List ℕ). record { words = words; start = first; text = t }) (one_more first place bytes text so.order h.0) in
+    let grown : with_line (lines_up_to first place words bytes) text ≡ lines_up_to first next words bytes = ap (λ (t : List ℕ). record { words = words; start = first; text = t }) (bytes_with_one_more_line first place bytes text so.order h.0) in
     let to : next ≡ place + (length text + 1) = omega arith in
     record {
       order = omega (arith, so.order);
@@ -162,41 +162,41 @@ stops_inside limit first place bytes words item stop last so none line phase end
     })
 
 -- a line of an object that has a fault
-pub line_stops : (limit first place : ℕ) (bytes words : List ℕ) (item : Item) (fault : DocFault) (r : Found) → LinesTo limit (seen item) words first place bytes → place < length bytes
+pub line_stops : (limit first place : ℕ) (bytes words : List ℕ) (item : Item) (fault : DocFault) (r : Found) → LinesTo limit (seen_item item) words first place bytes → place < length bytes
     → object_line_fault limit item.after place (first_line (drop place bytes)) ≡ Some fault → IsFault r fault place (Inside item.after) → FindsLines limit bytes item words first r
 line_stops limit first place bytes words item fault (Whole whole) so inside e is = absurd is
 line_stops limit first place bytes words item fault (Fault other) so inside e is = λ more.
     so.same more
-    ∙ object_fails limit item.after place (bytes ++ more) (seen item) (lines_up_to first place words bytes) fault (omega (arith, inside, length-append bytes more)) (fault_more limit item.after place bytes more fault inside e is.1)
-    ∙ ap failed (sym is.0)
+    ∙ object_fails limit item.after place (bytes ++ more) (seen_item item) (lines_up_to first place words bytes) fault (omega (arith, inside, length-append bytes more)) (fault_more limit item.after place bytes more fault inside e is.1)
+    ∙ ap failed_contents (sym is.0)
 line_stops limit first place bytes words item fault (Open stop last) so inside e is =
-    stops_inside limit first place bytes words (seen item) stop last so is.0 is.2 is.3
+    stops_inside limit first place bytes words (seen_item item) stop last so is.0 is.2 is.3
     (inr (record { inside = inside; fault = cut_here limit item.after place bytes fault inside e is.1; object = tt }))
 
 -- the END line of an object, or one that should be
-pub ends_object : (limit first place : ℕ) (bytes text words : List ℕ) (item whole : Item) → LinesTo limit (seen item) words first place bytes → place < length bytes → FoundHere limit item.after place bytes text
-    → object_step (seen item) item.after (lines_up_to first place words bytes) place (record { text = text; ended = true }) ≡ last_step (Ok whole)
+pub ends_object : (limit first place : ℕ) (bytes text words : List ℕ) (item whole : Item) → LinesTo limit (seen_item item) words first place bytes → place < length bytes → FoundHere limit item.after place bytes text
+    → object_step (seen_item item) item.after (lines_up_to first place words bytes) place (record { text = text; ended = true }) ≡ last_step (Ok whole)
     → whole.after ≡ place + length text + 1 → FindsLines limit bytes item words first (Whole whole)
 ends_object limit first place bytes text words item whole so inside h e after = (
   λ more.
       so.same more
-      ∙ (object_ends limit item.after place (bytes ++ more) text (seen item) (lines_up_to first place words bytes) (Ok whole) (omega (arith, inside, length-append bytes more)) (found_more limit item.after place bytes more text inside h) e).0
-      ∙ ap (λ (k : ℕ). also (Some (seen whole)) (from_place limit k nothing (bytes ++ more))) (sym after),
+      ∙ (object_ends limit item.after place (bytes ++ more) text (seen_item item) (lines_up_to first place words bytes) (Ok whole) (omega (arith, inside, length-append bytes more)) (found_more limit item.after place bytes more text inside h) e).0
+      ∙ ap (λ (k : ℕ). also (Some (seen_item whole)) (from_place limit k nothing (bytes ++ more))) (sym after),
   omega (arith, so.order, so.begins, after),
   omega (arith, after, ends_inside place bytes text inside h.0),
 )
 
-pub breaks_object : (limit first place : ℕ) (bytes text words : List ℕ) (item : Item) (fault : DocFault) → LinesTo limit (seen item) words first place bytes → place < length bytes → FoundHere limit item.after place bytes text
-    → object_step (seen item) item.after (lines_up_to first place words bytes) place (record { text = text; ended = true }) ≡ last_step (Err fault)
+pub breaks_object : (limit first place : ℕ) (bytes text words : List ℕ) (item : Item) (fault : DocFault) → LinesTo limit (seen_item item) words first place bytes → place < length bytes → FoundHere limit item.after place bytes text
+    → object_step (seen_item item) item.after (lines_up_to first place words bytes) place (record { text = text; ended = true }) ≡ last_step (Err fault)
     → FindsLines limit bytes item words first (Fault fault)
 breaks_object limit first place bytes text words item fault so inside h e = λ more.
     so.same more
-    ∙ object_ends limit item.after place (bytes ++ more) text (seen item) (lines_up_to first place words bytes) (Err fault) (omega (arith, inside, length-append bytes more)) (found_more limit item.after place bytes more text inside h) e
+    ∙ object_ends limit item.after place (bytes ++ more) text (seen_item item) (lines_up_to first place words bytes) (Err fault) (omega (arith, inside, length-append bytes more)) (found_more limit item.after place bytes more text inside h) e
 
 -- ---- what follows a keyword line
 
 pub object_found : (limit : ℕ) (bytes words : List ℕ) (item : Item) (first : ℕ) (r : Found)
-    → ((more : List ℕ) → from_place limit item.after (model.keyword_line (seen item)) (bytes ++ more) ≡ from_place limit first (lines_from (seen item) words first) (bytes ++ more))
+    → ((more : List ℕ) → from_place limit item.after (model.keyword_line (seen_item item)) (bytes ++ more) ≡ from_place limit first (lines_from (seen_item item) words first) (bytes ++ more))
     → item.after < first → FindsLines limit bytes item words first r → FindsObject limit bytes item r
 object_found limit bytes words item first (Whole whole) begins order found = (λ more. begins more ∙ found.0 more, found.1, found.2)
 object_found limit bytes words item first (Fault fault) begins order found = λ more. begins more ∙ found more
@@ -207,21 +207,21 @@ object_found limit bytes words item first (Open stop last) begins order found =
       ends = found.ends;
     }
 
-pub begin_found : (limit : ℕ) (bytes : List ℕ) (item : Item) (fault : DocFault) (r : Found) → Fails limit item.after (model.keyword_line (seen item)) bytes fault → item.after ≤ length bytes → IsFault r fault item.after Keyword → FindsObject limit bytes item r
+pub begin_found : (limit : ℕ) (bytes : List ℕ) (item : Item) (fault : DocFault) (r : Found) → Fails limit item.after (model.keyword_line (seen_item item)) bytes fault → item.after ≤ length bytes → IsFault r fault item.after Keyword → FindsObject limit bytes item r
 begin_found limit bytes item fault (Whole whole) failing inside is = absurd is
-begin_found limit bytes item fault (Fault other) failing inside is = λ more. failing.settled is.1 more ∙ ap failed (sym is.0)
+begin_found limit bytes item fault (Fault other) failing inside is = λ more. failing.settled is.1 more ∙ ap failed_contents (sym is.0)
 begin_found limit bytes item fault (Open stop last) failing inside is =
     rw (is.0, is.2, is.3)
     (record {
-      stands = record { open_ = model.keyword_line (seen item); kind = tt; behind = omega arith; same = λ more. refl; order = omega arith; within = inside };
+      stands = record { open_ = model.keyword_line (seen_item item); kind = tt; behind = omega arith; same = λ more. refl; order = omega arith; within = inside };
       ends = inr (failing.cut is.1);
     })
 
 -- the bytes end with a keyword line
-pub item_waits : (limit : ℕ) (bytes : List ℕ) (item : Item) (stop : Stop) → item.after ≡ length bytes → stop.line ≡ item.after → stop.phase ≡ Keyword → Waits limit item.after (model.keyword_line (seen item)) bytes stop (Some item)
+pub item_waits : (limit : ℕ) (bytes : List ℕ) (item : Item) (stop : Stop) → item.after ≡ length bytes → stop.line ≡ item.after → stop.phase ≡ Keyword → Waits limit item.after (model.keyword_line (seen_item item)) bytes stop (Some item)
 item_waits limit bytes item stop there line phase =
     rw (line, phase)
     (record {
-      stands = record { open_ = model.keyword_line (seen item); kind = tt; behind = omega arith; same = λ more. refl; order = omega arith; within = omega (arith, there) };
+      stands = record { open_ = model.keyword_line (seen_item item); kind = tt; behind = omega arith; same = λ more. refl; order = omega arith; within = omega (arith, there) };
       ends = (there, refl, refl);
     })

@@ -10,7 +10,7 @@ use Rattle.item_terms.specs.declared.fault.DocFault.{DocFault}
 use Rattle.item_terms.specs.declared.fault.DocReason.TheVariants.{Keyword, Unterminated, ObjectBase64, ObjectEnd, ObjectTooLong}
 use Rattle.item_terms.specs.Lines.{Line, lines, onto, size}
 use Rattle.item_terms.specs.Words.{nul_in, is_blank, is_blank_line, is_keyword_line, is_word_byte, keyword, keyword_len, arguments, argument_start, begin_words, is_end_line}
-use Rattle.item_terms.specs.Faults.{at, or_else, too_long, unterminated, nul_fault, line_fault, object_line_fault, max_line, max_object}
+use Rattle.item_terms.specs.Faults.{at, or_else, too_long, unterminated_fault, nul_fault, line_fault, object_line_fault, max_line, max_object}
 use Rattle.item_terms.specs.Steps.{Item, Open, Step, Object, step, nothing, keyword_line, object_lines, keyword_item, begun_object, with_line, open_item, item_unless, open_unless, step_unless, object_step, line_item, read_line, starts_dash, first_object_line, with_object}
 use Rattle.item_terms.specs.Items.{Contents, contents_of, also, proceed, at_end}
 use Rattle.item_terms.specs.Base64Text.{is_body}
@@ -73,7 +73,7 @@ line_within place bytes line more h =
 line_first : (place : ℕ) (bytes : List ℕ) (line : Line) (more : List ℕ) → Here place bytes line more → drop place bytes ≡ line.text ++ (end_of line.ended ++ more)
 line_first place bytes line more h = h.text ∙ append_assoc line.text (end_of line.ended) more
 
-ended_by : (line : Line) (place : ℕ) (long nul : Option DocFault) → or_else long (or_else (unterminated place line) nul) ≡ None → line.ended ≡ true
+ended_by : (line : Line) (place : ℕ) (long nul : Option DocFault) → or_else long (or_else (unterminated_fault place line) nul) ≡ None → line.ended ≡ true
 ended_by line place (Some fault) nul e = absurd cc
 ended_by line place None nul e = elim line.ended as (λ b. or_else (cond b None (Some (at (place + length line.text) Unterminated))) nul ≡ None → b ≡ true) [ true ↦ λ h. refl | false ↦ λ h. absurd cc ] e
 

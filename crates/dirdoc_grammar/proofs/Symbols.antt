@@ -8,7 +8,7 @@ use Rattle.base64.specs.Engines.{standard}
 use Rattle.base64.specs.GeneralPurpose.{IsBytes, encode_of}
 use Rattle.dirdoc_grammar.specs.declared.base64_text.Group.{Group}
 use Rattle.dirdoc_grammar.specs.declared.base64_text.Group.TheVariants.{Start, One, Two, Three, PaddedOnce, Closed}
-use Rattle.dirdoc_grammar.specs.Groups.{symbol, may_grow, grown, goes_on}
+use Rattle.dirdoc_grammar.specs.Groups.{symbol, may_grow, grown_group, goes_on}
 use Rattle.dirdoc_grammar.specs.Bodies.{base64_of}
 use Rattle.dirdoc_grammar.proofs.Base64Groups.{encoding_is_accepted}
 
@@ -36,8 +36,8 @@ grows_by_symbol Closed b h = absurd (false≢true h)
 each_symbol : (group : Group) (text : List ℕ) → goes_on group text ≡ true → list_all is_symbol text ≡ true
 each_symbol group [] h = refl
 each_symbol group (b ∷ text) h =
-    let parts = and_parts (may_grow group b) (goes_on (grown group b) text) h in
-    ap (λ (t : Bool). t && list_all is_symbol text) (grows_by_symbol group b parts.0) ∙ each_symbol (grown group b) text parts.1
+    let parts = and_parts (may_grow group b) (goes_on (grown_group group b) text) h in
+    ap (λ (t : Bool). t && list_all is_symbol text) (grows_by_symbol group b parts.0) ∙ each_symbol (grown_group group b) text parts.1
 
 pub base64_symbols : (bytes : List ℕ) → IsBytes bytes → list_all is_symbol (base64_of bytes) ≡ true
 unfolding base64_of

@@ -3,7 +3,7 @@ use Rattle.std.specs.Prelude.{ℕ, ◌+◌, ◌==◌, List, [], ◌∷◌, ◌++
 use Rattle.std.specs.Result.{result_ok}
 use Rattle.base64.specs.Engines.{standard}
 use Rattle.base64.specs.GeneralPurpose.{decode_of, encode_of}
-use Rattle.item_terms.specs.Base64Text.{joined}
+use Rattle.item_terms.specs.Base64Text.{joined_text}
 use Rattle.item_terms.specs.Words.{begins, ends, dashes}
 
 -- the bytes in standard base64, with its padding
@@ -33,5 +33,5 @@ abbrev pub object_text : List ℕ → List ℕ → List ℕ
 object_text words bytes = begin_line words ++ 10 ∷ (body_text bytes ++ end_line words ++ 10 ∷ [])
 
 -- the bytes that the lines of an object spell, where they are base64
-unfoldable pub decoded : List ℕ → Option (List ℕ)
-decoded lines = result_ok (decode_of standard (joined lines))
+unfoldable pub decoded_bytes : List ℕ → Option (List ℕ)
+decoded_bytes lines = result_ok (decode_of standard (joined_text lines))

@@ -5,7 +5,7 @@ use Rattle.item_terms.specs.Items as model
 use Rattle.dirdoc_grammar.specs.declared.take.Take.{Take}
 use Rattle.dirdoc_grammar.specs.declared.take.Take.TheVariants.{Item, NotYet, End, Fault}
 use Rattle.dirdoc_grammar.specs.declared.item.Item as item
-use Rattle.dirdoc_grammar.specs.Seen.{seen}
+use Rattle.dirdoc_grammar.specs.Seen.{seen_item}
 
 -- The bytes that were fed and not taken, the place of the first of them, the place that the document may not reach, and
 -- whether no more follow.
@@ -41,11 +41,11 @@ Settles fed answer = (more : List ℕ) → MayFollow fed.finished more → first
 -- fault that does; that neither is known yet; or that all is given.
 abbrev pub Takes : Fed → Take → Fed → Type 0
 Takes old (Item item) new =
-    ((more : List ℕ) → MayFollow old.finished more → left_with old more ≡ model.also (Some (seen item)) (left_with new more))
+    ((more : List ℕ) → MayFollow old.finished more → left_with old more ≡ model.also (Some (seen_item item)) (left_with new more))
     × (new ≡ record old { place = item.after; rest = drop (item.after - old.place) old.rest })
     × (old.place < item.after)
     × (item.after ≤ old.place + length old.rest)
-Takes old (Fault fault) new = ((more : List ℕ) → MayFollow old.finished more → left_with old more ≡ model.failed fault) × (new ≡ old)
+Takes old (Fault fault) new = ((more : List ℕ) → MayFollow old.finished more → left_with old more ≡ model.failed_contents fault) × (new ≡ old)
 Takes old NotYet new = (old.finished ≡ false) × ((answer : Result (Option model.Item) DocFault) → Settles old answer → ⊥) × (new ≡ old)
 Takes old End new = (old.finished ≡ true) × (left_with old [] ≡ record { items = []; fault = None }) × (new ≡ old)
 

@@ -23,13 +23,13 @@ may_grow PaddedOnce b = b == 61
 may_grow Closed b = false
 
 -- the group after the byte, if it may stand there
-abbrev pub grown : Group → ℕ → Group
-grown Start b = One
-grown One b = Two (symbol b)
-grown (Two value) b = if b == 61 then PaddedOnce else Three (symbol b)
-grown (Three value) b = if b == 61 then Closed else Start
-grown PaddedOnce b = Closed
-grown Closed b = Closed
+abbrev pub grown_group : Group → ℕ → Group
+grown_group Start b = One
+grown_group One b = Two (symbol b)
+grown_group (Two value) b = if b == 61 then PaddedOnce else Three (symbol b)
+grown_group (Three value) b = if b == 61 then Closed else Start
+grown_group PaddedOnce b = Closed
+grown_group Closed b = Closed
 
 -- whether the text may end here
 abbrev pub may_end : Group → Bool
@@ -43,4 +43,4 @@ may_end Closed = true
 -- whether the text goes on the group, to its end
 abbrev pub goes_on : Group → List ℕ → Bool
 goes_on group [] = may_end group
-goes_on group (b ∷ text) = may_grow group b && goes_on (grown group b) text
+goes_on group (b ∷ text) = may_grow group b && goes_on (grown_group group b) text

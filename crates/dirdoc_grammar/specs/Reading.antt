@@ -15,7 +15,7 @@ use Rattle.dirdoc_grammar.specs.declared.front.Stop.{Stop}
 use Rattle.dirdoc_grammar.specs.declared.front.Phase.{Phase}
 use Rattle.dirdoc_grammar.specs.declared.front.Phase.TheVariants.{Between, Keyword, Object}
 use Rattle.dirdoc_grammar.specs.declared.object.Body.{Body}
-use Rattle.dirdoc_grammar.specs.Seen.{seen}
+use Rattle.dirdoc_grammar.specs.Seen.{seen_item}
 
 -- how many bytes stand before the first NL
 abbrev pub first_line_len : List ℕ → ℕ
@@ -54,7 +54,7 @@ pub record IsCut (limit place : ℕ) (so_far : model.Open) (bytes : List ℕ) : 
 
 -- What a fault says that was found in the line at a place: it is the document's, whatever follows; or the bytes end there.
 pub record Fails (limit place : ℕ) (so_far : model.Open) (bytes : List ℕ) (fault : DocFault) : Type 0 where
-  pub settled : (fault.reason ≡ Unterminated → ⊥) → (more : List ℕ) → from_place limit place so_far (bytes ++ more) ≡ model.failed fault
+  pub settled : (fault.reason ≡ Unterminated → ⊥) → (more : List ℕ) → from_place limit place so_far (bytes ++ more) ≡ model.failed_contents fault
   pub cut : fault.reason ≡ Unterminated → IsCut limit place so_far bytes
 
 -- What the line at a place says of what the document holds from there on, whatever follows the bytes: the item, if one
@@ -63,7 +63,7 @@ abbrev pub Reads : ℕ → ℕ → List ℕ → Result (Option Item × ℕ) DocF
 Reads limit place bytes (Ok (None, after)) =
     ((more : List ℕ) → from_place limit place model.nothing (bytes ++ more) ≡ from_place limit after model.nothing (bytes ++ more)) × (place < after) × (after ≤ length bytes)
 Reads limit place bytes (Ok (Some item, after)) =
-    ((more : List ℕ) → from_place limit place model.nothing (bytes ++ more) ≡ from_place limit after (model.keyword_line (seen item)) (bytes ++ more)) × (place < after) × (after ≤ length bytes) × (item.after ≡ after)
+    ((more : List ℕ) → from_place limit place model.nothing (bytes ++ more) ≡ from_place limit after (model.keyword_line (seen_item item)) (bytes ++ more)) × (place < after) × (after ≤ length bytes) × (item.after ≡ after)
 Reads limit place bytes (Err fault) = Fails limit place model.nothing bytes fault
 
 -- The same of the line after a keyword line, where it begins with '-': the words of the object, and the place after the line.
@@ -86,7 +86,7 @@ object_of body = record { words = body.words.now; start = body.start; text = bod
 
 -- what the line makes that ends an object or should
 abbrev pub last_step : Result Item DocFault → model.Step
-last_step (Ok item) = record { whole = Some (seen item); next = Ok model.nothing }
+last_step (Ok item) = record { whole = Some (seen_item item); next = Ok model.nothing }
 last_step (Err fault) = record { whole = None; next = Err fault }
 
 -- ---- how far the reading of an item has come
@@ -127,7 +127,7 @@ IsNoKeyword (model.object_lines item begin object) = Unit {0}
 -- The bytes end before the line at this place, or within it; the item is that of a keyword line with which they end.
 abbrev pub Ends : ℕ → List ℕ → ℕ → model.Open → Option Item → Type 0
 Ends limit bytes line open_ None = ((line ≡ length bytes) × IsNoKeyword open_) ⊎ IsCut limit line open_ bytes
-Ends limit bytes line open_ (Some item) = (line ≡ length bytes) × (open_ ≡ model.keyword_line (seen item)) × (item.after ≡ line)
+Ends limit bytes line open_ (Some item) = (line ≡ length bytes) × (open_ ≡ model.keyword_line (seen_item item)) × (item.after ≡ line)
 
 -- the reading stops there
 pub record Waits (limit place : ℕ) (so_far : model.Open) (bytes : List ℕ) (stop : Stop) (last : Option Item) : Type 0 where
@@ -154,28 +154,28 @@ IsFault (Open stop last) fault line phase = (last ≡ None) × (fault.reason ≡
 -- before either is known.
 abbrev pub FindsObject : ℕ → List ℕ → Item → Found → Type 0
 FindsObject limit bytes item (Whole whole) =
-    ((more : List ℕ) → from_place limit item.after (model.keyword_line (seen item)) (bytes ++ more) ≡ model.also (Some (seen whole)) (from_place limit whole.after model.nothing (bytes ++ more)))
+    ((more : List ℕ) → from_place limit item.after (model.keyword_line (seen_item item)) (bytes ++ more) ≡ model.also (Some (seen_item whole)) (from_place limit whole.after model.nothing (bytes ++ more)))
     × (item.after ≤ whole.after)
     × (whole.after ≤ length bytes)
-FindsObject limit bytes item (Fault fault) = (more : List ℕ) → from_place limit item.after (model.keyword_line (seen item)) (bytes ++ more) ≡ model.failed fault
-FindsObject limit bytes item (Open stop last) = Waits limit item.after (model.keyword_line (seen item)) bytes stop last
+FindsObject limit bytes item (Fault fault) = (more : List ℕ) → from_place limit item.after (model.keyword_line (seen_item item)) (bytes ++ more) ≡ model.failed_contents fault
+FindsObject limit bytes item (Open stop last) = Waits limit item.after (model.keyword_line (seen_item item)) bytes stop last
 
 -- the same from the object's lines on
 abbrev pub FindsLines : ℕ → List ℕ → Item → List ℕ → ℕ → Found → Type 0
 FindsLines limit bytes item words first (Whole whole) =
-    ((more : List ℕ) → from_place limit first (lines_from (seen item) words first) (bytes ++ more) ≡ model.also (Some (seen whole)) (from_place limit whole.after model.nothing (bytes ++ more)))
+    ((more : List ℕ) → from_place limit first (lines_from (seen_item item) words first) (bytes ++ more) ≡ model.also (Some (seen_item whole)) (from_place limit whole.after model.nothing (bytes ++ more)))
     × (item.after ≤ whole.after)
     × (whole.after ≤ length bytes)
-FindsLines limit bytes item words first (Fault fault) = (more : List ℕ) → from_place limit first (lines_from (seen item) words first) (bytes ++ more) ≡ model.failed fault
-FindsLines limit bytes item words first (Open stop last) = Waits limit first (lines_from (seen item) words first) bytes stop last
+FindsLines limit bytes item words first (Fault fault) = (more : List ℕ) → from_place limit first (lines_from (seen_item item) words first) (bytes ++ more) ≡ model.failed_contents fault
+FindsLines limit bytes item words first (Open stop last) = Waits limit first (lines_from (seen_item item) words first) bytes stop last
 
 -- the same from a place between items on
 abbrev pub Finds : ℕ → ℕ → List ℕ → Found → Type 0
 Finds limit place bytes (Whole whole) =
-    ((more : List ℕ) → from_place limit place model.nothing (bytes ++ more) ≡ model.also (Some (seen whole)) (from_place limit whole.after model.nothing (bytes ++ more)))
+    ((more : List ℕ) → from_place limit place model.nothing (bytes ++ more) ≡ model.also (Some (seen_item whole)) (from_place limit whole.after model.nothing (bytes ++ more)))
     × (place < whole.after)
     × (whole.after ≤ length bytes)
-Finds limit place bytes (Fault fault) = (more : List ℕ) → from_place limit place model.nothing (bytes ++ more) ≡ model.failed fault
+Finds limit place bytes (Fault fault) = (more : List ℕ) → from_place limit place model.nothing (bytes ++ more) ≡ model.failed_contents fault
 Finds limit place bytes (Open stop last) =
     ((more : List ℕ) → from_place limit place model.nothing (bytes ++ more) ≡ from_place limit stop.item model.nothing (bytes ++ more))
     × (place ≤ stop.item)
@@ -185,9 +185,9 @@ Finds limit place bytes (Open stop last) =
 
 -- what is left where no more bytes follow: an item, nothing, or the fault that the bytes end too early
 abbrev pub LastOf : ℕ → ℕ → List ℕ → Result (Option Item) DocFault → Type 0
-LastOf limit place bytes (Ok (Some item)) = (from_place limit place model.nothing bytes ≡ model.also (Some (seen item)) (from_place limit item.after model.nothing bytes)) × (place < item.after) × (item.after ≤ length bytes)
+LastOf limit place bytes (Ok (Some item)) = (from_place limit place model.nothing bytes ≡ model.also (Some (seen_item item)) (from_place limit item.after model.nothing bytes)) × (place < item.after) × (item.after ≤ length bytes)
 LastOf limit place bytes (Ok None) = from_place limit place model.nothing bytes ≡ record { items = []; fault = None }
-LastOf limit place bytes (Err fault) = from_place limit place model.nothing bytes ≡ model.failed fault
+LastOf limit place bytes (Err fault) = from_place limit place model.nothing bytes ≡ model.failed_contents fault
 
 -- what is left where no keyword line ends the bytes
 abbrev pub last_by : Bool → Phase → ℕ → Result (Option Item) DocFault

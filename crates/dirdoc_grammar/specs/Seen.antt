@@ -15,8 +15,8 @@ seen_object_if None = None
 seen_object_if (Some object) = Some (seen_object object)
 
 -- the item, without where it lies in memory
-abbrev pub seen : Item → model.Item
-seen item = record {
+abbrev pub seen_item : Item → model.Item
+seen_item item = record {
   keyword = item.keyword.now;
   separator = item.separator;
   arguments = item.arguments.now;
@@ -30,14 +30,14 @@ seen item = record {
 -- the same if there is one
 abbrev pub seen_if : Option Item → Option model.Item
 seen_if None = None
-seen_if (Some item) = Some (seen item)
+seen_if (Some item) = Some (seen_item item)
 
 -- What a reader gives that has old left, and what it has left then: the first item, and the others; or the fault or
 -- nothing, and the same.
 abbrev pub Gives : model.Contents → Result (Option Item) DocFault → model.Contents → Type 0
-Gives old (Ok (Some item)) new = (old.items ≡ seen item ∷ new.items) × (old.fault ≡ new.fault)
+Gives old (Ok (Some item)) new = (old.items ≡ seen_item item ∷ new.items) × (old.fault ≡ new.fault)
 Gives old (Ok None) new = (old ≡ record { items = []; fault = None }) × (new ≡ old)
-Gives old (Err fault) new = (old ≡ model.failed fault) × (new ≡ old)
+Gives old (Err fault) new = (old ≡ model.failed_contents fault) × (new ≡ old)
 
 -- an item's arguments and its object end before the place after its last line, which is not its first byte's
 pub record LiesInOrder (item : model.Item) : Type 0 where
@@ -48,4 +48,4 @@ pub record LiesInOrder (item : model.Item) : Type 0 where
 
 -- an item lies within an input of fewer than 2 ^ 62 bytes
 abbrev pub IsInside : Item → Type 0
-IsInside item = LiesInOrder (seen item) × (item.after < 2 ^ 62)
+IsInside item = LiesInOrder (seen_item item) × (item.after < 2 ^ 62)

@@ -11,8 +11,8 @@ pub record Draft : Type 0 where
   pub stage : Stage
 
 -- the draft with more text, in this stage
-abbrev pub added : Draft → List ℕ → Stage → Draft
-added draft text stage = record { text = draft.text ++ text; stage = stage }
+abbrev pub longer_draft : Draft → List ℕ → Stage → Draft
+longer_draft draft text stage = record { text = draft.text ++ text; stage = stage }
 
 -- a line was begun and has not ended
 abbrev pub in_line : Stage → Bool

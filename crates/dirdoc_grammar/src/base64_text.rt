@@ -59,7 +59,7 @@ impl Group {
     }
 
     fn grown(self, b: u8) -> Group
-        ensures { result ≡ groups.grown self b }
+        ensures { result ≡ groups.grown_group self b }
     {
         match self {
             Group::Start => Group::One,
@@ -98,7 +98,7 @@ fn is_symbol(b: u8) -> bool
 
 /// What is left of the text behind the whole groups and the NLs in front.
 fn behind_groups(text: &[u8]) -> &[u8]
-    ensures { groups.goes_on Group.Start (text64.joined result.now) ≡ groups.goes_on Group.Start (text64.joined text.now) }
+    ensures { groups.goes_on Group.Start (text64.joined_text result.now) ≡ groups.goes_on Group.Start (text64.joined_text text.now) }
 {
     let mut rest = text;
     'groups: while let [a, b, c, d, ..] = rest {
@@ -115,14 +115,14 @@ fn behind_groups(text: &[u8]) -> &[u8]
 
 /// Whether the lines, when they are joined, make up groups of four symbols.
 fn fills_groups(text: &[u8]) -> bool
-    ensures { result ≡ groups.goes_on Group.Start (text64.joined text.now) }
+    ensures { result ≡ groups.goes_on Group.Start (text64.joined_text text.now) }
 {
     ends_groups(behind_groups(text))
 }
 
 /// The same, byte by byte.
 fn ends_groups(text: &[u8]) -> bool
-    ensures { result ≡ groups.goes_on Group.Start (text64.joined text.now) }
+    ensures { result ≡ groups.goes_on Group.Start (text64.joined_text text.now) }
 {
     let mut group = Group::Start;
     'bytes: for b in text {
@@ -153,7 +153,7 @@ fn lines_fit(text: &[u8]) -> bool
 
 /// Whether the lines are strict base64 when they are joined.
 fn is_base64(text: &[u8]) -> bool
-    ensures { result ≡ text64.is_base64 (text64.joined text.now) }
+    ensures { result ≡ text64.is_base64 (text64.joined_text text.now) }
 {
     fills_groups(text)
 }

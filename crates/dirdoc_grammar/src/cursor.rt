@@ -6,7 +6,7 @@ ghost use Rattle.dirdoc_grammar.specs.Cursors.{behind, fed_by, IsAt, IsOver, NoN
 ghost use Rattle.dirdoc_grammar.specs.Feeding.{EndsNoEarlier, IfItem, IfNotYet, Takes};
 ghost use Rattle.dirdoc_grammar.specs.declared.take.Take.TheVariants.{NotYet};
 ghost use Rattle.dirdoc_grammar.specs.Reading.{IsOf};
-ghost use Rattle.dirdoc_grammar.specs.Seen.{seen, LiesInOrder};
+ghost use Rattle.dirdoc_grammar.specs.Seen.{seen_item, LiesInOrder};
 
 use crate::bytes::{begins_dash, line_len};
 use crate::front::{Found, Phase, Stop, between, next_item, whole_item};
@@ -133,7 +133,7 @@ impl Cursor {
         ensures later { IfNotYet result.0 (EndsNoEarlier (length bytes.now) (fed_by result.1 bytes.now false)) }
         ensures at { IsAt bytes.now result.1 }
         ensures limit { result.1.limit ≡ self.limit }
-        ensures order { IfItem result.0 (λ item. LiesInOrder (seen item)) }
+        ensures order { IfItem result.0 (λ item. LiesInOrder (seen_item item)) }
     {
         match whole_item(bytes, self.stop.item, self.limit) {
             Ok(Some(item)) => (
@@ -172,7 +172,7 @@ impl Cursor {
         ensures later { IfNotYet result.0 (EndsNoEarlier (length bytes.now) (fed_by result.1 bytes.now false)) }
         ensures at { IsAt bytes.now result.1 }
         ensures limit { result.1.limit ≡ self.limit }
-        ensures order { IfItem result.0 (λ item. LiesInOrder (seen item)) }
+        ensures order { IfItem result.0 (λ item. LiesInOrder (seen_item item)) }
     {
         match next_item(bytes, self.stop.item, self.limit) {
             Found::Whole(item) => (
@@ -202,7 +202,7 @@ impl Cursor {
         ensures later { IfNotYet result.0 (EndsNoEarlier (length bytes.now) (fed_by result.1 bytes.now false)) }
         ensures at { IsAt bytes.now result.1 }
         ensures limit { result.1.limit ≡ self.limit }
-        ensures order { IfItem result.0 (λ item. LiesInOrder (seen item)) }
+        ensures order { IfItem result.0 (λ item. LiesInOrder (seen_item item)) }
     {
         if self.waits(bytes) {
             return (Take::NotYet, self);
@@ -218,7 +218,7 @@ impl Cursor {
         ensures later { IfNotYet result.0 (EndsNoEarlier (length bytes.now) (fed_by result.1 bytes.now false)) }
         ensures at { IsAt bytes.now result.1 }
         ensures limit { result.1.limit ≡ self.limit }
-        ensures order { IfItem result.0 (λ item. LiesInOrder (seen item)) }
+        ensures order { IfItem result.0 (λ item. LiesInOrder (seen_item item)) }
     {
         match self.stop.phase {
             Phase::Object(_) => self.onward(bytes).take_quietly(bytes),
@@ -234,7 +234,7 @@ impl Cursor {
         ensures later { IfNotYet result (EndsNoEarlier (length bytes.now) (fed_by self.new bytes.now false)) }
         ensures at { IsAt bytes.now self.new }
         ensures limit { self.new.limit ≡ self.old.limit }
-        ensures order { IfItem result (λ item. LiesInOrder (seen item)) }
+        ensures order { IfItem result (λ item. LiesInOrder (seen_item item)) }
     {
         if finished {
             let (taken, cursor) = self.take_last(bytes);

@@ -3,7 +3,7 @@
 ghost use Rattle.std.specs.Prelude.{◌≤◌, ◌<◌, ◌^◌, ◌≡◌, length, IfOk, IfSome};
 ghost use Rattle.dirdoc_grammar.specs.Reading.{all_of, last_of, Finds, IfWhole, LastOf};
 ghost use Rattle.dirdoc_grammar.specs.declared.front.Phase.TheVariants.{Between};
-ghost use Rattle.dirdoc_grammar.specs.Seen.{seen, LiesInOrder};
+ghost use Rattle.dirdoc_grammar.specs.Seen.{seen_item, LiesInOrder};
 
 use crate::item::Item;
 use crate::line::{at, line_at};
@@ -48,7 +48,7 @@ pub(crate) fn next_item<'a>(bytes: &'a [u8], place: usize, limit: u64) -> Found<
     requires within { place ≤ length bytes.now }
     requires short { length bytes.now < 2 ^ 62 }
     ensures found { Finds limit place bytes.now result }
-    ensures order { IfWhole result (λ whole. LiesInOrder (seen whole)) }
+    ensures order { IfWhole result (λ whole. LiesInOrder (seen_item whole)) }
 {
     let mut line = place;
     'lines: while line < bytes.len() {
@@ -108,7 +108,7 @@ fn last_of<'a>(
 /// The fault that was found, or that the bytes end within a line or an object.
 fn all_of<'a>(length: u64, found: Found<'a>) -> Result<Option<Item<'a>>, DocFault>
     ensures value { result ≡ all_of length found.entry }
-    ensures order { IfWhole found.entry (λ whole. LiesInOrder (seen whole)) → IfOk result (λ item. IfSome item (λ i. LiesInOrder (seen i))) }
+    ensures order { IfWhole found.entry (λ whole. LiesInOrder (seen_item whole)) → IfOk result (λ item. IfSome item (λ i. LiesInOrder (seen_item i))) }
 {
     match found {
         Found::Whole(item) => Ok(Some(item)),
@@ -129,7 +129,7 @@ pub(crate) fn whole_item(
     requires within { place ≤ length bytes.now }
     requires short { length bytes.now < 2 ^ 62 }
     ensures item { LastOf limit place bytes.now result }
-    ensures order { IfOk result (λ item. IfSome item (λ i. LiesInOrder (seen i))) }
+    ensures order { IfOk result (λ item. IfSome item (λ i. LiesInOrder (seen_item i))) }
 {
     all_of(bytes.len() as u64, next_item(bytes, place, limit))
 }

@@ -1,11 +1,11 @@
 // An item of a document and its object, borrowed from the document's bytes.
 
 ghost use Rattle.std.specs.Prelude.{◌≡◌, IfOk, Ok, Some, option_map, true};
-ghost use Rattle.item_terms.specs.Base64Text.{is_base64, is_body, joined};
+ghost use Rattle.item_terms.specs.Base64Text.{is_base64, is_body, joined_text};
 ghost use Rattle.item_terms.specs.Words as line_words;
 ghost use Rattle.base64.specs.Engines.{standard};
 ghost use Rattle.base64.specs.GeneralPurpose.{decode_of};
-ghost use Rattle.dirdoc_grammar.specs.Bodies.{decoded};
+ghost use Rattle.dirdoc_grammar.specs.Bodies.{decoded_bytes};
 
 use crate::bytes::first_word;
 use base64::DecodeAllocError;
@@ -27,9 +27,9 @@ pub struct ObjectText<'a> {
 
 impl ObjectText<'_> {
     /// The bytes that the lines spell. Fails only for want of memory.
-    #[tactic(auto, unfolding(crate::specs::Bodies::decoded))]
+    #[tactic(auto, unfolding(crate::specs::Bodies::decoded_bytes))]
     pub fn decode(&self, alloc: Global) -> Result<Vec<u8>, AllocError>
-        ensures { IfOk result (λ bytes. decoded self.now.lines.now ≡ Some bytes.items) }
+        ensures { IfOk result (λ bytes. decoded_bytes self.now.lines.now ≡ Some bytes.items) }
     {
         let text = joined_lines(alloc, self.lines)?;
         decode_strict(alloc, &text)
@@ -38,7 +38,7 @@ impl ObjectText<'_> {
 
 /// The lines without their NLs. Fails only for want of memory.
 fn joined_lines(alloc: Global, lines: &[u8]) -> Result<Vec<u8>, AllocError>
-    ensures { IfOk result (λ text. text.items ≡ joined lines.now) }
+    ensures { IfOk result (λ text. text.items ≡ joined_text lines.now) }
 {
     let mut text = Vec::with_capacity(alloc, lines.len())?;
     let mut rest = lines;
@@ -63,9 +63,9 @@ fn decode_strict(alloc: Global, text: &[u8]) -> Result<Vec<u8>, AllocError>
 
 /// The bytes that the lines of an object spell, or nothing where they are no strict base64. Fails
 /// only for want of memory.
-#[tactic(auto, unfolding(crate::specs::Bodies::decoded))]
+#[tactic(auto, unfolding(crate::specs::Bodies::decoded_bytes))]
 pub fn decode_lines(alloc: Global, lines: &[u8]) -> Result<Option<Vec<u8>>, AllocError>
-    ensures { IfOk result (λ found. option_map (λ bytes. bytes.items) found ≡ decoded lines.now) }
+    ensures { IfOk result (λ found. option_map (λ bytes. bytes.items) found ≡ decoded_bytes lines.now) }
 {
     let text = joined_lines(alloc, lines)?;
     match STANDARD.decode(alloc, &text) {

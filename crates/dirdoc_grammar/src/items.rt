@@ -2,7 +2,7 @@
 
 ghost use Rattle.std.specs.Prelude.{◌≤◌, ◌<◌, ◌≡◌, ◌^◌, drop, length, IfOk, IfSome};
 ghost use Rattle.item_terms.specs.Items.{contents, items_of, items_from, nothing, Contents};
-ghost use Rattle.dirdoc_grammar.specs.Seen.{seen, Gives, LiesInOrder};
+ghost use Rattle.dirdoc_grammar.specs.Seen.{seen_item, Gives, LiesInOrder};
 
 use crate::front::whole_item;
 use crate::item::Item;
@@ -60,7 +60,7 @@ impl<'a> Items<'a> {
     /// The first fault of the document, once its line or its object is reached, and from then on.
     pub fn next(&mut self) -> Result<Option<Item<'a>>, DocFault>
         ensures given { Gives self.old result self.new }
-        ensures inside { IfOk result (λ item. IfSome item (λ i. LiesInOrder (seen i) × (i.after < 2 ^ 62))) }
+        ensures inside { IfOk result (λ item. IfSome item (λ i. LiesInOrder (seen_item i) × (i.after < 2 ^ 62))) }
     {
         match whole_item(self.bytes, self.place, self.limit) {
             Ok(Some(item)) => {

@@ -5,7 +5,7 @@ ghost use Rattle.item_terms.specs.Steps.{line_item};
 ghost use Rattle.item_terms.specs.Faults as faults;
 ghost use Rattle.item_terms.specs.Faults.{line_fault};
 ghost use Rattle.dirdoc_grammar.specs.Reading.{first_line, Reads};
-ghost use Rattle.dirdoc_grammar.specs.Seen.{seen, seen_if, LiesInOrder};
+ghost use Rattle.dirdoc_grammar.specs.Seen.{seen_item, seen_if, LiesInOrder};
 
 use crate::bytes::{
     begins_keyword, ends_or_blank, front_blanks, is_blank_line, keyword_len, line_len, nul_in,
@@ -68,7 +68,7 @@ pub fn first_line_of(rest: &[u8], place: u64, limit: u64) -> Result<&[u8], DocFa
 fn item_of(text: &[u8], place: u64) -> Result<Option<Item<'_>>, DocFault>
     requires { place + length text.now < 2 ^ 63 }
     ensures after { IfOk result (λ item. IfSome item (λ i. i.after ≡ place + length text.now + 1)) }
-    ensures order { IfOk result (λ item. IfSome item (λ i. LiesInOrder (seen i))) }
+    ensures order { IfOk result (λ item. IfSome item (λ i. LiesInOrder (seen_item i))) }
     ensures item { MatchResult result
         (λ item. line_item place (record { text = text.now; ended = true }) ≡ Ok (seen_if item))
         (λ fault. line_item place (record { text = text.now; ended = true }) ≡ Err fault) }
@@ -102,7 +102,7 @@ pub fn line_at(
     requires inside { place < length bytes.now }
     requires short { length bytes.now < 2 ^ 62 }
     ensures read { Reads limit place bytes.now result }
-    ensures order { IfOk result (λ r. IfSome r.0 (λ i. LiesInOrder (seen i))) }
+    ensures order { IfOk result (λ r. IfSome r.0 (λ i. LiesInOrder (seen_item i))) }
 {
     let text = first_line_of(&bytes[place..], place as u64, limit)?;
     let item = item_of(text, place as u64)?;

@@ -4,7 +4,7 @@ ghost use Rattle.std.specs.Prelude.{◌+◌, ◌<◌, ◌≡◌, ◌≤◌, ◌^
 ghost use Rattle.item_terms.specs.Steps.{object_step};
 ghost use Rattle.item_terms.specs.Words as line_words;
 ghost use Rattle.dirdoc_grammar.specs.Reading.{last_step, object_of, BeginsObject, FindsLines, FindsObject, FindsObjectLine, IfWhole, IsFault};
-ghost use Rattle.dirdoc_grammar.specs.Seen.{seen, LiesInOrder};
+ghost use Rattle.dirdoc_grammar.specs.Seen.{seen_item, LiesInOrder};
 
 use crate::base64_text::is_body;
 use crate::bytes::{are_words, begins_dash, line_size};
@@ -72,12 +72,12 @@ fn end_of_object<'a>(
 ) -> Result<Item<'a>, DocFault>
     requires fits { place + length text.now < 2 ^ 63 }
     requires dash { line_words.begins_dash text.now ≡ true }
-    requires order { LiesInOrder (seen item) }
+    requires order { LiesInOrder (seen_item item) }
     requires later { item.after ≤ place }
     requires lines { body.start + length body.lines.now ≤ place }
     ensures after { IfOk result (λ whole. whole.after ≡ place + length text.now + 1) }
-    ensures order { IfOk result (λ whole. LiesInOrder (seen whole)) }
-    ensures step { object_step (seen item.entry) begin (object_of body.entry) place (record { text = text.now; ended = true }) ≡ last_step result }
+    ensures order { IfOk result (λ whole. LiesInOrder (seen_item whole)) }
+    ensures step { object_step (seen_item item.entry) begin (object_of body.entry) place (record { text = text.now; ended = true }) ≡ last_step result }
 {
     let Body {
         words,
@@ -121,7 +121,7 @@ fn first_object_line(bytes: &[u8], begin: usize, limit: u64) -> Result<(&[u8], u
 /// What a fault says that was found in the line at a place.
 fn stopped<'a>(fault: DocFault, line: usize, phase: Phase) -> Found<'a>
     ensures fault { IsFault result fault line phase }
-    ensures order { IfWhole result (λ whole. LiesInOrder (seen whole)) }
+    ensures order { IfWhole result (λ whole. LiesInOrder (seen_item whole)) }
 {
     match fault.reason {
         DocReason::Unterminated => Found::Open(
@@ -147,9 +147,9 @@ fn lines_of<'a>(
     requires begins { item.after < first }
     requires inside { first ≤ length bytes.now }
     requires short { length bytes.now < 2 ^ 62 }
-    requires order { LiesInOrder (seen item) }
+    requires order { LiesInOrder (seen_item item) }
     ensures object { FindsLines limit bytes.now item.entry words.entry.now first result }
-    ensures order { IfWhole result (λ whole. LiesInOrder (seen whole)) }
+    ensures order { IfWhole result (λ whole. LiesInOrder (seen_item whole)) }
 {
     let begin = item.after as usize;
     let mut place = first;
@@ -185,9 +185,9 @@ fn lines_of<'a>(
 pub fn with_object<'a>(bytes: &'a [u8], item: Item<'a>, limit: u64) -> Found<'a>
     requires inside { item.after ≤ length bytes.now }
     requires short { length bytes.now < 2 ^ 62 }
-    requires order { LiesInOrder (seen item) }
+    requires order { LiesInOrder (seen_item item) }
     ensures object { FindsObject limit bytes.now item.entry result }
-    ensures order { IfWhole result (λ whole. LiesInOrder (seen whole)) }
+    ensures order { IfWhole result (λ whole. LiesInOrder (seen_item whole)) }
 {
     let begin = item.after as usize;
     if begin == bytes.len() {

@@ -4,7 +4,7 @@ ghost use Rattle.std.specs.Prelude.{◌≡◌, ◌≤◌, ◌++◌, ◌∷◌, [
 ghost use Rattle.item_terms.specs.Words as line_words;
 ghost use Rattle.dirdoc_grammar.specs.Bodies.{base64_of, body_text, object_text};
 ghost use Rattle.dirdoc_grammar.specs.Writing.{IsKeyword, IsLineRest, tail};
-ghost use Rattle.dirdoc_grammar.specs.Writers.{added, ends_line, in_line, is_argument};
+ghost use Rattle.dirdoc_grammar.specs.Writers.{longer_draft, ends_line, in_line, is_argument};
 
 use base64::encoded_len;
 use base64::engine::general_purpose::STANDARD;
@@ -59,7 +59,7 @@ impl Writer {
     pub fn begin(&mut self, keyword: &[u8]) -> Result<(), AllocError>
         requires stage { in_line self.old.stage ≡ false }
         requires keyword { IsKeyword keyword.now }
-        ensures ok { OnOk result (self.new ≡ added self.old keyword.now Stage.Begun) }
+        ensures ok { OnOk result (self.new ≡ longer_draft self.old keyword.now Stage.Begun) }
         ensures err { OnErr result (self.new ≡ self.old) }
     {
         self.text.extend_from_slice(keyword)?;
@@ -71,7 +71,7 @@ impl Writer {
     pub fn argument(&mut self, bytes: &[u8]) -> Result<(), AllocError>
         requires stage { self.old.stage ≡ Stage.Begun }
         requires argument { is_argument bytes.now ≡ true }
-        ensures ok { OnOk result (self.new ≡ added self.old (32 ∷ bytes.now) Stage.Begun) }
+        ensures ok { OnOk result (self.new ≡ longer_draft self.old (32 ∷ bytes.now) Stage.Begun) }
         ensures err { OnErr result (self.new ≡ self.old) }
     {
         push_behind_space(&mut self.text, bytes)
@@ -82,7 +82,7 @@ impl Writer {
     pub fn rest(&mut self, bytes: &[u8]) -> Result<(), AllocError>
         requires stage { self.old.stage ≡ Stage.Begun }
         requires rest { IsLineRest bytes.now }
-        ensures ok { OnOk result (self.new ≡ added self.old (tail bytes.now) Stage.Rested) }
+        ensures ok { OnOk result (self.new ≡ longer_draft self.old (tail bytes.now) Stage.Rested) }
         ensures err { OnErr result (self.new ≡ self.old) }
     {
         if !bytes.is_empty() {
@@ -95,7 +95,7 @@ impl Writer {
     /// Ends the line. Without memory the writer stays as it was.
     pub fn end(&mut self) -> Result<(), AllocError>
         requires { in_line self.old.stage ≡ true }
-        ensures ok { OnOk result (self.new ≡ added self.old (10 ∷ []) Stage.Ended) }
+        ensures ok { OnOk result (self.new ≡ longer_draft self.old (10 ∷ []) Stage.Ended) }
         ensures err { OnErr result (self.new ≡ self.old) }
     {
         self.text.push(b'\n')?;
@@ -108,7 +108,7 @@ impl Writer {
     pub fn object(&mut self, words: &[u8], bytes: &[u8]) -> Result<(), AllocError>
         requires stage { self.old.stage ≡ Stage.Ended }
         requires words { line_words.are_words true words.now ≡ true }
-        ensures ok { OnOk result (self.new ≡ added self.old (object_text words.now bytes.now) Stage.Between) }
+        ensures ok { OnOk result (self.new ≡ longer_draft self.old (object_text words.now bytes.now) Stage.Between) }
         ensures err { OnErr result (self.new ≡ self.old) }
     {
         let before = self.text.len();

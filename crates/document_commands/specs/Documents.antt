@@ -2,7 +2,7 @@
 use Rattle.std.specs.Prelude.{ℕ, List, Option, Some, None, Result, Ok, Err}
 use Rattle.frame_terms.specs.declared.fault.FrameReason.TheVariants.{Order}
 use Rattle.frame_terms.specs.declared.fault.ReadRefusal.{ReadRefusal}
-use Rattle.frame_terms.specs.Refusals.{refused}
+use Rattle.frame_terms.specs.Refusals.{refusal_at}
 use Rattle.authority_certs.specs.declared.cert.Cert.{Cert}
 use Rattle.authority_certs.specs.Reading.{cert_of}
 use Rattle.vote_terms.specs.Votes.{ReadVote}
@@ -31,7 +31,7 @@ pub data Document : Type 0 where
 -- what was read, unless another line stands at a place behind it: that line is out of order
 abbrev pub unless_more : {X : Type 0} → X → Option ℕ → Result X ReadRefusal
 unless_more document None = Ok document
-unless_more document (Some place) = Err (refused place Order)
+unless_more document (Some place) = Err (refusal_at place Order)
 
 -- what was read, where nothing but blank lines follows
 abbrev pub whole : {X : Type 0} → List ℕ → Result (X × ℕ) ReadRefusal → Result X ReadRefusal

@@ -23,7 +23,7 @@ use Rattle.consensus_frame.specs.Lines.{relay_of, version_of, with_word, with_wo
 use Rattle.consensus_frame.specs.Tables.{signature_of}
 use Rattle.consensus_frame.specs.declared.line.Said.{Said}
 use Rattle.fault_places.proofs.ArgumentPlaces.{Begins, EachBegins, PlaceIn, others_begin}
-use Rattle.fault_places.proofs.ItemPlaces.{IsItemIn, all_begin, begins, more_in, one_in, then_in}
+use Rattle.fault_places.proofs.ItemPlaces.{IsItemIn, all_begin, front_argument_begins, more_in, one_in, then_in}
 use Rattle.fault_places.proofs.ItemPlaces as places
 use Rattle.fault_places.proofs.Placed.{last_in}
 
@@ -35,11 +35,11 @@ module _ (n : ℕ) where
   both_in (Ok value) more is each = each value
 
   word_in : (word : List ℕ) (a : Argument) → Begins n a → PlaceIn n (word_here word a)
-  word_in word a begins = by (bytes_eq a.text word)
+  word_in word a front_argument_begins = by (bytes_eq a.text word)
     where
       by : (t : Bool) → PlaceIn {A = Unit {0}} n (if t then Ok tt else Err a.place)
       by true = tt
-      by false = begins
+      by false = front_argument_begins
 
   words_in : (said : Said) (arguments : List Argument) → EachBegins n arguments → PlaceIn n (with_words said arguments)
   unfolding with_words
@@ -56,7 +56,7 @@ module _ (n : ℕ) (item : Item) (is : IsItemIn n item) where
   flavour_in Ns [] each = tt
   flavour_in Ns (argument ∷ rest) each = each.0
   flavour_in Microdesc arguments each =
-      word_in n (codes "microdesc") (front item.place arguments) (begins n item is arguments each)
+      word_in n (codes "microdesc") (front item.place arguments) (front_argument_begins n item is arguments each)
 
   pub version_in : (flavour : Flavour) → PlaceIn n (version_of flavour item)
   version_in flavour =
@@ -64,7 +64,7 @@ module _ (n : ℕ) (item : Item) (is : IsItemIn n item) where
       let l1 = others l0 in
       let e0 = all_begin n item is in
       both_in n (word_here (codes "3") (front item.place l0)) _
-      (word_in n (codes "3") (front item.place l0) (begins n item is l0 e0))
+      (word_in n (codes "3") (front item.place l0) (front_argument_begins n item is l0 e0))
       (λ version. flavour_in flavour l1 (others_begin n l0 e0))
 
   -- ---- relays
@@ -73,7 +73,7 @@ module _ (n : ℕ) (item : Item) (is : IsItemIn n item) where
       → PlaceIn n (digest_here flavour item.place arguments)
   digest_in Ns arguments each =
       let first = front item.place arguments in
-      one_in n first (digest1 first.text) (begins n item is arguments each)
+      one_in n first (digest1 first.text) (front_argument_begins n item is arguments each)
   digest_in Microdesc arguments each = tt
 
   behind_digest : (flavour : Flavour) (arguments : List Argument) → EachBegins n arguments
@@ -106,14 +106,14 @@ module _ (n : ℕ) (item : Item) (is : IsItemIn n item) where
       let f = front item.place l5 in
       let g = front item.place l6 in
       let h = front item.place l7 in
-      more_in n a (span_if (is_nickname a.text) a) _ (begins n item is l0 e0) (λ nickname.
-      more_in n b (identity b.text) _ (begins n item is l1 e1) (λ fingerprint.
+      more_in n a (span_if (is_nickname a.text) a) _ (front_argument_begins n item is l0 e0) (λ nickname.
+      more_in n b (identity b.text) _ (front_argument_begins n item is l1 e1) (λ fingerprint.
       both_in n (digest_here flavour item.place l2) _ (digest_in flavour l2 e2) (λ digest.
-      more_in n d (date d.text) _ (begins n item is l3 e3) (λ days.
-      more_in n e (time_of_day e.text) _ (begins n item is l4 e4) (λ seconds.
-      more_in n f (address f.text) _ (begins n item is l5 e5) (λ ip_number.
-      more_in n g (port_of g.text) _ (begins n item is l6 e6) (λ or_number.
-      last_in n h (port_of h.text) _ (begins n item is l7 e7))))))))
+      more_in n d (date d.text) _ (front_argument_begins n item is l3 e3) (λ days.
+      more_in n e (time_of_day e.text) _ (front_argument_begins n item is l4 e4) (λ seconds.
+      more_in n f (address f.text) _ (front_argument_begins n item is l5 e5) (λ ip_number.
+      more_in n g (port_of g.text) _ (front_argument_begins n item is l6 e6) (λ or_number.
+      last_in n h (port_of h.text) _ (front_argument_begins n item is l7 e7))))))))
 
   -- ---- bandwidth
 

@@ -17,7 +17,7 @@ use Rattle.frame_values.specs.Lines.{delays_of, flags_of, literal, source_of, ti
 use Rattle.frame_values.specs.declared.values.Value.{Value}
 use Rattle.frame_values.specs.declared.values.Value.TheVariants as value
 use Rattle.value_groups.specs.Lines.{random_of}
-use Rattle.relay_entries.specs.Lines.{entry_value, lifted}
+use Rattle.relay_entries.specs.Lines.{entry_value, lifted_entry_value}
 use Rattle.relay_entries.specs.Listing.{fault_at, is_next, note_entry, with_key, with_relay}
 use Rattle.relay_entries.specs.declared.listed.Listed.{Listed}
 use Rattle.relay_entries.specs.declared.said.EdOpinion.TheVariants as opinion
@@ -88,7 +88,7 @@ module _ (n : ℕ) (item : Item) (is : IsItemIn n item) where
   value_in flavour across kind.Bandwidth = then_in n (bandwidth_of item) _ (bandwidth_in n item is)
   value_in flavour across kind.MicroDigest = then_in n (micro_digest_of item) _ micro_digest_in
   value_in flavour across (kind.Entry of_kind) =
-      then_in n (entry_value of_kind item) (λ (said : Value EntryValue). lifted own.Entry said)
+      then_in n (entry_value of_kind item) (λ (said : Value EntryValue). lifted_entry_value own.Entry said)
       (entry_in n item is of_kind)
 
 -- ---- what is remembered

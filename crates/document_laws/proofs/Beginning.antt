@@ -11,7 +11,7 @@ use Rattle.frame_terms.specs.declared.section.Again.{Again}
 use Rattle.frame_terms.specs.declared.section.Again.TheVariants as again
 use Rattle.frame_terms.specs.Documents.{Document, group}
 use Rattle.frame_terms.specs.Keywords.{same}
-use Rattle.frame_terms.specs.Order.{following, opener}
+use Rattle.frame_terms.specs.Order.{following_sections, opener}
 use Rattle.frame_terms.specs.Tables.{Tables}
 use Rattle.frame_laws.proofs.KnownWords.{same-sym}
 use Rattle.document_laws.specs.Counts.{RowsStand}
@@ -59,8 +59,8 @@ module _ {S K V X : Type 0} (tables : Tables S K V X) (clear : AreClear tables) 
 
   -- ---- the order of what comes behind a section
 
-  following_next : (section next : S) → IsListed tables section → (is : IsAfter tables (following tables section) next)
-      → following tables next ≡ is.rest
+  following_next : (section next : S) → IsListed tables section → (is : IsAfter tables (following_sections tables section) next)
+      → following_sections tables next ≡ is.rest
   following_next section next listed is =
       following_is tables (listed.front ++ section ∷ is.skipped) next is.rest
       (listed.parts
@@ -68,7 +68,7 @@ module _ {S K V X : Type 0} (tables : Tables S K V X) (clear : AreClear tables) 
       ∙ sym (append_assoc listed.front (section ∷ is.skipped) (next ∷ is.rest))) clear.sound.apart
 
   behind_later : (section next : S) (standing : List S) → IsListed tables section
-      → IsAfter tables (following tables section) next → ComeBehind tables next standing
+      → IsAfter tables (following_sections tables section) next → ComeBehind tables next standing
       → ComeBehind tables section (next ∷ standing)
   behind_later section next standing listed is behind_ = record {
     number = 0;
@@ -105,7 +105,7 @@ module _ {S K V X : Type 0} (tables : Tables S K V X) (clear : AreClear tables) 
       → ComeBehind tables section (next ∷ standing)
   come_behind section next standing listed (inl later) behind_ =
       behind_later section next standing listed
-      (opened_after tables later.keyword (following tables section) next later.opened later.passes_none) behind_
+      (opened_after tables later.keyword (following_sections tables section) next later.opened later.passes_none) behind_
   come_behind section next standing listed (inr once_more) behind_ =
       behind_again section next standing once_more.same_name once_more.repeats behind_
 

@@ -12,9 +12,9 @@ use Rattle.frame_terms.specs.declared.keyword.Keyword.{Keyword}
 use Rattle.frame_terms.specs.declared.row.Row.{Row}
 use Rattle.frame_terms.specs.Documents.{Document, group}
 use Rattle.frame_terms.specs.Keywords.{same}
-use Rattle.frame_terms.specs.Order.{following, must_open}
+use Rattle.frame_terms.specs.Order.{following_sections, must_open}
 use Rattle.frame_terms.specs.Rows.{is_many, is_one}
-use Rattle.frame_terms.specs.Sections.{lacking, row_of, stands}
+use Rattle.frame_terms.specs.Sections.{lacking_keyword, row_of, stands}
 use Rattle.frame_terms.specs.Tables.{Tables}
 use Rattle.frame_laws.proofs.KnownWords.{same-sym, same-through}
 use Rattle.document_laws.specs.Counts.{RowsStand, RowsStandAsOften, times}
@@ -92,7 +92,7 @@ module _ {S K V X : Type 0} (tables : Tables S K V X) where
   -- ---- once
 
   -- a section that lacks nothing
-  pub there_all : (section : S) (taken : List (Taken V)) → lacking (tables.rows section) taken ≡ None
+  pub there_all : (section : S) (taken : List (Taken V)) → lacking_keyword (tables.rows section) taken ≡ None
       → AreThere section taken
   there_all section taken none keyword row e has_to =
       let test : Row K → Bool = λ row. is_one row.count && not (stands row.keyword taken) in
@@ -158,7 +158,7 @@ module _ {S K V X : Type 0} (tables : Tables S K V X) where
 
   -- a section that ends before an item, and one that ends with it
   whole_rows : (section : S) (taken : List (Taken V)) → AreFew section taken
-      → lacking (tables.rows section) taken ≡ None → RowsStand tables section taken
+      → lacking_keyword (tables.rows section) taken ≡ None → RowsStand tables section taken
   whole_rows section taken few none = rows_stand section taken few (there_all section taken none)
 
   ended_rows : (across : X) (section : S) (taken : List (Taken V)) (item : Item) (one : Taken V)
@@ -172,7 +172,7 @@ module _ {S K V X : Type 0} (tables : Tables S K V X) where
   counts_stand length fault = record {
     closes = λ across section taken around missing no_fault is.
         in_alone section taken (whole_rows section taken is.here
-        (neither (lacking (tables.rows section) taken) (must_open tables (following tables section)) missing).0);
+        (neither (lacking_keyword (tables.rows section) taken) (must_open tables (following_sections tables section)) missing).0);
     passes = λ across open_ item items document may rest is. rest is;
     starts = λ across next item items document one may note rest is.
         rest (record { here = few_one tables.first one; around = tt });

@@ -11,8 +11,8 @@ use Rattle.frame_terms.specs.declared.document.Taken.{Taken}
 use Rattle.frame_terms.specs.Decisions.{beyond_inner}
 use Rattle.frame_terms.specs.Documents.{Document, group}
 use Rattle.frame_terms.specs.Keywords.{same, word_of}
-use Rattle.frame_terms.specs.Order.{following, must_open, opener}
-use Rattle.frame_terms.specs.Sections.{lacking}
+use Rattle.frame_terms.specs.Order.{following_sections, must_open, opener}
+use Rattle.frame_terms.specs.Sections.{lacking_keyword}
 use Rattle.frame_terms.specs.Tables.{Tables}
 use Rattle.frame_laws.proofs.KnownWords.{same-sym}
 use Rattle.document_laws.specs.Order.{AreInOrder}
@@ -28,7 +28,7 @@ use Rattle.document_laws.proofs.Beginning.{begins_all, may_more, opener_regarded
 use Rattle.document_laws.proofs.Entering.{enters_tail, entrance_new, entrance_within, leaves_inner, stands_last, within_of}
 use Rattle.document_laws.proofs.Places.{end_of, follows, opens_inside}
 use Rattle.document_laws.proofs.Reading.{documents_are_read}
-use Rattle.document_laws.proofs.Resting.{RestOf, adds_rest, both, closes_rest, count_first, count_rest}
+use Rattle.document_laws.proofs.Resting.{RestOf, adds_rest, has_rest, closes_rest, count_first, count_rest}
 use Rattle.document_laws.proofs.Resting.{ends_rest, has_last, no_last, passes_rest, stops_rest}
 use Rattle.document_laws.proofs.Tails.{HasAll}
 use Rattle.document_laws.proofs.Walk.{Rules, holds}
@@ -87,7 +87,7 @@ module _ {S K V X : Type 0} (tables : Tables S K V X) (clear : AreClear tables) 
           opens = is.opens;
           not_ended = begun_not_ended tables clear other one is.opens;
         })).any in
-        both tables clear length fault section first taken across (item ∷ items) (behind whole document)
+        has_rest tables clear length fault section first taken across (item ∷ items) (behind whole document)
         (λ Middle extends.
         opens_tail tables length fault clear section Middle extends first taken across other (item ∷ items) document
         top.listed ended (count_first tables clear length fault whole document.groups counts) is.follows all)
@@ -170,7 +170,7 @@ module _ {S K V X : Type 0} (tables : Tables S K V X) (clear : AreClear tables) 
     parts_stand : Rules tables length fault Rest
     parts_stand = record {
       closes = λ across section taken around missing no_fault.
-          let none = neither (lacking (tables.rows section) taken) (must_open tables (following tables section)) missing in
+          let none = neither (lacking_keyword (tables.rows section) taken) (must_open tables (following_sections tables section)) missing in
           closes_rest tables clear length fault across section taken around none.0 none.1 no_fault;
       passes = λ across section first taken around item items document is near rest.
           passes_rest tables clear length fault across section first taken around item items document is near rest;

@@ -4,7 +4,7 @@ use Rattle.std.proofs.Common.{subst, ◌∙◌, append_assoc, inl, inr}
 use Rattle.std.specs.Prelude.{◌⊎◌, replicate, if◌then◌else◌}
 use Rattle.frame_terms.specs.declared.section.Again.{Again}
 use Rattle.frame_terms.specs.declared.section.Again.TheVariants as again
-use Rattle.frame_terms.specs.Order.{following, must_open, opener, repeats}
+use Rattle.frame_terms.specs.Order.{following_sections, must_open, opener, repeats}
 use Rattle.frame_terms.specs.Tables.{Tables}
 use Rattle.document_laws.specs.Order.{AreInOrder, MayStand}
 use Rattle.document_laws.proofs.Lists.{IsAfter}
@@ -36,7 +36,7 @@ module _ {S K V X : Type 0} (tables : Tables S K V X) where
     pub others : List S
     pub are : standing ≡ replicate number section ++ others
     pub may : (number ≡ 0) ⊎ ((tables.shape section).again ≡ again.Section)
-    pub in_order : AreInOrder tables (following tables section) others
+    pub in_order : AreInOrder tables (following_sections tables section) others
 
   -- the next of a list that stands, and those behind it
   record HasNext (list : List S) (next : S) (names : List S) : Type 0 where
@@ -105,14 +105,14 @@ module _ {S K V X : Type 0} (tables : Tables S K V X) where
       by_number (suc n) e may further = absurd (no_list section (replicate n section ++ others) (sym e))
 
   -- nothing stands behind a section: none has to
-  pub last_must : (section : S) → ComeBehind section [] → must_open tables (following tables section) ≡ None
+  pub last_must : (section : S) → ComeBehind section [] → must_open tables (following_sections tables section) ≡ None
   last_must section behind = by_number behind.number behind.are
     where
       by_number : (number : ℕ) → [] ≡ replicate number section ++ behind.others
-          → must_open tables (following tables section) ≡ None
+          → must_open tables (following_sections tables section) ≡ None
       by_number zero e =
-          none_must (following tables section)
-          (subst (λ (l : List S). AreInOrder tables (following tables section) l) (sym e) behind.in_order)
+          none_must (following_sections tables section)
+          (subst (λ (l : List S). AreInOrder tables (following_sections tables section) l) (sym e) behind.in_order)
       by_number (suc n) e = absurd (no_list section (replicate n section ++ behind.others) (sym e))
 
 module _ {S K V X : Type 0} (tables : Tables S K V X) (clear : AreClear tables) where
@@ -121,10 +121,10 @@ module _ {S K V X : Type 0} (tables : Tables S K V X) (clear : AreClear tables) 
     pub listed : IsListed tables next
     pub behind : ComeBehind tables next names
     pub how : ((next ≡ section) × ((tables.shape section).again ≡ again.Section))
-        ⊎ IsAfter tables (following tables section) next
+        ⊎ IsAfter tables (following_sections tables section) next
 
   -- a section that follows one is one of the document's
-  listed_next : (section next : S) → IsListed tables section → IsAfter tables (following tables section) next
+  listed_next : (section next : S) → IsListed tables section → IsAfter tables (following_sections tables section) next
       → IsListed tables next
   listed_next section next listed is = record {
     front = listed.front ++ section ∷ is.skipped;
@@ -142,8 +142,8 @@ module _ {S K V X : Type 0} (tables : Tables S K V X) (clear : AreClear tables) 
       by_number : (number : ℕ) → next ∷ names ≡ replicate number section ++ behind.others
           → (number ≡ 0) ⊎ ((tables.shape section).again ≡ again.Section) → GoesOn section next names
       by_number zero e may =
-          let later = find_next tables (following tables section) next names
-          (subst (λ (l : List S). AreInOrder tables (following tables section) l) (sym e) behind.in_order) in
+          let later = find_next tables (following_sections tables section) next names
+          (subst (λ (l : List S). AreInOrder tables (following_sections tables section) l) (sym e) behind.in_order) in
           let listed_ = listed_next section next listed later.is_after in
           record {
             listed = listed_;
@@ -175,7 +175,7 @@ module _ {S K V X : Type 0} (tables : Tables S K V X) (clear : AreClear tables) 
 
   -- a section that stands once and that none follows is the last
   pub none_goes : (section next : S) (names : List S) → repeats ((tables.shape section).again) ≡ false
-      → following tables section ≡ [] → ComeBehind tables section (next ∷ names) → ⊥
+      → following_sections tables section ≡ [] → ComeBehind tables section (next ∷ names) → ⊥
   none_goes section next names once none behind = by_number behind.number behind.are behind.may
     where
       by_number : (number : ℕ) → next ∷ names ≡ replicate number section ++ behind.others

@@ -8,7 +8,7 @@ use Rattle.frame_terms.specs.declared.document.Group.{Group}
 use Rattle.frame_terms.specs.declared.document.Taken.{Taken}
 use Rattle.frame_terms.specs.declared.keyword.Keyword.{Keyword}
 use Rattle.frame_terms.specs.Documents.{Document, group}
-use Rattle.frame_terms.specs.Order.{following, is_keyword}
+use Rattle.frame_terms.specs.Order.{following_sections, is_keyword}
 use Rattle.frame_terms.specs.Tables.{Tables}
 use Rattle.document_laws.specs.Counts.{RowsStand}
 use Rattle.document_laws.specs.Order.{AreInOrder, Part, items_of, sections_of}
@@ -23,7 +23,7 @@ use Rattle.document_laws.proofs.Tails.{EndsBehind, HasInnerTail, HasTail, ends_m
 
 module _ {S K V X : Type 0} (tables : Tables S K V X) where
   -- no section behind one
-  pub none_behind : (section : S) → AreInOrder tables (following tables section) [] → ComeBehind tables section []
+  pub none_behind : (section : S) → AreInOrder tables (following_sections tables section) [] → ComeBehind tables section []
   none_behind section in_order = record { number = 0; others = []; are = refl; may = inl refl; in_order = in_order }
 
   -- an item that is the last of its section
@@ -134,7 +134,7 @@ module _ {S K V X : Type 0} (tables : Tables S K V X) (length : ℕ) (fault : Op
   pub ends_tail : (first : Taken V) (taken : List (Taken V)) (across next : X) (item : Item) (items : List Item)
       (one : Taken V) → is_keyword ((tables.shape section).last) one.keyword ≡ true
       → Stands tables across section item one next → RowsStand tables section (first ∷ (taken ++ one ∷ []))
-      → AreInOrder tables (following tables section) []
+      → AreInOrder tables (following_sections tables section) []
       → HasTail tables length fault Middle section first taken across (item ∷ items)
       (alone (group section (first ∷ (taken ++ one ∷ []))) item.after)
   ends_tail first taken across next item items one last is counts in_order = record {

@@ -7,7 +7,7 @@ use Rattle.frame_terms.specs.declared.keyword.Keyword.{Keyword}
 use Rattle.frame_terms.specs.declared.section.Again.{Again}
 use Rattle.frame_terms.specs.declared.section.Again.TheVariants as again
 use Rattle.frame_terms.specs.Keywords.{same}
-use Rattle.frame_terms.specs.Order.{after, following, must_open, opened_by, opener, passed_over, place_of, repeats}
+use Rattle.frame_terms.specs.Order.{after, following_sections, must_open, opened_by, opener, passed_over, place_of, repeats}
 use Rattle.frame_terms.specs.Tables.{Tables}
 use Rattle.frame_laws.proofs.KnownWords.{same-refl}
 use Rattle.document_laws.specs.Order.{AreInOrder, MayStand}
@@ -52,7 +52,7 @@ module _ {S K V X : Type 0} (tables : Tables S K V X) where
 
   -- the sections of a document are some, this one, and those that follow it
   pub following_is : (front : List S) (section : S) (rest : List S) → tables.sections ≡ front ++ section ∷ rest
-      → IsDistinct same (map (λ other. opener tables other) tables.sections) → following tables section ≡ rest
+      → IsDistinct same (map (λ other. opener tables other) tables.sections) → following_sections tables section ≡ rest
   following_is front section rest e apart =
       ap (λ (list : List S). after tables section list) e
       ∙ after_is front section rest

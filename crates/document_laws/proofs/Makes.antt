@@ -18,11 +18,11 @@ use Rattle.frame_terms.specs.declared.section.Again.TheVariants as again
 use Rattle.frame_terms.specs.Decisions.{beyond_inner, first_item, made_first, made_later}
 use Rattle.frame_terms.specs.Decisions.{unless_fault, unless_refused}
 use Rattle.frame_terms.specs.Keywords.{same, word_of}
-use Rattle.frame_terms.specs.Order.{begins_document, first_of, following, inner, is_keyword, is_strange, opened_by, opener}
+use Rattle.frame_terms.specs.Order.{begins_document, first_of, following_sections, inner, is_keyword, is_strange, opened_by, opener}
 use Rattle.frame_terms.specs.Order.{passed_over}
-use Rattle.frame_terms.specs.Refusals.{refused}
+use Rattle.frame_terms.specs.Refusals.{refusal_at}
 use Rattle.frame_terms.specs.Rows.{is_many}
-use Rattle.frame_terms.specs.Sections.{accept, lacking, lacking_but, row_of, stands, taken_as, taken_of}
+use Rattle.frame_terms.specs.Sections.{accept, lacking_keyword, lacking_but, row_of, stands, taken_as, taken_of}
 use Rattle.frame_terms.specs.Standing.{as_made, begins, begins_again, by_keyword, by_row, elsewhere, ends, enters, goes_on}
 use Rattle.frame_terms.specs.Standing.{in_section, unless}
 use Rattle.frame_terms.specs.Tables.{Tables}
@@ -92,7 +92,7 @@ module _ {S K V X : Type 0} (tables : Tables S K V X) (across : X) (item : Item)
       by_test (not (is_many row.count) && stands row.keyword before) refl
     where
       by_test : (test : Bool) → (not (is_many row.count) && stands row.keyword before) ≡ test
-          → Makes May (as_made make (if test then Err (refused item.place (Twice row.keyword))
+          → Makes May (as_made make (if test then Err (refusal_at item.place (Twice row.keyword))
           else taken_as row.keyword item (tables.value_of across row.kind item)))
       by_test true twice = tt
       by_test false once =
@@ -203,7 +203,7 @@ module _ {S K V X : Type 0} (tables : Tables S K V X) (across : X) (section : S)
         regarded = ap (λ (r : Row K). tables.ignores r.kind item) row_is ∙ regarded;
       }))
   makes_on keyword row again.Section known has_row not_last regarded e =
-      makes_unless May item.place (lacking (tables.rows section) taken) _ (λ whole.
+      makes_unless May item.place (lacking_keyword (tables.rows section) taken) _ (λ whole.
       makes_of_row tables across item May section [] keyword row (Opens section) known has_row
       (λ one accepted row_is named. record {
         whole = whole;
@@ -212,7 +212,7 @@ module _ {S K V X : Type 0} (tables : Tables S K V X) (across : X) (section : S)
         follows = inr (record { same_name = refl; repeats = (once_more row e).1 });
       }))
   makes_on keyword row again.Document known has_row not_last regarded e =
-      makes_unless May item.place (lacking (tables.rows section) taken) _
+      makes_unless May item.place (lacking_keyword (tables.rows section) taken) _
       (λ whole. record {
         whole = whole;
         stops = as_next (same (opener tables section) row.keyword) ((tables.shape section).again) e;
@@ -249,7 +249,7 @@ module _ {S K V X : Type 0} (tables : Tables S K V X) (across : X) (section : S)
 
   -- an item of no row of it
   makes_elsewhere : (keyword : Keyword) (other : Option S) → word_of item.keyword ≡ Some keyword
-      → opened_by tables keyword (following tables section) ≡ other
+      → opened_by tables keyword (following_sections tables section) ≡ other
       → Makes May (elsewhere tables across here item keyword other)
   makes_elsewhere keyword None known opened =
       makes_if May (is_strange tables section keyword) _ _ (λ is. tt)
@@ -257,25 +257,25 @@ module _ {S K V X : Type 0} (tables : Tables S K V X) (across : X) (section : S)
       inl (inl (subst (λ (w : Option Keyword). IfSome w (λ k. is_strange tables section k ≡ false)) (sym known) is_unknown)))
   makes_elsewhere keyword (Some other) known opened =
       makes_unless May item.place
-      (first_of (lacking (tables.rows section) taken) (passed_over tables keyword (following tables section))) _
+      (first_of (lacking_keyword (tables.rows section) taken) (passed_over tables keyword (following_sections tables section))) _
       (λ none. makes_begin tables across item May other keyword (Opens other) (row_of (tables.rows other) keyword) known
-      refl (opened_same tables keyword (following tables section) other opened) (λ lacks. inr lacks)
+      refl (opened_same tables keyword (following_sections tables section) other opened) (λ lacks. inr lacks)
       (λ one accepted opens. record {
-        whole = (neither (lacking (tables.rows section) taken) (passed_over tables keyword (following tables section)) none).0;
+        whole = (neither (lacking_keyword (tables.rows section) taken) (passed_over tables keyword (following_sections tables section)) none).0;
         accepted = accepted;
         opens = opens;
         follows = inl (record {
           keyword = keyword;
           opened = opened;
           passes_none =
-              (neither (lacking (tables.rows section) taken) (passed_over tables keyword (following tables section)) none).1;
+              (neither (lacking_keyword (tables.rows section) taken) (passed_over tables keyword (following_sections tables section)) none).1;
         });
       }))
 
   makes_by_row : (keyword : Keyword) (row : Option (Row K)) → word_of item.keyword ≡ Some keyword
       → row_of (tables.rows section) keyword ≡ row → Makes May (by_row tables across here item keyword row)
   makes_by_row keyword None known has_row =
-      makes_elsewhere keyword (opened_by tables keyword (following tables section)) known refl
+      makes_elsewhere keyword (opened_by tables keyword (following_sections tables section)) known refl
   makes_by_row keyword (Some row) known has_row = makes_with_row keyword row known has_row
 
   makes_by_keyword : (word : Option Keyword) → word_of item.keyword ≡ word

@@ -16,10 +16,10 @@ use Rattle.frame_terms.specs.declared.section.Again.{Again}
 use Rattle.frame_terms.specs.declared.section.Again.TheVariants as again
 use Rattle.frame_terms.specs.Decisions.{beyond_inner, made_later, unless_fault}
 use Rattle.frame_terms.specs.Keywords.{same, word_of}
-use Rattle.frame_terms.specs.Order.{first_of, following, inner, is_keyword, is_strange, opened_by, opener, passed_over}
-use Rattle.frame_terms.specs.Refusals.{refused}
+use Rattle.frame_terms.specs.Order.{first_of, following_sections, inner, is_keyword, is_strange, opened_by, opener, passed_over}
+use Rattle.frame_terms.specs.Refusals.{refusal_at}
 use Rattle.frame_terms.specs.Rows.{is_many}
-use Rattle.frame_terms.specs.Sections.{accept, lacking, lacking_but, row_of, stands, taken_as, taken_of}
+use Rattle.frame_terms.specs.Sections.{accept, lacking_keyword, lacking_but, row_of, stands, taken_as, taken_of}
 use Rattle.frame_terms.specs.Standing.{as_made, begins, begins_again, by_keyword, by_row, elsewhere, ends, enters, goes_on}
 use Rattle.frame_terms.specs.Standing.{in_section, unless}
 use Rattle.frame_terms.specs.Tables.{Tables}
@@ -94,7 +94,7 @@ module _ {S K V X : Type 0} (tables : Tables S K V X) (across : X) (section : S)
       by_test (not (is_many row.count) && stands row.keyword before) (tables.value_of across row.kind item)
     where
       by_test : (test : Bool) (value : Result V FrameFault)
-          → Makes Also (as_made make (if test then Err (refused item.place (Twice row.keyword))
+          → Makes Also (as_made make (if test then Err (refusal_at item.place (Twice row.keyword))
           else taken_as row.keyword item value))
       by_test true value = tt
       by_test false (Err fault) = tt
@@ -116,10 +116,10 @@ module _ {S K V X : Type 0} (tables : Tables S K V X) (across : X) (section : S)
       (λ one named. enters_also (inner tables section row.keyword) one
       (ap (λ (k : Keyword). inner tables section k) named))
   on_also keyword row again.Section known has_row e =
-      of_unless Also item.place (lacking (tables.rows section) taken) _
+      of_unless Also item.place (lacking_keyword (tables.rows section) taken) _
       (of_accept row [] (Opens section) (λ one named. tt))
   on_also keyword row again.Document known has_row e =
-      of_unless Also item.place (lacking (tables.rows section) taken) (Ok Stops) (record {
+      of_unless Also item.place (lacking_keyword (tables.rows section) taken) (Ok Stops) (record {
         keyword = keyword;
         known = known;
         opens = same-both row.keyword (opener tables section) keyword
@@ -143,7 +143,7 @@ module _ {S K V X : Type 0} (tables : Tables S K V X) (across : X) (section : S)
   elsewhere_also keyword None = of_if Also (is_strange tables section keyword) _ _ (λ is. tt) (λ is. tt)
   elsewhere_also keyword (Some other) =
       of_unless Also item.place
-      (first_of (lacking (tables.rows section) taken) (passed_over tables keyword (following tables section))) _
+      (first_of (lacking_keyword (tables.rows section) taken) (passed_over tables keyword (following_sections tables section))) _
       (begun (row_of (tables.rows other) keyword))
     where
       begun : (row : Option (Row K)) → Makes Also (begins tables across (Opens other) item row)
@@ -152,7 +152,7 @@ module _ {S K V X : Type 0} (tables : Tables S K V X) (across : X) (section : S)
 
   by_row_also : (keyword : Keyword) (row : Option (Row K)) → word_of item.keyword ≡ Some keyword
       → row_of (tables.rows section) keyword ≡ row → Makes Also (by_row tables across here item keyword row)
-  by_row_also keyword None known has_row = elsewhere_also keyword (opened_by tables keyword (following tables section))
+  by_row_also keyword None known has_row = elsewhere_also keyword (opened_by tables keyword (following_sections tables section))
   by_row_also keyword (Some row) known has_row = row_also keyword row known has_row
 
   by_keyword_also : (word : Option Keyword) → word_of item.keyword ≡ word

@@ -4,7 +4,7 @@ use Rattle.std.specs.Prelude.{map, if◌then◌else◌}
 use Rattle.std.specs.List.{AllByRecursion, IsDistinct}
 use Rattle.frame_terms.specs.declared.keyword.Keyword.{Keyword}
 use Rattle.frame_terms.specs.Keywords.{same}
-use Rattle.frame_terms.specs.Order.{following, opened_by, opener, passed_over, repeats}
+use Rattle.frame_terms.specs.Order.{following_sections, opened_by, opener, passed_over, repeats}
 use Rattle.frame_terms.specs.Sections.{row_of}
 use Rattle.frame_terms.specs.Tables.{Tables}
 use Rattle.frame_laws.proofs.KnownWords.{same-sym, same-through}
@@ -58,8 +58,8 @@ module _ {S K V X : Type 0} (tables : Tables S K V X) (clear : AreClear tables) 
   -- a keyword that is the opener of a section behind another: it opens that, and is none of the other
   pub record IsOpened (section next : S) (keyword : Keyword) : Type 0 where
     pub not_here : row_of (tables.rows section) keyword ≡ None
-    pub opened : opened_by tables keyword (following tables section) ≡ Some next
-    pub passes_none : passed_over tables keyword (following tables section) ≡ None
+    pub opened : opened_by tables keyword (following_sections tables section) ≡ Some next
+    pub passes_none : passed_over tables keyword (following_sections tables section) ≡ None
 
   no_row_for : (section : S) (keyword : Keyword) (skipped : List S) (next : S) (rest : List S)
       → AllByRecursion (λ (later : S). row_of (tables.rows section) (opener tables later) ≡ None) (skipped ++ next ∷ rest)
@@ -70,7 +70,7 @@ module _ {S K V X : Type 0} (tables : Tables S K V X) (clear : AreClear tables) 
       no_row_for section keyword skipped next rest apart.1 is
 
   pub is_opened : (section next : S) (keyword : Keyword) → IsListed tables section
-      → IsAfter tables (following tables section) next → same (opener tables next) keyword ≡ true
+      → IsAfter tables (following_sections tables section) next → same (opener tables next) keyword ≡ true
       → IsOpened section next keyword
   is_opened section next keyword listed is_after is =
       let parts : tables.sections ≡ (listed.front ++ section ∷ []) ++ (is_after.skipped ++ next ∷ is_after.rest) =

@@ -6,7 +6,7 @@ use Rattle.std.proofs.lemmas.List.{append-nil, drop-append-le}
 use Rattle.item_terms.specs.declared.fault.DocFault.{DocFault}
 use Rattle.item_terms.specs.declared.fault.DocReason.TheVariants.{Unterminated}
 use Rattle.item_terms.specs.Faults.{at}
-use Rattle.item_terms.specs.Items.{Contents, Item, contents, Open as Begun, failed, keyword_line, nothing, object_lines}
+use Rattle.item_terms.specs.Items.{Contents, Item, contents, Open as Begun, failed_contents, keyword_line, nothing, object_lines}
 use Rattle.dirdoc_grammar.specs.declared.cursor.Cursor.{Cursor}
 use Rattle.dirdoc_grammar.specs.Cursors.{IsOver, fed_by}
 use Rattle.dirdoc_grammar.specs.Feeding.{Settles, first_of}
@@ -32,7 +32,7 @@ use Rattle.document_laws.proofs.Settling.{Known, Waiting, known_or_waits}
 data EndsSo (n : ℕ) (held : Contents) : Type 0 where
   with_nothing : held ≡ record { items = []; fault = None } → EndsSo n held
   with_item : (item : Item) → held ≡ record { items = item ∷ []; fault = None } → EndsSo n held
-  too_early : held ≡ failed (at n Unterminated) → EndsSo n held
+  too_early : held ≡ failed_contents (at n Unterminated) → EndsSo n held
 
 ending : (limit line : ℕ) (open_ : Begun) (bytes : List ℕ) → IsOver limit line open_ bytes
     → EndsSo (length bytes) (from_place limit line open_ bytes)
@@ -42,7 +42,7 @@ ending limit line (keyword_line item) bytes (inl e) =
 ending limit line (object_lines item begin object) bytes (inl e) =
     too_early
     (first.ends limit line (object_lines item begin object) bytes (omega (arith, e))
-    ∙ ap (λ (n : ℕ). failed (at n Unterminated)) e)
+    ∙ ap (λ (n : ℕ). failed_contents (at n Unterminated)) e)
 ending limit line open_ bytes (inr cut) = too_early (cut_now limit line open_ bytes cut)
 
 -- the fault of a line or an object for which a document is refused
@@ -62,7 +62,7 @@ module _ {S K V X F : Type 0} (tables : Tables S K V X) (sound : HasNoDoc tables
   read length across open_ facts held = finish with_ facts (read_items tables length across open_ held.fault held.items)
 
   faulty : (length : ℕ) (across : X) (open_ : Open S V) (facts : F) (fault : DocFault)
-      → read length across open_ facts (failed fault) ≡ Err (of_doc fault)
+      → read length across open_ facts (failed_contents fault) ≡ Err (of_doc fault)
   unfolding read_items
   faulty length across open_ facts fault = refl
 
@@ -74,7 +74,7 @@ module _ {S K V X F : Type 0} (tables : Tables S K V X) (sound : HasNoDoc tables
   differ : (n shorter longer : ℕ) (across : X) (open_ : Open S V) (facts : F) (now : Contents) (fault : DocFault)
       (answer : Result (F × ℕ) ReadRefusal) → EndsSo n now → (fault ≡ at n Unterminated → ⊥)
       → read shorter across open_ facts now ≡ answer
-      → read longer across open_ facts (failed fault) ≡ answer → ⊥
+      → read longer across open_ facts (failed_contents fault) ≡ answer → ⊥
   differ n shorter longer across open_ facts now fault answer (with_nothing is) later one two =
       clear_apart fault (read shorter across open_ facts (record { items = []; fault = None }))
       (of_finish with_ facts _ (of_nothing tables sound shorter across open_))

@@ -12,8 +12,8 @@ use Rattle.frame_terms.specs.declared.document.Taken.{Taken}
 use Rattle.frame_terms.specs.declared.keyword.Keyword.{Keyword}
 use Rattle.frame_terms.specs.declared.section.Again.{Again}
 use Rattle.frame_terms.specs.Documents.{Document, group}
-use Rattle.frame_terms.specs.Order.{following, is_keyword, must_open, opener}
-use Rattle.frame_terms.specs.Sections.{lacking}
+use Rattle.frame_terms.specs.Order.{following_sections, is_keyword, must_open, opener}
+use Rattle.frame_terms.specs.Sections.{lacking_keyword}
 use Rattle.frame_terms.specs.Tables.{Tables}
 use Rattle.frame_laws.proofs.Steps.{opening}
 use Rattle.document_laws.specs.Items.{AreItemsIn}
@@ -48,7 +48,7 @@ module _ {S K V X : Type 0} (tables : Tables S K V X) (sound : AreSound tables) 
 
   closes_placed : (section : S) (taken : List (Taken V)) (around : Option (Group S V)) (run : List Item)
       → AreItemsIn tables section run taken
-      → lacking (tables.rows section) taken ≡ None → must_open tables (following tables section) ≡ None
+      → lacking_keyword (tables.rows section) taken ≡ None → must_open tables (following_sections tables section) ≡ None
       → IsPlaced tables section taken around
       → StandsFrom tables (top tables section around) run [] (group section taken ∷ [])
   closes_placed section [] None run are whole none is =
@@ -60,12 +60,12 @@ module _ {S K V X : Type 0} (tables : Tables S K V X) (sound : AreSound tables) 
       no_less e = omega (arith, e)
   closes_placed section (first ∷ taken) None run are whole none is =
       stands_last tables sound section (first ∷ taken) run [] are is.begun
-      (in_order_none tables (following tables section) none)
+      (in_order_none tables (following_sections tables section) none)
   closes_placed section taken (Some outer) run are whole none is =
       absurd (none-some outer (sym (closes_alone tables sound section taken (Some outer) whole is)))
 
   -- none follows a section that ends its document
-  none_follows : (section : S) → ends_document tables section ≡ true → AreInOrder tables (following tables section) []
+  none_follows : (section : S) → ends_document tables section ≡ true → AreInOrder tables (following_sections tables section) []
   none_follows section ends =
       subst (λ (l : List S). AreInOrder tables l []) (sym (sound.ends_last section ends)) refl
 
@@ -109,7 +109,7 @@ module _ {S K V X : Type 0} (tables : Tables S K V X) (sound : AreSound tables) 
       → StandsFrom tables (top tables section around) run (item ∷ items) (group section (first ∷ taken) ∷ groups)
   opens_stands section first taken None other one run item items groups are next (inl later) is rest =
       stands_before tables sound section other (first ∷ taken) run item items groups are is.begun is.listed
-      (opened_after tables later.keyword (following tables section) other later.opened later.passes_none)
+      (opened_after tables later.keyword (following_sections tables section) other later.opened later.passes_none)
       (rest (item ∷ []) (record { here = next; around = tt }))
   opens_stands section first taken None other one run item items groups are next (inr once_more) is rest =
       stands_again tables sound section (first ∷ taken) run item items groups are is.begun once_more.repeats
@@ -136,7 +136,7 @@ module _ {S K V X : Type 0} (tables : Tables S K V X) (sound : AreSound tables) 
   sections_stand : (length : ℕ) (fault : Option DocFault) → Rules tables length fault (Rest tables)
   sections_stand length fault = record {
     closes = λ across section taken around missing no_fault is run are.
-        let none = neither (lacking (tables.rows section) taken) (must_open tables (following tables section)) missing in
+        let none = neither (lacking_keyword (tables.rows section) taken) (must_open tables (following_sections tables section)) missing in
         closes_placed section taken around run are.here none.0 none.1 is;
     passes = λ across open_ item items document may rest is run are.
         one_further tables sound (top tables open_.section open_.around) run item items document.groups

@@ -9,7 +9,7 @@ use Rattle.frame_terms.specs.declared.document.Taken.{Taken}
 use Rattle.frame_terms.specs.declared.section.Again.{Again}
 use Rattle.frame_terms.specs.declared.section.Again.TheVariants as again
 use Rattle.frame_terms.specs.Documents.{group}
-use Rattle.frame_terms.specs.Order.{following}
+use Rattle.frame_terms.specs.Order.{following_sections}
 use Rattle.frame_terms.specs.Tables.{Tables}
 use Rattle.document_laws.specs.Order.{AreInOrder, BeginsWithOpener, HasInside, HasItems, IsInOrder, MayStand}
 use Rattle.document_laws.specs.Order.{Part, items_of, sections_of}
@@ -57,7 +57,7 @@ pub record StandsFrom {S K V X : Type 0} (tables : Tables S K V X) (section : S)
     pub others : List S
     pub standing : names parts ≡ replicate number section ++ others
     pub may : MayMore ((tables.shape section).again) number
-    pub in_order : AreInOrder tables (following tables section) others
+    pub in_order : AreInOrder tables (following_sections tables section) others
     pub inside : All (HasInside tables) (part ∷ parts)
     pub begin : All (λ (group : Group S V). BeginsWithOpener tables group.section group.taken) groups
 
@@ -68,14 +68,14 @@ pub record IsListed {S K V X : Type 0} (tables : Tables S K V X) (section : S) :
   pub parts : tables.sections ≡ front ++ section ∷ rest
 
 module _ {S K V X : Type 0} (tables : Tables S K V X) (sound : AreSound tables) where
-  follows_listed : (section : S) (listed : IsListed tables section) → following tables section ≡ listed.rest
+  follows_listed : (section : S) (listed : IsListed tables section) → following_sections tables section ≡ listed.rest
   follows_listed section listed = following_is tables listed.front section listed.rest listed.parts sound.apart
 
   -- the first one is, and each that follows one that is
   pub first_listed : IsListed tables tables.first
   first_listed = record { front = []; rest = sound.others; parts = sound.begins }
 
-  pub next_listed : (section next : S) → IsListed tables section → IsAfter tables (following tables section) next
+  pub next_listed : (section next : S) → IsListed tables section → IsAfter tables (following_sections tables section) next
       → IsListed tables next
   next_listed section next listed is = record {
     front = listed.front ++ section ∷ is.skipped;
@@ -137,7 +137,7 @@ module _ {S K V X : Type 0} (tables : Tables S K V X) (sound : AreSound tables) 
   -- the last one
   pub stands_last : (section : S) (taken : List (Taken V)) (run items : List Item)
       → AreItemsIn tables section run taken → BeginsWithOpener tables section taken
-      → AreInOrder tables (following tables section) [] → StandsFrom tables section run items (group section taken ∷ [])
+      → AreInOrder tables (following_sections tables section) [] → StandsFrom tables section run items (group section taken ∷ [])
   stands_last section taken run items are begins none = record {
     left = items;
     more = [];
@@ -168,7 +168,7 @@ module _ {S K V X : Type 0} (tables : Tables S K V X) (sound : AreSound tables) 
   -- those from a section on are in the order of a table that begins with it
   from_first : (section : S) (rest : List S) (run items : List Item) (groups : List (Group S V))
       (from : StandsFrom tables section run items groups)
-      → following tables section ≡ rest → AreInOrder tables (section ∷ rest) (names (from.part ∷ from.parts))
+      → following_sections tables section ≡ rest → AreInOrder tables (section ∷ rest) (names (from.part ∷ from.parts))
   from_first section rest run items groups from e = (
     suc from.number,
     from.others,
@@ -187,11 +187,11 @@ module _ {S K V X : Type 0} (tables : Tables S K V X) (sound : AreSound tables) 
   pub stands_before : (section next : S) (taken : List (Taken V)) (run : List Item) (item : Item) (items : List Item)
       (groups : List (Group S V)) → AreItemsIn tables section run taken
       → BeginsWithOpener tables section taken → IsListed tables section
-      → IsAfter tables (following tables section) next → StandsFrom tables next (item ∷ []) items groups
+      → IsAfter tables (following_sections tables section) next → StandsFrom tables next (item ∷ []) items groups
       → StandsFrom tables section run (item ∷ items) (group section taken ∷ groups)
   unfolding next_listed
   stands_before section next taken run item items groups stand begins listed is from =
-      let next_is : following tables next ≡ is.rest = follows_listed next (next_listed section next listed is) in
+      let next_is : following_sections tables next ≡ is.rest = follows_listed next (next_listed section next listed is) in
       record {
         left = from.left;
         more = [];

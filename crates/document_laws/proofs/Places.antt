@@ -14,7 +14,7 @@ use Rattle.frame_terms.specs.declared.row.Limit.{Limit}
 use Rattle.frame_terms.specs.declared.row.Row.{Row}
 use Rattle.frame_terms.specs.Decisions.{beyond, beyond_inner, beyond_inside}
 use Rattle.frame_terms.specs.Keywords.{same}
-use Rattle.frame_terms.specs.Order.{following, inner, is_keyword, knows, knows_in, knows_inside, knows_with, opened_by, opener}
+use Rattle.frame_terms.specs.Order.{following_sections, inner, is_keyword, knows, knows_in, knows_inside, knows_with, opened_by, opener}
 use Rattle.frame_terms.specs.Order.{section_if}
 use Rattle.frame_terms.specs.Rows.{limit_number}
 use Rattle.frame_terms.specs.Sections.{row_of, stands}
@@ -104,7 +104,7 @@ module _ {S K V X : Type 0} (tables : Tables S K V X) (clear : AreClear tables) 
       (clear.regarded section) item
 
   -- the sections that follow one of the document's
-  pub follows : (section : S) (listed : IsListed tables section) → following tables section ≡ listed.rest
+  pub follows : (section : S) (listed : IsListed tables section) → following_sections tables section ≡ listed.rest
   follows section listed = following_is tables listed.front section listed.rest listed.parts clear.sound.apart
 
   -- ---- a keyword that the document does not know
@@ -154,7 +154,7 @@ module _ {S K V X : Type 0} (tables : Tables S K V X) (clear : AreClear tables) 
           ∙ sym (row_of-one (tables.rows other) (opener tables other) keyword is) ∙ once.has_row))
 
   pub unknown_opens : (section : S) (around : Option (Group S V)) (keyword : Keyword) → IsAt section around
-      → knows tables keyword ≡ false → opened_by tables keyword (following tables section) ≡ None
+      → knows tables keyword ≡ false → opened_by tables keyword (following_sections tables section) ≡ None
   unknown_opens section None keyword at none =
       ap (λ (l : List S). opened_by tables keyword l) (follows section at)
       ∙ opens_none keyword at.rest

@@ -11,9 +11,9 @@ use Rattle.frame_terms.specs.declared.keyword.Keyword.{Keyword}
 use Rattle.frame_terms.specs.declared.row.Count.{Count}
 use Rattle.frame_terms.specs.Documents.{group}
 use Rattle.frame_terms.specs.Keywords.{same}
-use Rattle.frame_terms.specs.Order.{following, is_keyword, opened_by, opener, section_if}
+use Rattle.frame_terms.specs.Order.{following_sections, is_keyword, opened_by, opener, section_if}
 use Rattle.frame_terms.specs.Rows.{is_one}
-use Rattle.frame_terms.specs.Sections.{lacking, stands}
+use Rattle.frame_terms.specs.Sections.{lacking_keyword, stands}
 use Rattle.frame_terms.specs.Tables.{Tables}
 use Rattle.frame_laws.proofs.KnownWords.{same-sym, same-through}
 use Rattle.document_laws.specs.Counts.{times}
@@ -79,7 +79,7 @@ module _ {S K V X : Type 0} (tables : Tables S K V X) where
 
   -- an item that has to stand does where nothing is lacking
   pub stands_once : (section : S) (taken : List (Taken V)) (keyword : Keyword) → StandsOnce tables section keyword
-      → lacking (tables.rows section) taken ≡ None → 1 ≤ times keyword taken
+      → lacking_keyword (tables.rows section) taken ≡ None → 1 ≤ times keyword taken
   stands_once section taken keyword once none =
       there_all tables section taken none keyword once.row once.has_row (ap (λ (c : Count). is_one c) once.once)
 
@@ -115,7 +115,7 @@ module _ {S K V X : Type 0} (tables : Tables S K V X) (sound : AreSound tables) 
 
   -- where nothing is lacking, no section is open inside another
   pub closes_alone : (section : S) (taken : List (Taken V)) (around : Option (Group S V))
-      → lacking (tables.rows section) taken ≡ None → IsPlaced tables section taken around → around ≡ None
+      → lacking_keyword (tables.rows section) taken ≡ None → IsPlaced tables section taken around → around ≡ None
   closes_alone section taken None whole is = refl
   closes_alone section taken (Some outer) whole is =
       let is_inner = sound.inner outer.section section is.around_is.inner in
@@ -166,7 +166,7 @@ module _ {S K V X : Type 0} (tables : Tables S K V X) (sound : AreSound tables) 
   opens_alone section taken None other follows is = refl
   opens_alone section taken (Some outer) other (inl later) is =
       let is_inner = sound.inner outer.section section is.around_is.inner in
-      absurd (none_opens later.keyword (following tables section) is_inner.apart later.opened)
+      absurd (none_opens later.keyword (following_sections tables section) is_inner.apart later.opened)
     where
       none_opens : (keyword : Keyword) (list : List S) → list ≡ [] → opened_by tables keyword list ≡ Some other → ⊥
       none_opens keyword [] none e = absurd (cc (e))
@@ -180,7 +180,7 @@ module _ {S K V X : Type 0} (tables : Tables S K V X) (sound : AreSound tables) 
       → IsLater tables section other ⊎ IsAgain tables section other → IsListed tables other
   opens_listed section other listed (inl later) =
       next_listed tables sound section other listed
-      (opened_after tables later.keyword (following tables section) other later.opened later.passes_none)
+      (opened_after tables later.keyword (following_sections tables section) other later.opened later.passes_none)
   opens_listed section other listed (inr once_more) =
       subst (λ (s : S). IsListed tables s) (sym once_more.same_name) listed
 

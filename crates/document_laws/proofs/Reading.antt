@@ -13,7 +13,7 @@ use Rattle.frame_terms.specs.declared.section.Again.TheVariants as again
 use Rattle.frame_terms.specs.Decisions.{made_by}
 use Rattle.frame_terms.specs.Documents.{Document, at_end, closed_at, group, onto, read_items, start}
 use Rattle.frame_terms.specs.Keywords.{same}
-use Rattle.frame_terms.specs.Order.{first_of, following, is_keyword, must_open, opener}
+use Rattle.frame_terms.specs.Order.{first_of, following_sections, is_keyword, must_open, opener}
 use Rattle.frame_terms.specs.Tables.{Tables}
 use Rattle.frame_laws.proofs.Reading.{read_on}
 use Rattle.frame_laws.proofs.Steps.{opening}
@@ -67,7 +67,7 @@ module _ {S K V X : Type 0} (tables : Tables S K V X) (clear : AreClear tables) 
   ends_open : (length : ℕ) (fault : Option DocFault) (section : S) (across : X) (first : Taken V) (taken : List (Taken V))
       (left : List Item) (used : ℕ) → same (opener tables section) first.keyword ≡ true
       → RowsStand tables section (first ∷ taken) → (tables.shape section).last ≡ None
-      → must_open tables (following tables section) ≡ None
+      → must_open tables (following_sections tables section) ≡ None
       → EndsBeforeNext tables section left used ⊎ EndsWithInput length fault left used
       → read_items tables length across (opening section (first ∷ taken) None) fault left
       ≡ as_read (group section (first ∷ taken) ∷ []) used
@@ -82,7 +82,7 @@ module _ {S K V X : Type 0} (tables : Tables S K V X) (clear : AreClear tables) 
       let open_ = opening section (first ∷ taken) None in
       ap (λ (l : List Item). read_items tables length across open_ fault l) is.none_left
       ∙ ap (λ (f : Option DocFault). at_end tables length open_ f) is.no_fault
-      ∙ ap (λ (k : Option Keyword). closed_at length open_ (first_of k (must_open tables (following tables section))))
+      ∙ ap (λ (k : Option Keyword). closed_at length open_ (first_of k (must_open tables (following_sections tables section))))
       (whole tables section (clear.rows_apart section) (first ∷ taken) counts)
       ∙ ap (λ (k : Option Keyword). closed_at length open_ k) none
       ∙ ap (λ (n : ℕ). as_read (group section (first ∷ taken) ∷ []) n) (sym is.ends)
@@ -124,7 +124,7 @@ module _ {S K V X : Type 0} (tables : Tables S K V X) (clear : AreClear tables) 
       → RowsStand tables section (first ∷ taken)
       → (tables.shape section).last ≡ None
       → ((other ≡ section) × ((tables.shape section).again ≡ again.Section))
-      ⊎ IsAfter tables (following tables section) other
+      ⊎ IsAfter tables (following_sections tables section) other
       → Stands tables across other item one next → same (opener tables other) one.keyword ≡ true
       → made_by tables across (opening section (first ∷ taken) None) item ≡ Ok (Opens other one)
   opens_made across next section other first taken item one listed opens counts no_last (inl (is, repeats_)) stands opens_other =
@@ -170,7 +170,7 @@ module _ {S K V X : Type 0} (tables : Tables S K V X) (clear : AreClear tables) 
       → (tables.shape part.whole.section).last ≡ last
       → HasLast tables part.whole.section last is.before_last is.items_last is.last next
       → EndsAt tables length fault part.whole.section last part.items left used
-      → must_open tables (following tables part.whole.section) ≡ None
+      → must_open tables (following_sections tables part.whole.section) ≡ None
       → read_items tables length is.before_last (opening part.whole.section (is.first_one ∷ is.between) None) fault
       (is.items_last ++ left)
       ≡ as_read (part.whole ∷ []) used

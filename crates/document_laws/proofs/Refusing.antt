@@ -23,10 +23,10 @@ use Rattle.frame_terms.specs.Documents.{Document, after_made, after_noted, close
 use Rattle.frame_terms.specs.Documents.{missing_at_end, note_of_made, onto, read_items, with_inner, with_next}
 use Rattle.frame_terms.specs.Documents.{with_one, without_inner}
 use Rattle.frame_terms.specs.Keywords.{word_of}
-use Rattle.frame_terms.specs.Order.{begins_document, first_of, following, inner, is_keyword, is_strange, opened_by}
+use Rattle.frame_terms.specs.Order.{begins_document, first_of, following_sections, inner, is_keyword, is_strange, opened_by}
 use Rattle.frame_terms.specs.Order.{opener, passed_over}
 use Rattle.frame_terms.specs.Rows.{is_many, limit_number}
-use Rattle.frame_terms.specs.Sections.{accept, lacking, lacking_but, row_of, stands, taken_as}
+use Rattle.frame_terms.specs.Sections.{accept, lacking_keyword, lacking_but, row_of, stands, taken_as}
 use Rattle.frame_terms.specs.Standing.{as_made, begins, begins_again, by_keyword, by_row, elsewhere, ends, enters}
 use Rattle.frame_terms.specs.Standing.{goes_on, in_section, unless}
 use Rattle.frame_terms.specs.Tables.{Tables}
@@ -72,10 +72,10 @@ module _ {S K V X : Type 0} (tables : Tables S K V X) (sound : HasNoDoc tables) 
   of_goes_on across open_ item row again.Nothing =
       of_as_made (enters (inner tables open_.section row.keyword)) _ (of_accept across row open_.taken item)
   of_goes_on across open_ item row again.Section =
-      of_unless item.place (lacking (tables.rows open_.section) open_.taken) _
+      of_unless item.place (lacking_keyword (tables.rows open_.section) open_.taken) _
       (of_as_made (Opens open_.section) _ (of_accept across row [] item))
   of_goes_on across open_ item row again.Document =
-      of_unless item.place (lacking (tables.rows open_.section) open_.taken) (Ok Stops) tt
+      of_unless item.place (lacking_keyword (tables.rows open_.section) open_.taken) (Ok Stops) tt
 
   of_section : (across : X) (open_ : Open S V) (item : Item) (row : Row K)
       → IsClear (in_section tables across open_ item row)
@@ -95,8 +95,8 @@ module _ {S K V X : Type 0} (tables : Tables S K V X) (sound : HasNoDoc tables) 
   of_elsewhere across open_ item keyword None = of_if (is_strange tables open_.section keyword) _ _ refl tt
   of_elsewhere across open_ item keyword (Some other) =
       of_unless item.place
-      (first_of (lacking (tables.rows open_.section) open_.taken)
-      (passed_over tables keyword (following tables open_.section))) _
+      (first_of (lacking_keyword (tables.rows open_.section) open_.taken)
+      (passed_over tables keyword (following_sections tables open_.section))) _
       (of_begins across (Opens other) item (row_of (tables.rows other) keyword))
 
   of_row : (across : X) (open_ : Open S V) (item : Item) (keyword : Keyword) (row : Option (Row K))
@@ -104,7 +104,7 @@ module _ {S K V X : Type 0} (tables : Tables S K V X) (sound : HasNoDoc tables) 
   of_row across open_ item keyword (Some row) =
       of_if (tables.ignores row.kind item) _ _ tt (of_section across open_ item row)
   of_row across open_ item keyword None =
-      of_elsewhere across open_ item keyword (opened_by tables keyword (following tables open_.section))
+      of_elsewhere across open_ item keyword (opened_by tables keyword (following_sections tables open_.section))
 
   of_keyword : (across : X) (open_ : Open S V) (item : Item) (word : Option Keyword)
       → IsClear (by_keyword tables across open_ item word)

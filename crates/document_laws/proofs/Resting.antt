@@ -14,8 +14,8 @@ use Rattle.frame_terms.specs.declared.section.Again.{Again}
 use Rattle.frame_terms.specs.Decisions.{beyond_inner}
 use Rattle.frame_terms.specs.Documents.{Document, group}
 use Rattle.frame_terms.specs.Keywords.{same, word_of}
-use Rattle.frame_terms.specs.Order.{following, inner, is_keyword, must_open, opener}
-use Rattle.frame_terms.specs.Sections.{lacking}
+use Rattle.frame_terms.specs.Order.{following_sections, inner, is_keyword, must_open, opener}
+use Rattle.frame_terms.specs.Sections.{lacking_keyword}
 use Rattle.frame_terms.specs.Tables.{Tables}
 use Rattle.document_laws.specs.Counts.{RowsStand, times}
 use Rattle.document_laws.specs.Order.{AreInOrder}
@@ -83,12 +83,12 @@ module _ {S K V X : Type 0} (tables : Tables S K V X) (clear : AreClear tables) 
         → HasInnerTail tables length fault section first taken outer.section first_around taken_around across items document
 
     -- with any middle
-    pub both : (section : S) (first : Taken V) (taken : List (Taken V)) (across : X) (items : List Item)
+    pub has_rest : (section : S) (first : Taken V) (taken : List (Taken V)) (across : X) (items : List Item)
         (document : Document S V)
         → ((Middle : X → List Item → List (Group S V) → List (Taken V) → X → Type 0) → Extends tables section Middle
         → HasTail tables length fault Middle section first taken across items document)
         → HasRest section first taken across items document
-    both section first taken across items document tail = record {
+    has_rest section first taken across items document tail = record {
       any = tail (AreOthers tables section) (others_extends tables section);
       none = λ entered. tail (NoneInside tables section) (none_extends tables section);
     }
@@ -106,7 +106,7 @@ module _ {S K V X : Type 0} (tables : Tables S K V X) (clear : AreClear tables) 
 
     -- a section of which nothing lacks and that has not ended has no last item
     pub no_last : (section : S) (taken : List (Taken V)) → IsNotEnded tables section taken
-        → lacking (tables.rows section) taken ≡ None → (tables.shape section).last ≡ None
+        → lacking_keyword (tables.rows section) taken ≡ None → (tables.shape section).last ≡ None
     no_last section taken not_ended whole = by_last ((tables.shape section).last) refl
       where
         by_last : (last : Option Keyword) → (tables.shape section).last ≡ last → (tables.shape section).last ≡ None
@@ -126,18 +126,18 @@ module _ {S K V X : Type 0} (tables : Tables S K V X) (clear : AreClear tables) 
     -- ---- the end
 
     pub closes_rest : (across : X) (section : S) (taken : List (Taken V)) (around : Option (Group S V))
-        → lacking (tables.rows section) taken ≡ None → must_open tables (following tables section) ≡ None → fault ≡ None
+        → lacking_keyword (tables.rows section) taken ≡ None → must_open tables (following_sections tables section) ≡ None → fault ≡ None
         → RestOf across section taken around [] (alone (group section taken) length)
     closes_rest across section [] around whole none no_fault =
         absurd (neither_way (times {V = V} (opener tables section) [])
         (stands_once tables section [] (opener tables section) (clear.sound.opener_once section) whole) refl)
     closes_rest across section (first ∷ taken) None whole none no_fault = λ counts top.
         let ended = no_last section (first ∷ taken) top.not_ended whole in
-        both section first taken across [] (alone (group section (first ∷ taken)) length) (λ Middle extends.
+        has_rest section first taken across [] (alone (group section (first ∷ taken)) length) (λ Middle extends.
         done_tail tables length fault section Middle extends first taken across []
         (alone (group section (first ∷ taken)) length) [] [] ended
         (count_first (group section (first ∷ taken)) [] counts) refl refl tt
-        (none_behind tables section (in_order_none tables (following tables section) none))
+        (none_behind tables section (in_order_none tables (following_sections tables section) none))
         (at_end ((tables.shape section).last) ended))
       where
         at_end : (last : Option Keyword) → last ≡ None → EndsAt tables length fault section last [] [] length
@@ -148,7 +148,7 @@ module _ {S K V X : Type 0} (tables : Tables S K V X) (clear : AreClear tables) 
 
     -- none follows a section that ends its document
     last_follows : (section : S) → ends_document tables section ≡ true
-        → AreInOrder tables (following tables section) []
+        → AreInOrder tables (following_sections tables section) []
     last_follows section ends =
         subst (λ (l : List S). AreInOrder tables l []) (sym (clear.sound.ends_last section ends)) refl
 
@@ -158,7 +158,7 @@ module _ {S K V X : Type 0} (tables : Tables S K V X) (clear : AreClear tables) 
         → RestOf across section (first ∷ taken) None (item ∷ items)
         (alone (group section (first ∷ (taken ++ one ∷ []))) item.after)
     ends_rest across next section first taken item items one ending note = λ counts top.
-        both section first taken across (item ∷ items) (alone (group section (first ∷ (taken ++ one ∷ []))) item.after)
+        has_rest section first taken across (item ∷ items) (alone (group section (first ∷ (taken ++ one ∷ []))) item.after)
         (λ Middle extends.
         ends_tail tables length fault section Middle extends first taken across next item items one ending.ends
         (record { said = ending.accepted.taken; regarded = ending.regarded; note = note })
@@ -176,7 +176,7 @@ module _ {S K V X : Type 0} (tables : Tables S K V X) (clear : AreClear tables) 
         → RestOf across section (first ∷ taken) around (item ∷ items) (alone (group section (first ∷ taken)) item.place)
     stops_rest across section first taken None item items stopping is = λ counts top.
         let ended = no_last section (first ∷ taken) top.not_ended stopping.whole in
-        both section first taken across (item ∷ items) (alone (group section (first ∷ taken)) item.place)
+        has_rest section first taken across (item ∷ items) (alone (group section (first ∷ taken)) item.place)
         (λ Middle extends.
         done_tail tables length fault section Middle extends first taken across (item ∷ items)
         (alone (group section (first ∷ taken)) item.place) [] (item ∷ items) ended

@@ -13,9 +13,9 @@ use Rattle.frame_terms.specs.declared.row.Count.{Count}
 use Rattle.frame_terms.specs.declared.row.Row.{Row}
 use Rattle.frame_terms.specs.Keywords.{same}
 use Rattle.frame_terms.specs.Order.{opener}
-use Rattle.frame_terms.specs.Refusals.{refused}
+use Rattle.frame_terms.specs.Refusals.{refusal_at}
 use Rattle.frame_terms.specs.Rows.{is_many, is_one}
-use Rattle.frame_terms.specs.Sections.{accept, keyword_if, lacking, lacking_but, row_of, stands, taken_as}
+use Rattle.frame_terms.specs.Sections.{accept, keyword_if, lacking_keyword, lacking_but, row_of, stands, taken_as}
 use Rattle.frame_terms.specs.Tables.{Tables}
 use Rattle.frame_laws.proofs.KnownWords.{same-refl, same-sym}
 use Rattle.document_laws.specs.Counts.{IsCount, RowsStand, times}
@@ -51,7 +51,7 @@ module _ {S K V X : Type 0} (tables : Tables S K V X) (section : S) where
       → (not (is_many said.row.count) && stands said.row.keyword taken) ≡ false
       → accept tables across said.row taken item ≡ Ok one
   accepted across taken item one said new =
-      let twice : Result (Taken V) ReadRefusal = Err (refused item.place (Twice said.row.keyword)) in
+      let twice : Result (Taken V) ReadRefusal = Err (refusal_at item.place (Twice said.row.keyword)) in
       ap (λ (t : Bool). if t then twice else taken_as said.row.keyword item (tables.value_of across said.row.kind item)) new
       ∙ ap (λ (v : Result V FrameFault). taken_as said.row.keyword item v) said.says
       ∙ ap as_ok (sym said.stands)
@@ -158,7 +158,7 @@ module _ {S K V X : Type 0} (tables : Tables S K V X) (section : S) where
   -- all rows stand
   pub whole : AllByRecursion (λ (row : Row K). row_of (tables.rows section) row.keyword ≡ Some row)
       (tables.rows section) → (total : List (Taken V)) → RowsStand tables section total
-      → lacking (tables.rows section) total ≡ None
+      → lacking_keyword (tables.rows section) total ≡ None
   whole apart total counts = ap (λ (r : Option (Row K)). keyword_if r) (in_rows _ apart)
     where
       fails : (row : Row K) → row_of (tables.rows section) row.keyword ≡ Some row

@@ -138,7 +138,7 @@ has_fault limit place (object_lines item begin object) line open_ = has_object l
 pub refused_by : (limit place : ℕ) (so_far : Open) (bytes : List ℕ) (fault : DocFault) → place < length bytes
     → InObject so_far (first_line (drop place bytes))
     → fault_of so_far limit place (first_line (drop place bytes)) ≡ Some fault
-    → from_place limit place so_far bytes ≡ model.failed fault
+    → from_place limit place so_far bytes ≡ model.failed_contents fault
 refused_by limit place nothing bytes fault inside begun e = line_fails limit place bytes fault inside e
 refused_by limit place (keyword_line item) bytes fault inside begun e =
     begin_fails limit place bytes fault inside (first_dash (drop place bytes) ∙ begun) e item

@@ -18,10 +18,10 @@ use Rattle.frame_terms.specs.Decisions.{beginning_reason, beyond_inner, first_it
 use Rattle.frame_terms.specs.Decisions.{unless_refused}
 use Rattle.frame_terms.specs.Documents.{start}
 use Rattle.frame_terms.specs.Keywords.{same, word_of}
-use Rattle.frame_terms.specs.Order.{first_of, following, inner, is_keyword, is_strange, knows, opened_by, opener, passed_over}
-use Rattle.frame_terms.specs.Refusals.{refused}
+use Rattle.frame_terms.specs.Order.{first_of, following_sections, inner, is_keyword, is_strange, knows, opened_by, opener, passed_over}
+use Rattle.frame_terms.specs.Refusals.{refusal_at}
 use Rattle.frame_terms.specs.Rows.{is_many}
-use Rattle.frame_terms.specs.Sections.{accept, lacking, lacking_but, row_of, stands}
+use Rattle.frame_terms.specs.Sections.{accept, lacking_keyword, lacking_but, row_of, stands}
 use Rattle.frame_terms.specs.Standing.{as_made, begins, begins_again, by_keyword, by_row, elsewhere, ends, enters, goes_on}
 use Rattle.frame_terms.specs.Standing.{in_section, unless}
 use Rattle.frame_terms.specs.Tables.{Tables}
@@ -74,7 +74,7 @@ module _ {S K V X : Type 0} (tables : Tables S K V X) (clear : AreClear tables) 
       ∙ ap (λ (r : Option (Row K)). by_row tables across open_ item keyword r) none
       ∙ ap (λ (s : Option S). elsewhere tables across open_ item keyword s)
       (unknown_opens tables clear section around keyword at nowhere)
-      ∙ ap (λ (t : Bool). if t then Err (refused item.place Order) else Ok Passes) is
+      ∙ ap (λ (t : Bool). if t then Err (refusal_at item.place Order) else Ok Passes) is
 
   pub passes : (across : X) (section : S) (around : Option (Group S V)) (first : Taken V) (taken : List (Taken V))
       (item : Item) → IsAt tables clear section around → IsNear tables clear section around first item
@@ -202,9 +202,9 @@ module _ {S K V X : Type 0} (tables : Tables S K V X) (clear : AreClear tables) 
   pub begins_later : (across next : X) (section other : S) (first : Taken V) (taken : List (Taken V)) (item : Item)
       (one : Taken V) (is : Stands tables across other item one next)
       → row_of (tables.rows section) is.said.keyword ≡ None
-      → opened_by tables is.said.keyword (following tables section) ≡ Some other
-      → passed_over tables is.said.keyword (following tables section) ≡ None
-      → lacking (tables.rows section) (first ∷ taken) ≡ None
+      → opened_by tables is.said.keyword (following_sections tables section) ≡ Some other
+      → passed_over tables is.said.keyword (following_sections tables section) ≡ None
+      → lacking_keyword (tables.rows section) (first ∷ taken) ≡ None
       → made_by tables across (opening section (first ∷ taken) None) item ≡ Ok (Opens other one)
   begins_later across next section other first taken item one is not_here opened passes_none whole =
       let open_ = opening section (first ∷ taken) None in
@@ -214,7 +214,7 @@ module _ {S K V X : Type 0} (tables : Tables S K V X) (clear : AreClear tables) 
       (never_beyond tables clear section None first taken item k tt (no_row_begins tables clear section k not_here))
       ∙ ap (λ (r : Option (Row K)). by_row tables across open_ item k r) not_here
       ∙ ap (λ (s : Option S). elsewhere tables across open_ item k s) opened
-      ∙ ap (λ (m : Option Keyword). unless item.place (first_of m (passed_over tables k (following tables section))) begun)
+      ∙ ap (λ (m : Option Keyword). unless item.place (first_of m (passed_over tables k (following_sections tables section))) begun)
       whole
       ∙ ap (λ (m : Option Keyword). unless item.place m begun) passes_none
       ∙ ap (λ (r : Option (Row K)). begins tables across (Opens other) item r) is.said.has_row
@@ -232,7 +232,7 @@ module _ {S K V X : Type 0} (tables : Tables S K V X) (clear : AreClear tables) 
       (one : Taken V) (is : Stands tables across section item one next)
       → same (opener tables section) first.keyword ≡ true → same (opener tables section) one.keyword ≡ true
       → (tables.shape section).last ≡ None → (tables.shape section).again ≡ again.Section
-      → lacking (tables.rows section) (first ∷ taken) ≡ None
+      → lacking_keyword (tables.rows section) (first ∷ taken) ≡ None
       → made_by tables across (opening section (first ∷ taken) None) item ≡ Ok (Opens section one)
   begins_more across next section first taken item one is opens opens_again no_last repeats_ whole =
       let open_ = opening section (first ∷ taken) None in
@@ -255,7 +255,7 @@ module _ {S K V X : Type 0} (tables : Tables S K V X) (clear : AreClear tables) 
   pub stops : (across : X) (section : S) (first : Taken V) (taken : List (Taken V)) (item : Item) (keyword : Keyword)
       → word_of item.keyword ≡ Some keyword → same (opener tables section) first.keyword ≡ true
       → same (opener tables section) keyword ≡ true → (tables.shape section).last ≡ None
-      → (tables.shape section).again ≡ again.Document → lacking (tables.rows section) (first ∷ taken) ≡ None
+      → (tables.shape section).again ≡ again.Document → lacking_keyword (tables.rows section) (first ∷ taken) ≡ None
       → made_by tables across (opening section (first ∷ taken) None) item ≡ Ok Stops
   stops across section first taken item keyword known opens opens_next no_last next whole =
       let open_ = opening section (first ∷ taken) None in

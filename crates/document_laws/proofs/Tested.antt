@@ -11,7 +11,7 @@ use Rattle.frame_terms.specs.declared.section.Again.{Again}
 use Rattle.frame_terms.specs.declared.section.Again.TheVariants.{Nothing, Section, Document}
 use Rattle.frame_terms.specs.declared.section.Shape.{Shape}
 use Rattle.frame_terms.specs.Keywords.{same}
-use Rattle.frame_terms.specs.Order.{following, is_keyword, opener, repeats}
+use Rattle.frame_terms.specs.Order.{following_sections, is_keyword, opener, repeats}
 use Rattle.frame_terms.specs.Rows.{is_many, is_one}
 use Rattle.frame_terms.specs.Sections.{row_of}
 use Rattle.frame_terms.specs.Tables.{Tables}
@@ -79,9 +79,9 @@ record There {A : Type 0} (test : A → Bool) (option : Option A) : Type 0 where
   found : option ≡ Some one
   passes : test one ≡ true
 
-there : {A : Type 0} (test : A → Bool) (option : Option A) → is_there test option ≡ true → There test option
-there test None is = absurd (cc (is))
-there test (Some one) is = record { one = one; found = refl; passes = is }
+passing_is_found : {A : Type 0} (test : A → Bool) (option : Option A) → is_there test option ≡ true → There test option
+passing_is_found test None is = absurd (cc (is))
+passing_is_found test (Some one) is = record { one = one; found = refl; passes = is }
 
 -- ---- keywords
 
@@ -123,7 +123,7 @@ module _ {S K V X : Type 0} (tables : Tables S K V X) where
   stands_once : (section : S) (keyword : Keyword) → once tables section keyword ≡ true
       → StandsOnce tables section keyword
   stands_once section keyword is =
-      let row = there (λ (row : Row K). is_one row.count) (row_of (tables.rows section) keyword) is in
+      let row = passing_is_found (λ (row : Row K). is_one row.count) (row_of (tables.rows section) keyword) is in
       record { row = row.one; has_row = row.found; once = one_is row.one.count row.passes }
 
   module _ (section : S) (last : Keyword) (is : ends_well tables section last ≡ true) where
@@ -141,11 +141,11 @@ module _ {S K V X : Type 0} (tables : Tables S K V X) where
   inner_is section is =
       let shape = tables.shape section in
       let tests = all_are
-      (is_empty (following tables section) ∷ not (is_again shape.again) ∷ not (is_some shape.inner)
+      (is_empty (following_sections tables section) ∷ not (is_again shape.again) ∷ not (is_some shape.inner)
       ∷ is_there (ends_well tables section) shape.last ∷ []) is in
-      let last = there (ends_well tables section) shape.last tests.1.1.1.0 in
+      let last = passing_is_found (ends_well tables section) shape.last tests.1.1.1.0 in
       record {
-        apart = none_is (following tables section) tests.0;
+        apart = none_is (following_sections tables section) tests.0;
         again = not_again shape.again tests.1.0;
         plain = no_one shape.inner tests.1.1.0;
         last = last.one;
@@ -162,7 +162,7 @@ module _ {S K V X : Type 0} (tables : Tables S K V X) where
       let tests = all_are
       (is_there few (row_of (tables.rows section) (opener tables inside))
       ∷ not (is_keyword ((tables.shape section).last) (opener tables inside)) ∷ is_inner tables inside ∷ []) is in
-      let row = there few (row_of (tables.rows section) (opener tables inside)) tests.0 in
+      let row = passing_is_found few (row_of (tables.rows section) (opener tables inside)) tests.0 in
       record {
         row = row.one;
         has_row = row.found;
@@ -194,23 +194,23 @@ module _ {S K V X : Type 0} (tables : Tables S K V X) (pass : PassTests tables) 
     tests : AllByRecursion (λ test. test ≡ true)
         (once tables section (opener tables section)
         ∷ differ (map (λ (row : Row K). row.keyword) rows)
-        ∷ list_all (λ later. not (is_some (row_of rows (opener tables later)))) (following tables section)
-        ∷ (not (ends_document tables section) || is_empty (following tables section))
+        ∷ list_all (λ later. not (is_some (row_of rows (opener tables later)))) (following_sections tables section)
+        ∷ (not (ends_document tables section) || is_empty (following_sections tables section))
         ∷ if_there (λ last. each (ends_well tables section last ∷ not (repeats shape.again) ∷ [])) shape.last
         ∷ if_there (may_enter tables section) shape.inner ∷ [])
     tests = all_are
         (once tables section (opener tables section)
         ∷ differ (map (λ (row : Row K). row.keyword) rows)
-        ∷ list_all (λ later. not (is_some (row_of rows (opener tables later)))) (following tables section)
-        ∷ (not (ends_document tables section) || is_empty (following tables section))
+        ∷ list_all (λ later. not (is_some (row_of rows (opener tables later)))) (following_sections tables section)
+        ∷ (not (ends_document tables section) || is_empty (following_sections tables section))
         ∷ if_there (λ last. each (ends_well tables section last ∷ not (repeats shape.again) ∷ [])) shape.last
         ∷ if_there (may_enter tables section) shape.inner ∷ [])
         (pass.each section)
 
-    ends_last : ends_document tables section ≡ true → following tables section ≡ []
+    ends_last : ends_document tables section ≡ true → following_sections tables section ≡ []
     ends_last ends =
-        none_is (following tables section)
-        (not_or (ends_document tables section) (is_empty (following tables section)) tests.1.1.1.0 ends)
+        none_is (following_sections tables section)
+        (not_or (ends_document tables section) (is_empty (following_sections tables section)) tests.1.1.1.0 ends)
 
     may : (inside : S) → shape.inner ≡ Some inside → may_enter tables section inside ≡ true
     may inside e =
@@ -224,11 +224,11 @@ module _ {S K V X : Type 0} (tables : Tables S K V X) (pass : PassTests tables) 
         (is_there few (row_of rows (opener tables inside)) ∷ not (is_keyword shape.last (opener tables inside))
         ∷ is_inner tables inside ∷ []) (may inside e)).1.1.0
 
-    openers_apart : AllByRecursion (λ (later : S). row_of rows (opener tables later) ≡ None) (following tables section)
+    openers_apart : AllByRecursion (λ (later : S). row_of rows (opener tables later) ≡ None) (following_sections tables section)
     openers_apart =
         all_hold (λ later. not (is_some (row_of rows (opener tables later))))
         (λ later. row_of rows (opener tables later) ≡ None)
-        (λ later no. no_one (row_of rows (opener tables later)) no) (following tables section) tests.1.1.0
+        (λ later no. no_one (row_of rows (opener tables later)) no) (following_sections tables section) tests.1.1.0
 
     entrance : (option : Option S) → if_there (may_enter tables section) option ≡ true
         → IfSome option (λ inside. IsRegarded tables section (opener tables inside))

@@ -10,9 +10,9 @@ use Rattle.frame_terms.specs.declared.document.Taken.{Taken}
 use Rattle.frame_terms.specs.declared.keyword.Keyword.{Keyword}
 use Rattle.frame_terms.specs.declared.section.Again.TheVariants as again
 use Rattle.frame_terms.specs.Keywords.{same}
-use Rattle.frame_terms.specs.Order.{following, inner, is_keyword, opened_by, opener, passed_over}
+use Rattle.frame_terms.specs.Order.{following_sections, inner, is_keyword, opened_by, opener, passed_over}
 use Rattle.frame_terms.specs.Rows.{is_many}
-use Rattle.frame_terms.specs.Sections.{lacking, lacking_but, row_of, stands}
+use Rattle.frame_terms.specs.Sections.{lacking_keyword, lacking_but, row_of, stands}
 use Rattle.frame_terms.specs.Tables.{Tables}
 use Rattle.document_laws.specs.Items.{IsItemOf}
 use Rattle.document_laws.specs.Passing.{IsPassedIn}
@@ -47,8 +47,8 @@ pub record IsEnding {S K V X : Type 0} (tables : Tables S K V X) (across : X) (s
 -- the section that a keyword opens behind another, so that none is left out that has to stand
 pub record IsLater {S K V X : Type 0} (tables : Tables S K V X) (section next : S) : Type 0 where
   pub keyword : Keyword
-  pub opened : opened_by tables keyword (following tables section) ≡ Some next
-  pub passes_none : passed_over tables keyword (following tables section) ≡ None
+  pub opened : opened_by tables keyword (following_sections tables section) ≡ Some next
+  pub passes_none : passed_over tables keyword (following_sections tables section) ≡ None
 
 -- the same section once more
 pub record IsAgain {S K V X : Type 0} (tables : Tables S K V X) (section next : S) : Type 0 where
@@ -58,7 +58,7 @@ pub record IsAgain {S K V X : Type 0} (tables : Tables S K V X) (section next : 
 -- the first item of the next section, where all rows of the one that is open stand
 pub record IsOpening {S K V X : Type 0} (tables : Tables S K V X) (across : X) (section : S) (before : List (Taken V))
     (next : S) (item : Item) (one : Taken V) : Type 0 where
-  pub whole : lacking (tables.rows section) before ≡ None
+  pub whole : lacking_keyword (tables.rows section) before ≡ None
   pub accepted : IsAccepted tables across next [] item one
   pub opens : same (opener tables next) one.keyword ≡ true
   pub follows : IsLater tables section next ⊎ IsAgain tables section next
@@ -72,7 +72,7 @@ pub record IsEntering {S K V X : Type 0} (tables : Tables S K V X) (across : X) 
 -- the next document begins, where all rows of the section that is open stand
 pub record IsStopping {S K V X : Type 0} (tables : Tables S K V X) (section : S) (before : List (Taken V)) : Type 0
   where
-    pub whole : lacking (tables.rows section) before ≡ None
+    pub whole : lacking_keyword (tables.rows section) before ≡ None
     pub stops : (tables.shape section).again ≡ again.Document
 
 -- a section whose opener has no row there

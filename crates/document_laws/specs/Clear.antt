@@ -5,7 +5,7 @@ use Rattle.item_terms.specs.Items.{Item}
 use Rattle.frame_terms.specs.declared.keyword.Keyword.{Keyword}
 use Rattle.frame_terms.specs.declared.row.Row.{Row}
 use Rattle.frame_terms.specs.Keywords.{same}
-use Rattle.frame_terms.specs.Order.{following, is_keyword, opener, repeats}
+use Rattle.frame_terms.specs.Order.{following_sections, is_keyword, opener, repeats}
 use Rattle.frame_terms.specs.Rows.{is_many}
 use Rattle.frame_terms.specs.Sections.{row_of}
 use Rattle.frame_terms.specs.Tables.{Tables}
@@ -35,7 +35,7 @@ pub record AreClear {S K V X : Type 0} (tables : Tables S K V X) : Type 0 where
   pub rows_apart : (section : S) → AllByRecursion
       (λ (row : Row K). row_of (tables.rows section) row.keyword ≡ Some row) (tables.rows section)
   pub openers_apart : (section : S) → AllByRecursion
-      (λ (later : S). row_of (tables.rows section) (opener tables later) ≡ None) (following tables section)
+      (λ (later : S). row_of (tables.rows section) (opener tables later) ≡ None) (following_sections tables section)
   pub regarded : (section : S) → IfSome (row_of (tables.rows section) (opener tables section))
       (λ (row : Row K). (item : Item) → tables.ignores row.kind item ≡ false)
   pub ends : (section : S) → IfSome ((tables.shape section).last) (λ last. IsEnd tables section last)

@@ -7,7 +7,7 @@ use Rattle.frame_terms.specs.declared.row.Row.{Row}
 use Rattle.frame_terms.specs.declared.section.Again.{Again}
 use Rattle.frame_terms.specs.declared.section.Again.TheVariants.{Nothing, Section, Document}
 use Rattle.frame_terms.specs.Keywords.{same}
-use Rattle.frame_terms.specs.Order.{following, opener}
+use Rattle.frame_terms.specs.Order.{following_sections, opener}
 use Rattle.frame_terms.specs.Sections.{row_of}
 use Rattle.frame_terms.specs.Tables.{Tables}
 
@@ -19,7 +19,7 @@ pub record StandsOnce {S K V X : Type 0} (tables : Tables S K V X) (section : S)
 
 -- A section inside others is none of those in order, ends with an item of its own, and has none inside it.
 pub record IsInner {S K V X : Type 0} (tables : Tables S K V X) (section : S) : Type 0 where
-  pub apart : following tables section ≡ []
+  pub apart : following_sections tables section ≡ []
   pub again : (tables.shape section).again ≡ Nothing
   pub plain : (tables.shape section).inner ≡ None
   pub last : Keyword
@@ -46,5 +46,5 @@ pub record AreSound {S K V X : Type 0} (tables : Tables S K V X) : Type 0 where
   pub begins : tables.sections ≡ tables.first ∷ others
   pub apart : IsDistinct same (map (λ section. opener tables section) tables.sections)
   pub opener_once : (section : S) → StandsOnce tables section (opener tables section)
-  pub ends_last : (section : S) → ends_document tables section ≡ true → following tables section ≡ []
+  pub ends_last : (section : S) → ends_document tables section ≡ true → following_sections tables section ≡ []
   pub inner : (section inside : S) → (tables.shape section).inner ≡ Some inside → IsInner tables inside

@@ -7,7 +7,7 @@ use Rattle.frame_terms.specs.declared.row.Row.{Row}
 use Rattle.frame_terms.specs.declared.section.Again.{Again}
 use Rattle.frame_terms.specs.declared.section.Again.TheVariants.{Nothing, Section, Document}
 use Rattle.frame_terms.specs.Keywords.{same}
-use Rattle.frame_terms.specs.Order.{following, is_keyword, opener, repeats}
+use Rattle.frame_terms.specs.Order.{following_sections, is_keyword, opener, repeats}
 use Rattle.frame_terms.specs.Rows.{is_many, is_one}
 use Rattle.frame_terms.specs.Sections.{row_of}
 use Rattle.frame_terms.specs.Tables.{Tables}
@@ -56,7 +56,7 @@ module _ {S K V X : Type 0} (tables : Tables S K V X) where
   -- inside it
   abbrev pub is_inner : S → Bool
   is_inner section = each (
-      is_empty (following tables section)
+      is_empty (following_sections tables section)
       ∷ not (is_again ((tables.shape section).again))
       ∷ not (is_some ((tables.shape section).inner))
       ∷ is_there (ends_well section) ((tables.shape section).last) ∷ [])
@@ -74,8 +74,8 @@ module _ {S K V X : Type 0} (tables : Tables S K V X) where
   is_clear section = each (
       once section (opener tables section)
       ∷ differ (map (λ (row : Row K). row.keyword) (tables.rows section))
-      ∷ list_all (λ later. not (is_some (row_of (tables.rows section) (opener tables later)))) (following tables section)
-      ∷ (not (ends_document tables section) || is_empty (following tables section))
+      ∷ list_all (λ later. not (is_some (row_of (tables.rows section) (opener tables later)))) (following_sections tables section)
+      ∷ (not (ends_document tables section) || is_empty (following_sections tables section))
       ∷ if_there (λ last. each (ends_well section last ∷ not (repeats ((tables.shape section).again)) ∷ []))
       ((tables.shape section).last)
       ∷ if_there (may_enter section) ((tables.shape section).inner) ∷ [])

@@ -2,7 +2,7 @@
 use Rattle.std.specs.Prelude.{ℕ, List, [], ◌∷◌, codes}
 use Rattle.exit_status.specs.BandwidthLines.{bandwidth_number, bandwidth_parts}
 use Rattle.exit_status.specs.DocumentLines.{document_limit, fault_number, fault_parts}
-use Rattle.exit_status.specs.Parts.{end, joined}
+use Rattle.exit_status.specs.Parts.{end, joined_parts}
 use Rattle.exit_status.specs.ReportLines.{report_number, report_parts}
 use Rattle.exit_status.specs.StationLines.{station_number, station_parts}
 use Rattle.exit_status.specs.VoteLines.{votes_number, votes_parts}
@@ -35,7 +35,7 @@ parts (status.Refused why) = refusal_parts why
 
 -- the line of a status, none where the text was written
 abbrev pub line_of : Status → List ℕ
-line_of given = joined (parts given)
+line_of given = joined_parts (parts given)
 
 -- ---- numbers
 

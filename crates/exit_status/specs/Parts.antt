@@ -8,8 +8,8 @@ abbrev pub end : List ℕ
 end = line_feed ∷ []
 
 -- the text of some parts
-abbrev pub joined : List (List ℕ) → List ℕ
-joined pieces = flat_map (λ piece. piece) pieces
+abbrev pub joined_parts : List (List ℕ) → List ℕ
+joined_parts pieces = flat_map (λ piece. piece) pieces
 
 -- what is wrong at a place, with a keyword where one belongs to it
 abbrev pub at_place : ℕ → List ℕ → List ℕ → List (List ℕ)

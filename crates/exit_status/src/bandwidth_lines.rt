@@ -1,7 +1,7 @@
 // The line and the number of each reason why an input gives no bandwidth file that counts.
 ghost use Rattle.std.specs.Prelude.{◌≡◌, ◌≤◌, List, ℕ, [], map};
 ghost use Rattle.exit_status.specs.BandwidthLines as lines;
-ghost use Rattle.exit_status.specs.Parts.{joined};
+ghost use Rattle.exit_status.specs.Parts.{joined_parts};
 ghost use Rattle.exit_status.specs.Reports.{Reports};
 
 use crate::parts::{report_at, write_parts};
@@ -36,7 +36,7 @@ fn fault_number(reason: BandReason) -> u8
 /// Writes what is wrong with a bandwidth file.
 fn report_fault<E: Sink>(errors: &mut E, place: u64, reason: BandReason)
     ensures { Reports (E.written errors.old) (E.written errors.new) (E.faults errors.old) (E.faults errors.new)
-        (joined (lines.fault_parts place reason)) }
+        (joined_parts (lines.fault_parts place reason)) }
 {
     match reason {
         BandReason::Timestamp => report_at(errors, place, b"timestamp", b""),
@@ -52,7 +52,7 @@ fn report_fault<E: Sink>(errors: &mut E, place: u64, reason: BandReason)
 /// Writes why an input gives no bandwidth file that counts.
 pub fn report_bandwidth<E: Sink>(errors: &mut E, refusal: BandwidthRefusal)
     ensures { Reports (E.written errors.old) (E.written errors.new) (E.faults errors.old) (E.faults errors.new)
-        (joined (lines.bandwidth_parts refusal)) }
+        (joined_parts (lines.bandwidth_parts refusal)) }
 {
     match refusal {
         BandwidthRefusal::Fault(fault) => report_fault(errors, fault.place, fault.reason),

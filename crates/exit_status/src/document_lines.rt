@@ -1,7 +1,7 @@
 // The line and the number of each fault of an input that is read as documents of a kind.
 ghost use Rattle.std.specs.Prelude.{◌≡◌, ◌≤◌, List, ℕ, [], map};
 ghost use Rattle.exit_status.specs.DocumentLines as lines;
-ghost use Rattle.exit_status.specs.Parts.{joined};
+ghost use Rattle.exit_status.specs.Parts.{joined_parts};
 ghost use Rattle.exit_status.specs.Reports.{Reports};
 
 use crate::parts::{report_at, write_parts};
@@ -63,7 +63,7 @@ fn doc_text(limit: &'static [u8], reason: DocReason) -> &'static [u8]
 /// Writes what is wrong with a line or an object of a document that has this limit.
 fn report_doc<E: Sink>(errors: &mut E, limit: &'static [u8], place: u64, reason: DocReason)
     ensures { Reports (E.written errors.old) (E.written errors.new) (E.faults errors.old) (E.faults errors.new)
-        (joined (lines.doc_parts limit.now place reason)) }
+        (joined_parts (lines.doc_parts limit.now place reason)) }
 {
     match reason {
         DocReason::LineTooLong | DocReason::DocumentTooLong | DocReason::ObjectTooLong => {
@@ -76,7 +76,7 @@ fn report_doc<E: Sink>(errors: &mut E, limit: &'static [u8], place: u64, reason:
 /// Writes what is wrong with a document that has this limit.
 pub fn report_fault<E: Sink>(errors: &mut E, limit: &'static [u8], place: u64, reason: FrameReason)
     ensures { Reports (E.written errors.old) (E.written errors.new) (E.faults errors.old) (E.faults errors.new)
-        (joined (lines.fault_parts limit.now place reason)) }
+        (joined_parts (lines.fault_parts limit.now place reason)) }
 {
     match reason {
         FrameReason::Doc(reason) => report_doc(errors, limit, place, reason),

@@ -1,7 +1,7 @@
 // A line of several parts on a sink. It takes no memory.
 ghost use Rattle.std.specs.Prelude.{◌≡◌, ◌≤◌, List, ℕ, [], map};
 ghost use Rattle.std.specs.List.{flat_map};
-ghost use Rattle.exit_status.specs.Parts.{at_place, joined};
+ghost use Rattle.exit_status.specs.Parts.{at_place, joined_parts};
 ghost use Rattle.exit_status.specs.Reports.{Reports};
 
 use dir_bytes::{Sink, WriteAll, write_all};
@@ -9,7 +9,7 @@ use dir_bytes::{Sink, WriteAll, write_all};
 /// Writes what is wrong at a place, with a keyword where one belongs to it.
 pub fn report_at<E: Sink>(errors: &mut E, place: u64, what: &[u8], keyword: &[u8])
     ensures { Reports (E.written errors.old) (E.written errors.new) (E.faults errors.old) (E.faults errors.new)
-        (joined (at_place place what.now keyword.now)) }
+        (joined_parts (at_place place what.now keyword.now)) }
 {
     let mut at = itoa::Buffer::new();
     let at = at.format(place);

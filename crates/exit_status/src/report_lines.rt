@@ -1,6 +1,6 @@
 // The line and the number of each reason why an input gives no report.
 ghost use Rattle.std.specs.Prelude.{◌≡◌, ◌≤◌, List, ℕ, [], map};
-ghost use Rattle.exit_status.specs.Parts.{joined};
+ghost use Rattle.exit_status.specs.Parts.{joined_parts};
 ghost use Rattle.exit_status.specs.ReportLines as lines;
 ghost use Rattle.exit_status.specs.Reports.{Reports};
 
@@ -22,7 +22,7 @@ pub(crate) fn report_number(refusal: NoReport) -> u8
 /// Writes why an input gives no report.
 pub fn report_report<E: Sink>(errors: &mut E, refusal: NoReport)
     ensures { Reports (E.written errors.old) (E.written errors.new) (E.faults errors.old) (E.faults errors.new)
-        (joined (lines.report_parts refusal)) }
+        (joined_parts (lines.report_parts refusal)) }
 {
     match refusal {
         NoReport::Missing { place } => {

@@ -1,7 +1,7 @@
 // The line and the number of each reason why a station can make no vote.
 ghost use Rattle.std.specs.Prelude.{◌≡◌, ◌≤◌, List, ℕ, [], map};
 ghost use Rattle.exit_status.specs.StationLines as lines;
-ghost use Rattle.exit_status.specs.Parts.{joined};
+ghost use Rattle.exit_status.specs.Parts.{joined_parts};
 ghost use Rattle.exit_status.specs.Reports.{Reports};
 
 use crate::document_lines::{document_limit, fault_number, report_fault};
@@ -61,7 +61,7 @@ fn cert_text(word: CertWord) -> &'static [u8]
 /// Writes which descriptor does not hold, and why.
 fn report_descriptor<E: Sink>(errors: &mut E, number: u64, word: DescriptorWord)
     ensures { Reports (E.written errors.old) (E.written errors.new) (E.faults errors.old) (E.faults errors.new)
-        (joined (lines.descriptor_parts number word)) }
+        (joined_parts (lines.descriptor_parts number word)) }
 {
     let mut k = itoa::Buffer::new();
     let k = k.format(number);
@@ -80,7 +80,7 @@ fn report_descriptor<E: Sink>(errors: &mut E, number: u64, word: DescriptorWord)
 /// Writes what is wrong with what a station is given, or with the time.
 fn report_word<E: Sink>(errors: &mut E, word: &'static [u8])
     ensures { Reports (E.written errors.old) (E.written errors.new) (E.faults errors.old) (E.faults errors.new)
-        (joined (lines.word_parts word.now)) }
+        (joined_parts (lines.word_parts word.now)) }
 {
     write_parts(errors, &[b"station refused: ", word, b"\n"])
 }
@@ -88,7 +88,7 @@ fn report_word<E: Sink>(errors: &mut E, word: &'static [u8])
 /// Writes why a station can make no vote.
 pub fn report_station<E: Sink>(errors: &mut E, refusal: StationRefusal)
     ensures { Reports (E.written errors.old) (E.written errors.new) (E.faults errors.old) (E.faults errors.new)
-        (joined (lines.station_parts refusal)) }
+        (joined_parts (lines.station_parts refusal)) }
 {
     match refusal {
         StationRefusal::Fault(fault) => {

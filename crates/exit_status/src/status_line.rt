@@ -1,7 +1,7 @@
 // The line of a status on the errors sink. It takes no memory.
 ghost use Rattle.std.specs.Prelude.{◌≡◌, ◌≤◌, List, ℕ, [], map};
 ghost use Rattle.exit_status.specs.Lines.{line_of, refusal_parts};
-ghost use Rattle.exit_status.specs.Parts.{joined};
+ghost use Rattle.exit_status.specs.Parts.{joined_parts};
 ghost use Rattle.exit_status.specs.Reports.{Reports};
 
 use crate::bandwidth_lines::report_bandwidth;
@@ -32,7 +32,7 @@ pub fn report<E: Sink>(errors: &mut E, status: Status)
 /// Writes the line of a refusal: a line here for each family of reasons.
 fn report_refusal<E: Sink>(errors: &mut E, refusal: Refusal)
     ensures { Reports (E.written errors.old) (E.written errors.new) (E.faults errors.old) (E.faults errors.new)
-        (joined (refusal_parts refusal)) }
+        (joined_parts (refusal_parts refusal)) }
 {
     match refusal {
         Refusal::Document(refusal) => report_fault(

@@ -1,7 +1,7 @@
 // The line and the number of each reason why a list of votes gives no consensus.
 ghost use Rattle.std.specs.Prelude.{◌≡◌, ◌≤◌, List, ℕ, [], map};
 ghost use Rattle.exit_status.specs.VoteLines as lines;
-ghost use Rattle.exit_status.specs.Parts.{joined};
+ghost use Rattle.exit_status.specs.Parts.{joined_parts};
 ghost use Rattle.exit_status.specs.Reports.{Reports};
 
 use crate::parts::write_parts;
@@ -37,7 +37,7 @@ fn word_text(word: VoteWord) -> &'static [u8]
 /// Writes why a list of votes gives no consensus.
 pub fn report_votes<E: Sink>(errors: &mut E, refusal: VoteListRefusal)
     ensures { Reports (E.written errors.old) (E.written errors.new) (E.faults errors.old) (E.faults errors.new)
-        (joined (lines.votes_parts refusal)) }
+        (joined_parts (lines.votes_parts refusal)) }
 {
     match refusal {
         VoteListRefusal::Vote { number, word } => {

@@ -7,26 +7,26 @@ use Rattle.std.proofs.lemmas.Bool.{leb-false, ltb-true}
 use Rattle.dir_values.specs.declared.port_range.PortRange.{PortRange}
 use Rattle.dir_values.specs.Ports.{Ports, range_text, entries_text}
 use Rattle.item_terms.specs.Bytes.{space, comma}
-use Rattle.exit_summary.specs.Summaries.{accepted_ranges, rejected_ranges, accepting, rejecting, most_bytes}
-use Rattle.exit_summary.specs.Summaries.{most_behind_word, size_of, fitting, cut, are_long, of_ranges}
+use Rattle.exit_summary.specs.Summaries.{accepted_ranges, rejected_ranges, accepted_ports, rejected_ports, most_bytes}
+use Rattle.exit_summary.specs.Summaries.{most_behind_word, size_of, ranges_fitting, cut_summary, are_long, of_ranges}
 use Rattle.exit_summary.specs.Summaries.{IsLongestFront, CutsAreLongest}
 use Rattle.exit_summary.proofs.Fitting.{taken_by}
 
 -- the ranges that fit stand in front
-front : (room : ℕ) (ranges : List PortRange) → fitting room ranges ≡ take (length (fitting room ranges)) ranges
+front : (room : ℕ) (ranges : List PortRange) → ranges_fitting room ranges ≡ take (length (ranges_fitting room ranges)) ranges
 front room [] = refl
 front room (range ∷ rest) =
     let left = room - taken_by range in
     elim (nat_le (taken_by range) room)
-    as (λ b. (if b then range ∷ fitting left rest else [])
-    ≡ take (length (if b then range ∷ fitting left rest else [])) (range ∷ rest)) [
+    as (λ b. (if b then range ∷ ranges_fitting left rest else [])
+    ≡ take (length (if b then range ∷ ranges_fitting left rest else [])) (range ∷ rest)) [
       | true ↦ ap (λ (l : List PortRange). range ∷ l) (front left rest)
       | false ↦ refl
     ]
 
 -- no longer front has a text that fits
 longest : (room separator : ℕ) (ranges : List PortRange) (count : ℕ) → count ≤ length ranges
-    → length (entries_text separator (take count ranges)) ≤ room → count ≤ length (fitting room ranges)
+    → length (entries_text separator (take count ranges)) ≤ room → count ≤ length (ranges_fitting room ranges)
 longest room separator ranges zero within fits = omega arith
 longest room separator [] (suc count) within fits = absurd (omega arith)
 longest room separator (range ∷ rest) (suc count) within fits =
@@ -34,9 +34,9 @@ longest room separator (range ∷ rest) (suc count) within fits =
     let later = entries_text comma (take count rest) in
     let size = length-append (range_text range) later in
     let by : (b : Bool) → nat_le (taken_by range) room ≡ b
-    → suc count ≤ length (if b then range ∷ fitting left rest else []) =
+    → suc count ≤ length (if b then range ∷ ranges_fitting left rest else []) =
     λ b. elim b as (λ b. nat_le (taken_by range) room ≡ b
-    → suc count ≤ length (if b then range ∷ fitting left rest else [])) [
+    → suc count ≤ length (if b then range ∷ ranges_fitting left rest else [])) [
       | true ↦ λ is.
           let more = longest left comma rest count (omega (arith, within)) (omega (arith, fits, size)) in
           omega (arith, more)
@@ -47,21 +47,21 @@ longest room separator (range ∷ rest) (suc count) within fits =
     by (nat_le (taken_by range) room) refl
 
 -- where both texts are too long, there are ranges of both, and the accepted ones are cut
-taken_cut : (first second : List PortRange) → are_long (accepting first) (rejecting second) ≡ true
-    → of_ranges first second ≡ cut first
+taken_cut : (first second : List PortRange) → are_long (accepted_ports first) (rejected_ports second) ≡ true
+    → of_ranges first second ≡ cut_summary first
 taken_cut [] second long =
-    let lt = ltb-true most_bytes (min (size_of (accepting [])) (size_of (rejecting second))) long in
+    let lt = ltb-true most_bytes (min (size_of (accepted_ports [])) (size_of (rejected_ports second))) long in
     absurd (omega (arith, lt))
 taken_cut (range ∷ more) [] long =
-    let lt = ltb-true most_bytes (min (size_of (accepting (range ∷ more))) (size_of (rejecting []))) long in
+    let lt = ltb-true most_bytes (min (size_of (accepted_ports (range ∷ more))) (size_of (rejected_ports []))) long in
     absurd (omega (arith, lt))
 taken_cut (range ∷ more) (other ∷ others) long =
-    let first = accepting (range ∷ more) in
-    let second = rejecting (other ∷ others) in
+    let first = accepted_ports (range ∷ more) in
+    let second = rejected_ports (other ∷ others) in
     let shorter_one = if nat_le (size_of first) (size_of second) then first else second in
-    ap (λ (b : Bool). if b then cut first.ranges else shorter_one) long
+    ap (λ (b : Bool). if b then cut_summary first.ranges else shorter_one) long
 
-longest_front : (ranges : List PortRange) → IsLongestFront ranges (cut ranges)
+longest_front : (ranges : List PortRange) → IsLongestFront ranges (cut_summary ranges)
 longest_front ranges = record {
   accepts = refl;
   first = front most_behind_word ranges;

@@ -9,7 +9,7 @@ use Rattle.item_terms.specs.Bytes.{hyphen}
 use Rattle.dir_values.specs.declared.port_range.PortRange.{PortRange}
 use Rattle.dir_values.specs.Ports.{last_port, are_apart, are_ranges, range_text}
 use Rattle.dir_values.proofs.Apart.{first_apart, apart_first}
-use Rattle.exit_summary.specs.Summaries.{most_behind_word, fitting}
+use Rattle.exit_summary.specs.Summaries.{most_behind_word, ranges_fitting}
 
 -- how many bytes a range takes, with the byte before it
 abbrev pub taken_by : PortRange → ℕ
@@ -17,15 +17,15 @@ taken_by range = 1 + length (range_text range)
 
 -- ranges that fit are apart as they were
 fitting_apart : (room next : ℕ) (ranges : List PortRange) → are_apart next ranges ≡ true
-    → are_apart next (fitting room ranges) ≡ true
+    → are_apart next (ranges_fitting room ranges) ≡ true
 fitting_apart room next [] apart = refl
 fitting_apart room next (range ∷ rest) apart =
     let is = first_apart next range rest apart in
     let left = room - taken_by range in
     let more = fitting_apart left (range.high + 2) rest is.later in
     elim (nat_le (taken_by range) room)
-    as (λ b. are_apart next (if b then range ∷ fitting left rest else []) ≡ true) [
-      | true ↦ apart_first next range (fitting left rest)
+    as (λ b. are_apart next (if b then range ∷ ranges_fitting left rest else []) ≡ true) [
+      | true ↦ apart_first next range (ranges_fitting left rest)
           (record { from = is.from; up = is.up; last = is.last; later = more })
       | false ↦ refl
     ]
@@ -45,7 +45,7 @@ range_short range low high =
 
 -- the first range fits
 pub fitting_ranges : (ranges : List PortRange) → are_ranges ranges ≡ true
-    → are_ranges (fitting most_behind_word ranges) ≡ true
+    → are_ranges (ranges_fitting most_behind_word ranges) ≡ true
 fitting_ranges [] are = absurd cc
 fitting_ranges (range ∷ rest) are =
     let apart = (and_parts (nat_le 1 (length (range ∷ rest))) (are_apart 1 (range ∷ rest)) are).1 in
@@ -55,33 +55,33 @@ fitting_ranges (range ∷ rest) are =
     let short = range_short range (omega (arith, up, last)) last in
     let fits : nat_le (taken_by range) most_behind_word ≡ true =
     le-leb (taken_by range) most_behind_word (omega (arith, short)) in
-    let some : fitting most_behind_word (range ∷ rest)
-    ≡ range ∷ fitting (most_behind_word - taken_by range) rest = rw fits refl in
-    let ranges = fitting most_behind_word (range ∷ rest) in
+    let some : ranges_fitting most_behind_word (range ∷ rest)
+    ≡ range ∷ ranges_fitting (most_behind_word - taken_by range) rest = rw fits refl in
+    let ranges = ranges_fitting most_behind_word (range ∷ rest) in
     let one = le-leb 1 (length ranges) (omega (arith, ap (λ (l : List PortRange). length l) some)) in
     and_from (nat_le 1 (length ranges)) (are_apart 1 ranges) one
     (fitting_apart most_behind_word 1 (range ∷ rest) apart)
 
 -- a range that fits is taken
-pub one_more : (room : ℕ) (ranges : List PortRange) (i : ℕ) (d : PortRange) → i < length ranges
+pub fitting_range_is_taken : (room : ℕ) (ranges : List PortRange) (i : ℕ) (d : PortRange) → i < length ranges
     → taken_by (get_or ranges i d) ≤ room
-    → fitting room (drop i ranges)
-    ≡ get_or ranges i d ∷ fitting (room - taken_by (get_or ranges i d)) (drop (i + 1) ranges)
-one_more room ranges i d lt fits =
+    → ranges_fitting room (drop i ranges)
+    ≡ get_or ranges i d ∷ ranges_fitting (room - taken_by (get_or ranges i d)) (drop (i + 1) ranges)
+fitting_range_is_taken room ranges i d lt fits =
     let range = get_or ranges i d in
     let left = room - taken_by range in
     let one : suc i ≡ i + 1 = omega arith in
     let test : nat_le (taken_by range) room ≡ true = le-leb (taken_by range) room fits in
-    let taken : fitting room (range ∷ drop (suc i) ranges) ≡ range ∷ fitting left (drop (suc i) ranges) =
+    let taken : ranges_fitting room (range ∷ drop (suc i) ranges) ≡ range ∷ ranges_fitting left (drop (suc i) ranges) =
     rw test refl in
-    ap (fitting room) (drop-cons ranges i d lt) ∙ taken
-    ∙ ap (λ (n : ℕ). range ∷ fitting left (drop n ranges)) one
+    ap (ranges_fitting room) (drop-cons ranges i d lt) ∙ taken
+    ∙ ap (λ (n : ℕ). range ∷ ranges_fitting left (drop n ranges)) one
 
 -- where one does not fit, none is taken
 pub no_more : (room : ℕ) (ranges : List PortRange) (i : ℕ) (d : PortRange) → i < length ranges
-    → room ≤ length (range_text (get_or ranges i d)) → fitting room (drop i ranges) ≡ []
+    → room ≤ length (range_text (get_or ranges i d)) → ranges_fitting room (drop i ranges) ≡ []
 no_more room ranges i d lt long =
     let range = get_or ranges i d in
     let test : nat_le (taken_by range) room ≡ false = lt-leb (taken_by range) room (omega (arith, long)) in
-    let none : fitting room (range ∷ drop (suc i) ranges) ≡ [] = rw test refl in
-    ap (fitting room) (drop-cons ranges i d lt) ∙ none
+    let none : ranges_fitting room (range ∷ drop (suc i) ranges) ≡ [] = rw test refl in
+    ap (ranges_fitting room) (drop-cons ranges i d lt) ∙ none

@@ -60,8 +60,8 @@ accepts_after rejected (item ∷ items) =
     else accepts_after (rejected + rejects item) items
 
 -- whether a policy accepts a port
-abbrev pub accepted : List PolicyItem → ℕ → Bool
-accepted items port = accepts_after 0 (filter (covers port) items)
+abbrev pub accepts_port : List PolicyItem → ℕ → Bool
+accepts_port items port = accepts_after 0 (filter (covers port) items)
 
 -- ---- the policies that are asked
 

@@ -5,24 +5,24 @@ use Rattle.std.specs.Prelude.{if◌then◌else◌}
 use Rattle.dir_values.specs.Ports.{Ports, accepts, last_port, range_text, summary_text}
 use Rattle.dir_values.specs.declared.port_range.PortRange.{PortRange}
 use Rattle.dir_values.specs.declared.policy.PolicyItem.{PolicyItem}
-use Rattle.exit_summary.specs.Policies.{accepted}
+use Rattle.exit_summary.specs.Policies.{accepts_port}
 use Rattle.exit_summary.specs.PortRanges.{ranges_of}
 
 -- the ranges of the ports that a policy accepts
 abbrev pub accepted_ranges : List PolicyItem → List PortRange
-accepted_ranges items = ranges_of (accepted items)
+accepted_ranges items = ranges_of (accepts_port items)
 
 -- the ranges of the ports that it rejects
 abbrev pub rejected_ranges : List PolicyItem → List PortRange
-rejected_ranges items = ranges_of (λ port. not (accepted items port))
+rejected_ranges items = ranges_of (λ port. not (accepts_port items port))
 
 -- the ports of some ranges, accepted
-abbrev pub accepting : List PortRange → Ports
-accepting ranges = record { accept = true; ranges = ranges }
+abbrev pub accepted_ports : List PortRange → Ports
+accepted_ports ranges = record { accept = true; ranges = ranges }
 
 -- the ports of some ranges, rejected
-abbrev pub rejecting : List PortRange → Ports
-rejecting ranges = record { accept = false; ranges = ranges }
+abbrev pub rejected_ports : List PortRange → Ports
+rejected_ports ranges = record { accept = false; ranges = ranges }
 
 -- every port
 abbrev pub every_port : List PortRange
@@ -41,15 +41,15 @@ abbrev pub most_behind_word : ℕ
 most_behind_word = 994
 
 -- the ranges from the first on whose texts fit into so many bytes, each with the byte before it
-abbrev pub fitting : ℕ → List PortRange → List PortRange
-fitting room [] = []
-fitting room (range ∷ rest) =
+abbrev pub ranges_fitting : ℕ → List PortRange → List PortRange
+ranges_fitting room [] = []
+ranges_fitting room (range ∷ rest) =
     let size = 1 + length (range_text range) in
-    if nat_le size room then range ∷ fitting (room - size) rest else []
+    if nat_le size room then range ∷ ranges_fitting (room - size) rest else []
 
 -- the ranges of a summary that accepts them, cut after the last one with which its text is not too long
-abbrev pub cut : List PortRange → Ports
-cut ranges = accepting (fitting most_behind_word ranges)
+abbrev pub cut_summary : List PortRange → Ports
+cut_summary ranges = accepted_ports (ranges_fitting most_behind_word ranges)
 
 -- whether the shorter of two texts is too long
 abbrev pub are_long : Ports → Ports → Bool
@@ -59,15 +59,15 @@ are_long first second = nat_lt most_bytes (min (size_of first) (size_of second))
 -- first, cut
 abbrev pub shorter : Ports → Ports → Ports
 shorter first second =
-    if are_long first second then cut first.ranges
+    if are_long first second then cut_summary first.ranges
     else if nat_le (size_of first) (size_of second) then first
     else second
 
 -- the summary of the ranges that are accepted and those that are rejected
 abbrev pub of_ranges : List PortRange → List PortRange → Ports
-of_ranges [] rejected = rejecting every_port
-of_ranges (range ∷ more) [] = accepting every_port
-of_ranges (range ∷ more) (other ∷ others) = shorter (accepting (range ∷ more)) (rejecting (other ∷ others))
+of_ranges [] rejected = rejected_ports every_port
+of_ranges (range ∷ more) [] = accepted_ports every_port
+of_ranges (range ∷ more) (other ∷ others) = shorter (accepted_ports (range ∷ more)) (rejected_ports (other ∷ others))
 
 -- the summary of a policy: the shorter list of ports, those that are accepted or those that are rejected
 abbrev pub summary_of : List PolicyItem → Ports
@@ -75,19 +75,19 @@ summary_of items = of_ranges (accepted_ranges items) (rejected_ranges items)
 
 -- whether the shorter of both lists is too long, so that the summary is cut
 abbrev pub is_cut : List PolicyItem → Bool
-is_cut items = are_long (accepting (accepted_ranges items)) (rejecting (rejected_ranges items))
+is_cut items = are_long (accepted_ports (accepted_ranges items)) (rejected_ports (rejected_ranges items))
 
 -- A summary that is not cut accepts the ports that the policy accepts.
 abbrev pub SummariesAccept : Type 0
 SummariesAccept =
     (items : List PolicyItem) (port : ℕ) → 1 ≤ port → port ≤ last_port → is_cut items ≡ false
-    → accepts (summary_of items) port ≡ accepted items port
+    → accepts (summary_of items) port ≡ accepts_port items port
 
 -- One that is cut accepts no others.
 abbrev pub SummariesAcceptNoMore : Type 0
 SummariesAcceptNoMore =
     (items : List PolicyItem) (port : ℕ) → 1 ≤ port → port ≤ last_port → accepts (summary_of items) port ≡ true
-    → accepted items port ≡ true
+    → accepts_port items port ≡ true
 
 -- A summary's text has at most 1,000 bytes.
 abbrev pub SummariesAreShort : Type 0
@@ -97,7 +97,7 @@ SummariesAreShort = (items : List PolicyItem) → size_of (summary_of items) ≤
 pub record IsLongestFront (whole : List PortRange) (front : Ports) : Type 0 where
   pub accepts : front.accept ≡ true
   pub first : front.ranges ≡ take (length front.ranges) whole
-  pub longest : (count : ℕ) → count ≤ length whole → size_of (accepting (take count whole)) ≤ most_bytes
+  pub longest : (count : ℕ) → count ≤ length whole → size_of (accepted_ports (take count whole)) ≤ most_bytes
       → count ≤ length front.ranges
 
 abbrev pub CutsAreLongest : Type 0

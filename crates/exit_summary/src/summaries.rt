@@ -95,7 +95,7 @@ fn text_len(alloc: Global, summary: &PortSummary) -> Result<usize, Memory>
 /// # Errors
 /// `Memory` is want of memory.
 fn cut(alloc: Global, summary: PortSummary) -> Result<PortSummary, Memory>
-    ensures { IfOk result (λ cut. cut ≡ summaries.cut summary.ranges) }
+    ensures { IfOk result (λ cut. cut ≡ summaries.cut_summary summary.ranges) }
 {
     let mut ranges = summary.into_ranges();
     let count = fitting(alloc, &ranges)?;
@@ -108,7 +108,7 @@ fn cut(alloc: Global, summary: PortSummary) -> Result<PortSummary, Memory>
 /// # Errors
 /// `Memory` is want of memory.
 fn fitting(alloc: Global, ranges: &[PortRange]) -> Result<usize, Memory>
-    ensures count { IfOk result (λ count. take count ranges.now ≡ summaries.fitting summaries.most_behind_word ranges.now) }
+    ensures count { IfOk result (λ count. take count ranges.now ≡ summaries.ranges_fitting summaries.most_behind_word ranges.now) }
     ensures within { IfOk result (λ count. count ≤ length ranges.now) }
 {
     let mut text = Vec::new(alloc);

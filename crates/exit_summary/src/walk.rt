@@ -22,7 +22,7 @@ pub(crate) fn stretch_to(items: &[PolicyItem], counts: &[u64], port: u16) -> Str
     requires from_one { 1 ≤ port }
     ensures from_one { 1 ≤ result.first }
     ensures within { result.first ≤ port }
-    ensures same { (other : ℕ) → result.first ≤ other → other ≤ port → policies.accepted items.now other ≡ result.accepted }
+    ensures same { (other : ℕ) → result.first ≤ other → other ≤ port → policies.accepts_port items.now other ≡ result.accepted }
 {
     let mut first = 1u16;
     let mut rejected = 0u64;

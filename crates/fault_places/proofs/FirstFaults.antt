@@ -12,10 +12,10 @@ use Rattle.frame_terms.specs.Decisions.{made_after, made_by, made_first, made_la
 use Rattle.frame_terms.specs.Documents.{Document, after_made, after_noted, at_end, closed_at, go_on, group}
 use Rattle.frame_terms.specs.Documents.{missing_at_end, note_of_made, onto, read_items, start}
 use Rattle.frame_terms.specs.Keywords.{word_of}
-use Rattle.frame_terms.specs.Order.{first_of, following, inner, is_keyword, is_strange, opened_by, passed_over}
-use Rattle.frame_terms.specs.Refusals.{refused}
+use Rattle.frame_terms.specs.Order.{first_of, following_sections, inner, is_keyword, is_strange, opened_by, passed_over}
+use Rattle.frame_terms.specs.Refusals.{refusal_at}
 use Rattle.frame_terms.specs.Rows.{is_many, limit_number}
-use Rattle.frame_terms.specs.Sections.{accept, lacking, lacking_but, row_of, stands, taken_as, taken_of}
+use Rattle.frame_terms.specs.Sections.{accept, lacking_keyword, lacking_but, row_of, stands, taken_as, taken_of}
 use Rattle.frame_terms.specs.Standing.{as_made, begins, begins_again, by_keyword, by_row, elsewhere, ends, enters}
 use Rattle.frame_terms.specs.Standing.{goes_on, in_section, unless}
 use Rattle.frame_terms.specs.Tables.{Tables}
@@ -80,7 +80,7 @@ module _ {S K V X : Type 0} (tables : Tables S K V X) (stand : FaultsStandIn tab
       → MadeIn (as_made make (accept tables across row taken item))
   accept_in make same row taken = by (not (is_many row.count) && stands row.keyword taken)
     where
-      by : (t : Bool) → MadeIn (as_made make (if t then Err (refused item.place (Twice row.keyword))
+      by : (t : Bool) → MadeIn (as_made make (if t then Err (refusal_at item.place (Twice row.keyword))
           else taken_as row.keyword item (tables.value_of across row.kind item)))
       by true = place_in
       by false = said_in make same row (tables.value_of across row.kind item) refl
@@ -108,10 +108,10 @@ module _ {S K V X : Type 0} (tables : Tables S K V X) (stand : FaultsStandIn tab
       let inside = inner tables open_.section row.keyword in
       accept_in (enters inside) (enters_noted inside) row open_.taken
   goes_on_in open_ row again.Section =
-      unless_in (lacking (tables.rows open_.section) open_.taken)
+      unless_in (lacking_keyword (tables.rows open_.section) open_.taken)
       (as_made (Opens open_.section) (accept tables across row [] item))
       (accept_in (Opens open_.section) (λ one. refl) row [])
-  goes_on_in open_ row again.Document = unless_in (lacking (tables.rows open_.section) open_.taken) (Ok Stops) tt
+  goes_on_in open_ row again.Document = unless_in (lacking_keyword (tables.rows open_.section) open_.taken) (Ok Stops) tt
 
   in_section_in : (open_ : Open S V) (row : Row K) → MadeIn (in_section tables across open_ item row)
   in_section_in open_ row = by (is_keyword ((tables.shape open_.section).last) row.keyword)
@@ -131,20 +131,20 @@ module _ {S K V X : Type 0} (tables : Tables S K V X) (stand : FaultsStandIn tab
       → MadeIn (elsewhere tables across open_ item keyword other)
   elsewhere_in open_ keyword None = by (is_strange tables open_.section keyword)
     where
-      by : (t : Bool) → MadeIn (if t then Err (refused item.place Order) else Ok Passes)
+      by : (t : Bool) → MadeIn (if t then Err (refusal_at item.place Order) else Ok Passes)
       by true = place_in
       by false = tt
   elsewhere_in open_ keyword (Some other) =
       let row = row_of (tables.rows other) keyword in
       unless_in
-      (first_of (lacking (tables.rows open_.section) open_.taken)
-      (passed_over tables keyword (following tables open_.section)))
+      (first_of (lacking_keyword (tables.rows open_.section) open_.taken)
+      (passed_over tables keyword (following_sections tables open_.section)))
       (begins tables across (Opens other) item row) (begins_in (Opens other) (λ one. refl) row)
 
   by_row_in : (open_ : Open S V) (keyword : Keyword) (row : Option (Row K))
       → MadeIn (by_row tables across open_ item keyword row)
   by_row_in open_ keyword None =
-      elsewhere_in open_ keyword (opened_by tables keyword (following tables open_.section))
+      elsewhere_in open_ keyword (opened_by tables keyword (following_sections tables open_.section))
   by_row_in open_ keyword (Some row) = by (tables.ignores row.kind item)
     where
       by : (t : Bool) → MadeIn (if t then Ok Passes else in_section tables across open_ item row)

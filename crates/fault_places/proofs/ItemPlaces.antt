@@ -35,8 +35,8 @@ module _ (n : ℕ) where
   -- ---- one field after the other
 
   pub one_in : {A : Type 0} (a : Argument) (x : Option A) → Begins n a → PlaceIn n (field a x)
-  one_in a None begins = begins
-  one_in a (Some value) begins = tt
+  one_in a None front_argument_begins = front_argument_begins
+  one_in a (Some value) front_argument_begins = tt
 
   pub then_in : {A B : Type 0} (read : Result A ℕ) (make : A → B) → PlaceIn n read
       → PlaceIn n (next read (λ value. Ok (make value)))
@@ -45,8 +45,8 @@ module _ (n : ℕ) where
 
   pub more_in : {A B : Type 0} (a : Argument) (x : Option A) (more : A → Result B ℕ) → Begins n a
       → ((value : A) → PlaceIn n (more value)) → PlaceIn n (next (field a x) more)
-  more_in a None more begins each = begins
-  more_in a (Some value) more begins each = each value
+  more_in a None more front_argument_begins each = front_argument_begins
+  more_in a (Some value) more front_argument_begins each = each value
 
 module _ (n : ℕ) (item : Item) (is : IsItemIn n item) where
   pub all_begin : EachBegins n (arguments_of item)
@@ -56,14 +56,14 @@ module _ (n : ℕ) (item : Item) (is : IsItemIn n item) where
   abbrev pub at_front : List Argument → Argument
   at_front arguments = front item.place arguments
 
-  pub begins : (arguments : List Argument) → EachBegins n arguments → Begins n (at_front arguments)
-  begins arguments each = front_begins n item.place arguments is.place each
+  pub front_argument_begins : (arguments : List Argument) → EachBegins n arguments → Begins n (at_front arguments)
+  front_argument_begins arguments each = front_begins n item.place arguments is.place each
 
   pub first_begins : Begins n (at_front (arguments_of item))
-  first_begins = begins (arguments_of item) all_begin
+  first_begins = front_argument_begins (arguments_of item) all_begin
 
   pub second_begins : Begins n (at_front (others (arguments_of item)))
-  second_begins = begins (others (arguments_of item)) (others_begin n (arguments_of item) all_begin)
+  second_begins = front_argument_begins (others (arguments_of item)) (others_begin n (arguments_of item) all_begin)
 
   -- ---- lines
 
@@ -142,11 +142,11 @@ module _ (n : ℕ) (item : Item) (is : IsItemIn n item) where
       let e = at_front l4 in
       let f = at_front l5 in
       more_in n a (span_if (is_nickname a.text) a) _ first_begins (λ nickname.
-      more_in n b (fingerprint b.text) _ (begins l1 e1) (λ digest.
-      more_in n c (span_if (is_there c.text) c) _ (begins l2 e2) (λ host_name.
-      more_in n d (address d.text) _ (begins l3 e3) (λ ip_number.
-      more_in n e (port_of e.text) _ (begins l4 e4) (λ dir_number.
-      then_in n (field f (port_of f.text)) _ (one_in n f (port_of f.text) (begins l5 e5)))))))
+      more_in n b (fingerprint b.text) _ (front_argument_begins l1 e1) (λ digest.
+      more_in n c (span_if (is_there c.text) c) _ (front_argument_begins l2 e2) (λ host_name.
+      more_in n d (address d.text) _ (front_argument_begins l3 e3) (λ ip_number.
+      more_in n e (port_of e.text) _ (front_argument_begins l4 e4) (λ dir_number.
+      then_in n (field f (port_of f.text)) _ (one_in n f (port_of f.text) (front_argument_begins l5 e5)))))))
 
   -- ---- objects and signatures
 
@@ -156,12 +156,12 @@ module _ (n : ℕ) (item : Item) (is : IsItemIn n item) where
   object_in false (Some object) = is.place
 
   algorithm_in : (first : Argument) → Begins n first → PlaceIn n (algorithm_if first)
-  algorithm_in first begins = by (is_some (fingerprint first.text)) (algorithm first.text)
+  algorithm_in first front_argument_begins = by (is_some (fingerprint first.text)) (algorithm first.text)
     where
       by : (t : Bool) (named : Option Algorithm)
           → PlaceIn {A = Option Algorithm} n (if t then Ok None else next (field first named) (λ name. Ok (Some name)))
       by true named = tt
-      by false None = begins
+      by false None = front_argument_begins
       by false (Some name) = tt
 
   signed_in : (name : Option Algorithm) (arguments : List Argument) → EachBegins n arguments
@@ -181,8 +181,8 @@ module _ (n : ℕ) (item : Item) (is : IsItemIn n item) where
           next (field (at_front (others arguments)) which) (λ digest.
           next lines (λ signature.
           Ok (record { algorithm = name; identity = signer; key_digest = digest; signature = signature })))))
-      by None which lines within = begins arguments each
-      by (Some signer) None lines within = begins (others arguments) (others_begin n arguments each)
+      by None which lines within = front_argument_begins arguments each
+      by (Some signer) None lines within = front_argument_begins (others arguments) (others_begin n arguments each)
       by (Some signer) (Some digest) (Err place) within = within
       by (Some signer) (Some digest) (Ok signature) within = tt
 

@@ -10,7 +10,7 @@ use Rattle.item_terms.specs.declared.fault.DocFault.{DocFault}
 use Rattle.item_terms.specs.declared.fault.DocReason.TheVariants.{Keyword, Unterminated, LineTooLong, DocumentTooLong}
 use Rattle.item_terms.specs.declared.fault.DocReason.TheVariants.{ObjectTooLong, ObjectBase64, ObjectEnd}
 use Rattle.item_terms.specs.Faults.{at, line_fault, max_line, max_object, nul_fault, object_line_fault, or_else}
-use Rattle.item_terms.specs.Faults.{too_long, unterminated}
+use Rattle.item_terms.specs.Faults.{too_long, unterminated_fault}
 use Rattle.item_terms.specs.Items.{Contents, also, at_end, contents_of, items_from, proceed}
 use Rattle.item_terms.specs.Lines.{Line, lines, onto, size}
 use Rattle.item_terms.specs.Steps.{Item, Open, Step, begun_object, first_object_line, item_unless, keyword_item}
@@ -90,9 +90,9 @@ nul_by n place m (Some i) b le = omega (arith, b, le)
 line_within : (n limit place : ℕ) (line : Line) → place + size line ≤ n → Within n (line_fault limit place line)
 line_within n limit place line le =
     let text : place + length line.text ≤ n = omega (arith, le) in
-    either n (too_long limit place (size line)) (or_else (unterminated place line) (nul_fault place (nul_in line.text)))
+    either n (too_long limit place (size line)) (or_else (unterminated_fault place line) (nul_fault place (nul_in line.text)))
     (long_within n limit place (size line) le)
-    (either n (unterminated place line) (nul_fault place (nul_in line.text))
+    (either n (unterminated_fault place line) (nul_fault place (nul_in line.text))
     (ended_by line.ended n (place + length line.text) text)
     (nul_by n place (length line.text) (nul_in line.text) (nul_below line.text) text))
 
@@ -131,10 +131,10 @@ between n limit place line le =
     (read_by n (line_fault limit place line) (line_item place line) (line_within n limit place line le)
     (kinds (is_blank_line line.text) (is_keyword_line line.text) n place (keyword_item place line) (omega (arith, le))))
 
-begins : (n place : ℕ) (item : Item) (line : Line) (words : Option (List ℕ)) → place ≤ n
+first_object_line_is_within : (n place : ℕ) (item : Item) (line : Line) (words : Option (List ℕ)) → place ≤ n
     → NextWithin n (first_object_line place item line words)
-begins n place item line None le = le
-begins n place item line (Some words) le = by (nat_lt max_object (size line))
+first_object_line_is_within n place item line None le = le
+first_object_line_is_within n place item line (Some words) le = by (nat_lt max_object (size line))
   where
     by : (long : Bool) → NextWithin n (if long then Err (at place ObjectTooLong)
         else Ok (object_lines item place (begun_object place line words)))
@@ -184,7 +184,7 @@ step_within n limit place (keyword_line item) line le h =
     (open_unless (line_fault limit place line) (first_object_line place item line (begin_words line.text)))
     (open_item (read_line limit place line))
     (unless n (line_fault limit place line) (first_object_line place item line (begin_words line.text))
-    (line_within n limit place line le) (begins n place item line (begin_words line.text) (omega (arith, le))))
+    (line_within n limit place line le) (first_object_line_is_within n place item line (begin_words line.text) (omega (arith, le))))
     (between n limit place line le)
 step_within n limit place (object_lines item begin object) line le h =
     let room = max_object - (place - begin) in

@@ -8,9 +8,9 @@ use Rattle.dir_values.specs.FlagSets.{with_flag}
 use Rattle.field_votes.specs.Private.{with_flag_if}
 
 -- the flag at a place, and those behind it
-pub one_more : (flags : List (List ℕ)) (flag : List ℕ) (i : ℕ) → slice_get flags i ≡ Some flag
+pub flag_before_the_rest : (flags : List (List ℕ)) (flag : List ℕ) (i : ℕ) → slice_get flags i ≡ Some flag
     → drop i flags ≡ flag ∷ drop (i + 1) flags
-one_more flags flag i there =
+flag_before_the_rest flags flag i there =
     let next : suc i ≡ i + 1 = omega arith in
     drop-cons flags i [] (slice_get_within flags i flag there)
     ∙ ap (λ (f : List ℕ). f ∷ drop (suc i) flags) (get_or_from_slice_get flags i flag [] there)
@@ -22,7 +22,7 @@ kept_more : (p : List ℕ → Bool) (all set new flags : List (List ℕ)) (flag 
 kept_more p all set new flags flag i there passes is before =
     let rest = filter p (drop (i + 1) flags) in
     let shape : filter p (drop i flags) ≡ flag ∷ rest =
-    ap (λ (l : List (List ℕ)). filter p l) (one_more flags flag i there) ∙ ap (λ (b : Bool). if b then flag ∷ rest else rest) passes in
+    ap (λ (l : List (List ℕ)). filter p l) (flag_before_the_rest flags flag i there) ∙ ap (λ (b : Bool). if b then flag ∷ rest else rest) passes in
     ap (λ (s : List (List ℕ)). fold with_flag s rest) is ∙ ap (fold with_flag set) (sym shape) ∙ before
 
 -- another is left out
@@ -31,7 +31,7 @@ left_out : (p : List ℕ → Bool) (all set flags : List (List ℕ)) (flag : Lis
 left_out p all set flags flag i there fails before =
     let rest = filter p (drop (i + 1) flags) in
     let shape : filter p (drop i flags) ≡ rest =
-    ap (λ (l : List (List ℕ)). filter p l) (one_more flags flag i there) ∙ ap (λ (b : Bool). if b then flag ∷ rest else rest) fails in
+    ap (λ (l : List (List ℕ)). filter p l) (flag_before_the_rest flags flag i there) ∙ ap (λ (b : Bool). if b then flag ∷ rest else rest) fails in
     ap (fold with_flag set) (sym shape) ∙ before
 
 -- the next flag, put in where it passes

@@ -6,7 +6,7 @@ use Rattle.std.proofs.lemmas.Bool.{lt-ltb, le-ltb, eqb-true, eqb-false, cases_or
 use Rattle.std.proofs.lemmas.Nat.{or_lt}
 use Rattle.std.proofs.lemmas.Nat.Bits.{bit_at_set_same, bit_at_set_other, bit_at-lt, bit_at-zero, same_from_bits_below}
 use Rattle.list_values.specs.declared.named.Named.{Named}
-use Rattle.list_values.specs.Maps.{named}
+use Rattle.list_values.specs.Maps.{named_value}
 use Rattle.list_values.specs.Masks.{is_set, numbers_of, all_listed}
 use Rattle.list_values.specs.NumberSets.{numbers_that, has_number}
 use Rattle.list_values.proofs.NumberLists.{same_numbers, has_those, no_numbers}
@@ -118,23 +118,23 @@ module _ (test : ℕ → Bool) where
 -- protocols with these bits are those of which most lists have a number
 pub listed_among : (lists : List (List (Named (List ℕ)))) (names : List (List ℕ))
     → all_listed (masks_among lists names)
-    ≡ map (λ (name : List ℕ). named name (listed_numbers lists name)) (filter (is_listed_protocol lists) names)
+    ≡ map (λ (name : List ℕ). named_value name (listed_numbers lists name)) (filter (is_listed_protocol lists) names)
 listed_among lists [] = refl
 listed_among lists (name ∷ rest) =
     by (not (listed_mask lists name == 0)) (is_listed_protocol lists name) (some_bit (is_listed_number lists name))
     (numbers_that_pass (is_listed_number lists name)) (listed_among lists rest)
   where
     make : List ℕ → Named (List ℕ)
-    make n = named n (listed_numbers lists n)
+    make n = named_value n (listed_numbers lists n)
 
     by : (a b : Bool) → a ≡ b → numbers_of (listed_mask lists name) ≡ listed_numbers lists name
-        → all_listed (masks_among lists rest) ≡ map (λ (n : List ℕ). named n (listed_numbers lists n)) (filter (is_listed_protocol lists) rest)
-        → all_listed (map (λ (n : List ℕ). named n (listed_mask lists n))
+        → all_listed (masks_among lists rest) ≡ map (λ (n : List ℕ). named_value n (listed_numbers lists n)) (filter (is_listed_protocol lists) rest)
+        → all_listed (map (λ (n : List ℕ). named_value n (listed_mask lists n))
         (cond a (name ∷ filter (λ n. not (listed_mask lists n == 0)) rest) (filter (λ n. not (listed_mask lists n == 0)) rest)))
-        ≡ map (λ (n : List ℕ). named n (listed_numbers lists n)) (cond b (name ∷ filter (is_listed_protocol lists) rest) (filter (is_listed_protocol lists) rest))
+        ≡ map (λ (n : List ℕ). named_value n (listed_numbers lists n)) (cond b (name ∷ filter (is_listed_protocol lists) rest) (filter (is_listed_protocol lists) rest))
     by true true is its later =
-        ap (λ (l : List ℕ). named name l ∷ all_listed (masks_among lists rest)) its
-        ∙ ap (λ (l : List (Named (List ℕ))). named name (listed_numbers lists name) ∷ l) later
+        ap (λ (l : List ℕ). named_value name l ∷ all_listed (masks_among lists rest)) its
+        ∙ ap (λ (l : List (Named (List ℕ))). named_value name (listed_numbers lists name) ∷ l) later
     by true false is its later = absurd cc
     by false true is its later = absurd cc
     by false false is its later = later

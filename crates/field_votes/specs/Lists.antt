@@ -6,7 +6,7 @@ use Rattle.count_terms.specs.Counts.{over}
 use Rattle.count_terms.specs.Medians.{low_median_by}
 use Rattle.dir_values.specs.FlagSets.{as_set}
 use Rattle.list_values.specs.declared.named.Named.{Named}
-use Rattle.list_values.specs.Maps.{named, names_of, value_at}
+use Rattle.list_values.specs.Maps.{named_value, names_of, value_at}
 use Rattle.list_values.specs.NumberSets.{numbers_that}
 use Rattle.list_values.specs.Protocols.{has_version}
 
@@ -33,7 +33,7 @@ is_listed_param roster lists name = are_enough roster (length (values_in lists n
 
 -- a param with the low median of its values
 abbrev pub median_param : List (List (Named ℤ)) → List ℕ → Named ℤ
-median_param lists name = named name (low_median_by int_cmp (pos 0) (values_in lists name))
+median_param lists name = named_value name (low_median_by int_cmp (pos 0) (values_in lists name))
 
 -- the params that are listed, by name
 abbrev pub voted_params : ℕ → List (List (Named ℤ)) → List (Named ℤ)
@@ -56,4 +56,4 @@ is_listed_protocol lists name = nat_lt 0 (length (listed_numbers lists name))
 -- the protocols that have one, by name, with these numbers
 abbrev pub voted_protocols : List (List (Named (List ℕ))) → List (Named (List ℕ))
 voted_protocols lists =
-    map (λ name. named name (listed_numbers lists name)) (filter (is_listed_protocol lists) (all_names lists))
+    map (λ name. named_value name (listed_numbers lists name)) (filter (is_listed_protocol lists) (all_names lists))

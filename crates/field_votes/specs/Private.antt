@@ -2,7 +2,7 @@
 use Rattle.std.specs.Prelude.{ℕ, zero, suc, ◌*◌, ◌%◌, ◌^◌, ◌==◌, Bool, not, bit_or, List, codes, filter, map, ℤ, Option, Some, None, if◌then◌else◌}
 use Rattle.dir_values.specs.FlagSets.{has_flag, with_flag}
 use Rattle.list_values.specs.declared.named.Named.{Named}
-use Rattle.list_values.specs.Maps.{named}
+use Rattle.list_values.specs.Maps.{named_value}
 use Rattle.field_votes.specs.Lists.{is_listed_param, median_param, is_listed_number}
 
 -- a set with `NoEdConsensus`, and with `BadExit` where `MiddleOnly` is in it
@@ -44,4 +44,4 @@ listed_mask lists name = mask_that (is_listed_number lists name)
 -- those of some protocols of which most lists have a number, with these as bits
 abbrev pub masks_among : List (List (Named (List ℕ))) → List (List ℕ) → List (Named ℕ)
 masks_among lists names =
-    map (λ name. named name (listed_mask lists name)) (filter (λ name. not (listed_mask lists name == 0)) names)
+    map (λ name. named_value name (listed_mask lists name)) (filter (λ name. not (listed_mask lists name == 0)) names)

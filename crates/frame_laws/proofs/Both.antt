@@ -2,8 +2,8 @@
 use Rattle.std.specs.Prelude.{Result, Ok}
 
 -- what holds of the first and of the others
-pub both : {A B : Type 0} → A → B → A × B
-both a b = (a, b)
+pub both_hold : {A B : Type 0} → A → B → A × B
+both_hold a b = (a, b)
 
 -- the answer that is this
 abbrev pub as_ok : {A E : Type 0} → A → Result A E

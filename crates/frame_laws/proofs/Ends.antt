@@ -9,9 +9,9 @@ use Rattle.item_terms.specs.declared.fault.DocFault.{DocFault}
 use Rattle.dirdoc_grammar.specs.Writing.{all_written, written}
 use Rattle.frame_terms.specs.Decisions.{beyond_inside, beyond_inner, made_by}
 use Rattle.frame_terms.specs.Documents.{Document, closed_at, go_on, group, note_of_made, onto, read_items, start}
-use Rattle.frame_terms.specs.Order.{first_of, following, inner, must_open}
+use Rattle.frame_terms.specs.Order.{first_of, following_sections, inner, must_open}
 use Rattle.frame_terms.specs.Rows.{is_many}
-use Rattle.frame_terms.specs.Sections.{lacking, stands}
+use Rattle.frame_terms.specs.Sections.{lacking_keyword, stands}
 use Rattle.frame_terms.specs.Standing.{by_keyword, ends, enters}
 use Rattle.frame_terms.specs.Tables.{Tables}
 use Rattle.frame_terms.specs.declared.document.Group.{Group}
@@ -154,7 +154,7 @@ module _ {S K V X : Type 0} (tables : Tables S K V X) (length : ℕ) (after : X)
 
   -- A section that follows another is the last.
   pub end_read : (across : X) (before : S) (first : Taken V) (taken : List (Taken V))
-      → lacking (tables.rows before) (first ∷ taken) ≡ None
+      → lacking_keyword (tables.rows before) (first ∷ taken) ≡ None
       → MayFollow tables before section.name section.first → Suits tables across section.first place section.opener
       → Notes tables across (taken_to place section last) after
       → read_items tables length across (opening before (first ∷ taken) None) fault
@@ -243,13 +243,13 @@ module _ {S K V X : Type 0} where
 
   -- At the input's end the section that is open is the last, where it lacks nothing and no other has to follow.
   pub closed_read : (tables : Tables S K V X) (length : ℕ) (across : X) (section : S) (taken : List (Taken V))
-      → lacking (tables.rows section) taken ≡ None → must_open tables (following tables section) ≡ None
+      → lacking_keyword (tables.rows section) taken ≡ None → must_open tables (following_sections tables section) ≡ None
       → read_items tables length across (opening section taken None) None []
       ≡ Ok (record { groups = group section taken ∷ []; used = length })
   unfolding read_items
   closed_read tables length across section taken whole none =
       let open_ = opening section taken None in
-      ap (λ (m : Option Keyword). closed_at length open_ (first_of m (must_open tables (following tables section))))
+      ap (λ (m : Option Keyword). closed_at length open_ (first_of m (must_open tables (following_sections tables section))))
       whole
       ∙ ap (λ (m : Option Keyword). closed_at length open_ m) none
 

@@ -8,7 +8,7 @@ use Rattle.dirdoc_grammar.specs.Writing.{all_written, written}
 use Rattle.frame_terms.specs.Decisions.{first_item, made_by, made_first, unless_refused}
 use Rattle.frame_terms.specs.Documents.{Document, group, onto, read_items, start}
 use Rattle.frame_terms.specs.Order.{begins_document, inner, opener}
-use Rattle.frame_terms.specs.Sections.{lacking, row_of}
+use Rattle.frame_terms.specs.Sections.{lacking_keyword, row_of}
 use Rattle.frame_terms.specs.Standing.{as_made, begins, by_keyword}
 use Rattle.frame_terms.specs.Tables.{Tables}
 use Rattle.frame_terms.specs.declared.document.Group.{Group}
@@ -20,7 +20,7 @@ use Rattle.frame_terms.specs.declared.fault.ReadRefusal.{ReadRefusal}
 use Rattle.frame_terms.specs.declared.keyword.Keyword.{Keyword}
 use Rattle.frame_terms.specs.declared.row.Row.{Row}
 use Rattle.frame_terms.specs.declared.section.Again.TheVariants as again
-use Rattle.frame_laws.proofs.Both.{both}
+use Rattle.frame_laws.proofs.Both.{both_hold}
 use Rattle.frame_laws.proofs.Entries.{Entry, Suits, item_of, taken_at}
 use Rattle.frame_laws.proofs.KnownWords.{known}
 use Rattle.frame_laws.proofs.Limits.{fits}
@@ -41,7 +41,7 @@ module _ {S K V X : Type 0} where
   abbrev pub MayFollow : Tables S K V X → S → S → Row K → Type 0
   MayFollow tables before next row =
       (across : X) (first : Taken V) (taken : List (Taken V)) (place : ℕ) (entry : Entry V)
-      → lacking (tables.rows before) (first ∷ taken) ≡ None
+      → lacking_keyword (tables.rows before) (first ∷ taken) ≡ None
       → Suits tables across row place entry
       → made_by tables across (opening before (first ∷ taken) None) (written place (item_of entry))
       ≡ Ok (Opens next (taken_at place entry))
@@ -79,7 +79,7 @@ module _ {S K V X : Type 0} where
   pub section_read : (tables : Tables S K V X) (length : ℕ) (across after : X) (before : S) (first : Taken V)
       (taken : List (Taken V)) (place : ℕ)
       (section : Section S K V) (others : List (Row K)) (fault : Option DocFault) (items : List Item)
-      → lacking (tables.rows before) (first ∷ taken) ≡ None → MayFollow tables before section.name section.first
+      → lacking_keyword (tables.rows before) (first ∷ taken) ≡ None → MayFollow tables before section.name section.first
       → IsWritten tables section others → Suits tables across section.first place section.opener
       → Notes tables across (taken_in place section) after
       → read_items tables length across (opening before (first ∷ taken) None) fault
@@ -155,7 +155,7 @@ module _ {S K V X : Type 0} where
   pub sections_read : (tables : Tables S K V X) (length : ℕ) (across after : X) (before : S) (first : Taken V)
       (taken : List (Taken V)) (place : ℕ)
       (list : List (Section S K V)) (fault : Option DocFault) (items : List Item)
-      → lacking (tables.rows before) (first ∷ taken) ≡ None
+      → lacking_keyword (tables.rows before) (first ∷ taken) ≡ None
       → AreNext tables across before place list after
       → read_items tables length across (opening before (first ∷ taken) None) fault
       (all_written place (map item_of (entries_all list)) ++ items)
@@ -180,9 +180,9 @@ module _ {S K V X : Type 0} where
   -- what is open after them lacks nothing
   pub last_whole : (tables : Tables S K V X) (across after : X) (before : S) (first : Taken V)
       (taken : List (Taken V)) (place : ℕ)
-      (list : List (Section S K V)) → lacking (tables.rows before) (first ∷ taken) ≡ None
+      (list : List (Section S K V)) → lacking_keyword (tables.rows before) (first ∷ taken) ≡ None
       → AreNext tables across before place list after
-      → lacking (tables.rows (last_name before list)) (last_first first place list ∷ last_others taken place list)
+      → lacking_keyword (tables.rows (last_name before list)) (last_first first place list ∷ last_others taken place list)
       ≡ None
   last_whole tables across after before first taken place [] whole are = whole
   last_whole tables across after before first taken place (section ∷ list) whole are =
@@ -208,7 +208,7 @@ module _ {S K V X : Type 0} where
   sections_are_read tables limit bytes across after before place [] are stand = tt
   sections_are_read tables limit bytes across after before place (section ∷ list) are stand =
       let parts = both_stand limit bytes place (entries_in section) (entries_all list) stand in
-      both (section_is_read tables limit bytes place section [] are.1.written parts.front)
+      both_hold (section_is_read tables limit bytes place section [] are.1.written parts.front)
       (sections_are_read tables limit bytes are.0 after section.name (end_of place section) list are.2 parts.back)
 
 -- ---- the first section

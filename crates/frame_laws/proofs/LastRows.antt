@@ -2,12 +2,12 @@
 use Rattle.std.proofs.Common.{◌≡◌, ℕ, true, List, [], ◌∷◌, ◌++◌, Some, None, sym, ap, subst, ◌∙◌}
 use Rattle.std.proofs.lemmas.List.Elements.{filter-append}
 use Rattle.frame_terms.specs.Keywords.{same}
-use Rattle.frame_terms.specs.Sections.{lacking}
+use Rattle.frame_terms.specs.Sections.{lacking_keyword}
 use Rattle.frame_terms.specs.Tables.{Tables}
 use Rattle.frame_terms.specs.declared.document.Taken.{Taken}
 use Rattle.frame_terms.specs.declared.row.Row.{Row}
 use Rattle.frame_values.specs.Values.{item_at}
-use Rattle.frame_laws.proofs.Both.{both}
+use Rattle.frame_laws.proofs.Both.{both_hold}
 use Rattle.frame_laws.proofs.Ends.{entries_to, taken_to, taken_to-parts}
 use Rattle.frame_laws.proofs.Entries.{Entry, all_taken, taken_at}
 use Rattle.frame_laws.proofs.ReadRows.{AreRead, Stand, all_at, are_read, each_taken, first_if, item_at-first, none_at}
@@ -32,7 +32,7 @@ module _ {S K V X : Type 0} (tables : Tables S K V X) (place : ℕ) (section : S
   all_to : AreCounted (rows_to section row last)
   all_to =
       counted_both (rows_in section) (row_once row last ∷ []) (all_counted tables section (row ∷ []) is)
-      (both (counted_once row last named) tt)
+      (both_hold (counted_once row last named) tt)
 
   apart_to : are_apart (rows_of (rows_to section row last)) ≡ true
   apart_to = ap are_apart (rows_of-append (rows_in section) (row_once row last ∷ []) ∙ is.table) ∙ is.apart
@@ -57,16 +57,16 @@ module _ {S K V X : Type 0} (tables : Tables S K V X) (place : ℕ) (section : S
       ∙ ap first_if (filter-append (λ (other : Taken V). same other.keyword row.keyword) front (one ∷ [])
       ∙ ap (λ (l : List (Taken V)). l ++ items_at (one ∷ []) row.keyword)
       (none_at row.keyword front (section_before_last tables section row place is))
-      ∙ all_at (end_of place section) row (last ∷ []) (both named tt))
+      ∙ all_at (end_of place section) row (last ∷ []) (both_hold named tt))
 
   -- with it a section lacks nothing
-  pub section_to_whole : lacking (tables.rows section.name) (taken_to place section last) ≡ None
+  pub section_to_whole : lacking_keyword (tables.rows section.name) (taken_to place section last) ≡ None
   section_to_whole =
       let all = rows_to section row last in
       let taken = all_taken place (entries_of all) in
       let table : rows_of all ≡ tables.rows section.name =
       rows_of-append (rows_in section) (row_once row last ∷ []) ∙ is.table in
-      ap (λ (l : List (Entry V)). lacking (tables.rows section.name) (all_taken place l))
+      ap (λ (l : List (Entry V)). lacking_keyword (tables.rows section.name) (all_taken place l))
       (sym (entries_same section row last))
-      ∙ ap (λ (l : List (Row K)). lacking l taken) (sym table)
+      ∙ ap (λ (l : List (Row K)). lacking_keyword l taken) (sym table)
       ∙ none_lacks taken place all all_to (each_taken place all all_to apart_to)

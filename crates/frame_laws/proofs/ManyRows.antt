@@ -6,7 +6,7 @@ use Rattle.std.proofs.lemmas.List.Elements.{All-head, All-tail}
 use Rattle.frame_terms.specs.Rows.{is_many, is_one}
 use Rattle.frame_terms.specs.Tables.{Tables}
 use Rattle.frame_terms.specs.declared.row.Row.{Row}
-use Rattle.frame_laws.proofs.Both.{both}
+use Rattle.frame_laws.proofs.Both.{both_hold}
 use Rattle.frame_laws.proofs.Entries.{AlwaysSuits, Entry}
 use Rattle.frame_laws.proofs.SaidRows.{EachSuits, IsSaid, RowSays}
 
@@ -20,7 +20,7 @@ module _ {A S K V X : Type 0} where
       → All P values → ((a : A) → P a → AlwaysSuits tables row (entry a)) → EachSuits tables row (map entry values)
   each_suits tables row entry P [] are suits = tt
   each_suits tables row entry P (a ∷ values) are suits =
-      both (suits a (All-head P a values are))
+      both_hold (suits a (All-head P a values are))
       (each_suits tables row entry P values (All-tail P a values are) suits)
 
   -- values of which each may be said, of a row that may stand so often

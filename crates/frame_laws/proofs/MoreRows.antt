@@ -12,14 +12,14 @@ use Rattle.frame_terms.specs.declared.document.Group.{Group}
 use Rattle.frame_terms.specs.declared.document.Taken.{Taken}
 use Rattle.frame_terms.specs.declared.keyword.Keyword.{Keyword}
 use Rattle.frame_terms.specs.declared.row.Row.{Row}
-use Rattle.frame_laws.proofs.Both.{both}
+use Rattle.frame_laws.proofs.Both.{both_hold}
 use Rattle.frame_laws.proofs.Entries.{Entry, after_one, all_taken, taken_at}
 use Rattle.frame_laws.proofs.Limits.{FitsIn, fits_before, limit_inside}
 use Rattle.frame_laws.proofs.Places.{after_all, after_all-append, after_all-back}
 use Rattle.frame_laws.proofs.SaidRows.{AreSaid, EachNamed, EachSuits, RowSays, are_apart, each_named, entries_of, lack}
 use Rattle.frame_laws.proofs.SaidRows.{rows_of}
 use Rattle.frame_laws.proofs.Reading.{AreMore}
-use Rattle.frame_laws.proofs.Steps.{IsInTable, IsNew, one_more}
+use Rattle.frame_laws.proofs.Steps.{IsInTable, IsNew, later_item_is_pushed}
 
 -- ---- which keywords stand
 
@@ -31,7 +31,7 @@ module _ {K V : Type 0} where
 
   pub none_before : (rows : List (RowSays K V)) → NoneStand [] rows
   none_before [] = tt
-  none_before (says ∷ rows) = both refl (none_before rows)
+  none_before (says ∷ rows) = both_hold refl (none_before rows)
 
   -- none of another keyword stands among the items of a row
   pub stands-other : (keyword : Keyword) (place : ℕ) (row : Row K) (entries : List (Entry V)) → EachNamed row entries
@@ -56,7 +56,7 @@ module _ {K V : Type 0} where
       list_any-append (λ (one : Taken V). same one.keyword k) taken (all_taken place entries)
       ∙ or_from (stands k taken) (stands k (all_taken place entries)) none.0
       (stands-other k place row entries named (not-true (same row.keyword k) parts.0)) in
-      both here (none_after taken place row entries rows named parts.1 none.1)
+      both_hold here (none_after taken place row entries rows named parts.1 none.1)
 
 -- ---- the items of a row
 
@@ -72,7 +72,7 @@ module _ {S K V X : Type 0} where
   more_both tables section first taken around place (entry ∷ front) back a b =
       let next = after_one place entry in
       let one = taken_at place entry in
-      both a.0 (more_both tables section first (taken ++ one ∷ []) around next front back a.1
+      both_hold a.0 (more_both tables section first (taken ++ one ∷ []) around next front back a.1
       (subst (λ (l : List (Taken V)). AreMore tables section first l around (after_all next front) back)
       (sym (append_assoc taken (one ∷ []) (all_taken next front))) b))
 
@@ -90,7 +90,7 @@ module _ {S K V X : Type 0} where
       let near =
       fits_before (limit_inside tables section around) first.place next (after_all next entries)
       (after_all-back next entries) within in
-      both (λ (across : X). one_more tables across section first taken around place entry row table near new
+      both_hold (λ (across : X). later_item_is_pushed tables across section first taken around place entry row table near new
       (suits.0 across place))
       (many_more tables section first
       (taken ++ taken_at place entry ∷ []) around next row entries table many suits.1 within)
@@ -106,7 +106,7 @@ module _ {S K V X : Type 0} where
   few_more tables section first taken around place row [] table few new suits within = tt
   few_more tables section first taken around place row (entry ∷ []) table few new suits within =
       let may = and_right (not (is_many row.count)) (stands row.keyword (first ∷ taken)) new in
-      both (λ (across : X). one_more tables across section first taken around place entry row table within may
+      both_hold (λ (across : X). later_item_is_pushed tables across section first taken around place entry row table within may
       (suits.0 across place)) tt
   few_more tables section first taken around place row (entry ∷ other ∷ entries) table few new suits within =
       absurd (omega (arith, few))

@@ -7,7 +7,7 @@ use Rattle.dirdoc_grammar.specs.Writing.{written}
 use Rattle.frame_terms.specs.Tables.{Tables}
 use Rattle.frame_terms.specs.declared.document.Taken.{Taken}
 use Rattle.frame_terms.specs.declared.row.Row.{Row}
-use Rattle.frame_laws.proofs.Both.{both}
+use Rattle.frame_laws.proofs.Both.{both_hold}
 use Rattle.frame_laws.proofs.Entries.{Entry, after_one, all_taken, item_of, taken_at}
 use Rattle.frame_laws.proofs.Remembered.{Notes}
 use Rattle.frame_laws.proofs.SaidRows.{AreSaid, EachSuits, RowSays, entries_of, rows_of}
@@ -21,7 +21,7 @@ module _ {V : Type 0} where
   pub both_pass : (test : V → Bool) (front back : List (Entry V)) → EachPasses test front → EachPasses test back
       → EachPasses test (front ++ back)
   both_pass test [] back a b = b
-  both_pass test (entry ∷ front) back a b = both a.0 (both_pass test front back a.1 b)
+  both_pass test (entry ∷ front) back a b = both_hold a.0 (both_pass test front back a.1 b)
 
 module _ {S K V X : Type 0} where
   -- what an item of such a kind says passes
@@ -35,7 +35,7 @@ module _ {S K V X : Type 0} where
       → EachPasses test entries
   row_passes tables test kinds pass row [] is suits = tt
   row_passes tables test kinds pass row (entry ∷ entries) is suits =
-      both (λ (place : ℕ). pass tables.start row.kind (written place (item_of entry)) (entry.value place) is
+      both_hold (λ (place : ℕ). pass tables.start row.kind (written place (item_of entry)) (entry.value place) is
       (suits.0 tables.start place).value)
       (row_passes tables test kinds pass row entries is suits.1)
 

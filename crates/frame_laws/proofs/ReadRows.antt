@@ -11,12 +11,12 @@ use Rattle.dirdoc_grammar.specs.InPlace.{EachInPlace}
 use Rattle.dirdoc_grammar.specs.Writing.{AreWritable, NewItem, all_written, items_text}
 use Rattle.frame_terms.specs.Keywords.{same}
 use Rattle.frame_terms.specs.Rows.{is_one}
-use Rattle.frame_terms.specs.Sections.{keyword_if, lacking, lacking_but, stands}
+use Rattle.frame_terms.specs.Sections.{keyword_if, lacking_keyword, lacking_but, stands}
 use Rattle.frame_terms.specs.declared.document.Taken.{Taken}
 use Rattle.frame_terms.specs.declared.keyword.Keyword.{Keyword}
 use Rattle.frame_terms.specs.declared.row.Row.{Row}
 use Rattle.frame_values.specs.Values.{item_at}
-use Rattle.frame_laws.proofs.Both.{both}
+use Rattle.frame_laws.proofs.Both.{both_hold}
 use Rattle.frame_laws.proofs.Entries.{Entry, after_one, all_taken, item_of, taken_at}
 use Rattle.frame_laws.proofs.KnownWords.{same-refl, same-sym}
 use Rattle.frame_laws.proofs.MoreRows.{NoneStand, none_after, none_before, stands-other}
@@ -161,7 +161,7 @@ module _ {K V : Type 0} where
       ∙ append-nil front in
       let there = each_after (before ++ front) next rows said.1 parts.1
       (none_after before place says.row says.entries rows said.0.named parts.0 none.1) in
-      both (ap (λ (l : List (Taken V)). items_at l k) split ∙ here)
+      both_hold (ap (λ (l : List (Taken V)). items_at l k) split ∙ here)
       (subst (λ (l : List (Taken V)). Each (IsTaken l) next rows) (append_assoc before front back ∙ sym split) there)
 
   -- The items of rows that are apart are found by the keywords of the rows.
@@ -185,7 +185,7 @@ module _ {K V : Type 0} where
   -- nothing is lacking of a table whose rows these are
   pub none_lacks : (taken : List (Taken V)) (place : ℕ) (rows : List (RowSays K V)) → AreCounted rows
       → Each (IsTaken taken) place rows
-      → lacking (rows_of rows) taken ≡ None
+      → lacking_keyword (rows_of rows) taken ≡ None
   none_lacks taken place [] said each = refl
   none_lacks taken place (says ∷ rows) said each =
       let others : Option (Row K) =
@@ -271,7 +271,7 @@ module _ {K V : Type 0} where
   each_read limit bytes taken place [] each stand = tt
   each_read limit bytes taken place (says ∷ rows) each stand =
       let parts = both_stand limit bytes place says.entries (entries_of rows) stand in
-      both (record { items = each.0; stand = parts.front })
+      both_hold (record { items = each.0; stand = parts.front })
       (each_read limit bytes taken (after_all place says.entries) rows each.1 parts.back)
 
   -- rows that are apart are read whose items stand

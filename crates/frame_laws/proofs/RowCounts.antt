@@ -6,7 +6,7 @@ use Rattle.std.proofs.lemmas.List.{map-append}
 use Rattle.frame_terms.specs.Rows.{is_one}
 use Rattle.frame_terms.specs.Tables.{Tables}
 use Rattle.frame_terms.specs.declared.row.Row.{Row}
-use Rattle.frame_laws.proofs.Both.{both}
+use Rattle.frame_laws.proofs.Both.{both_hold}
 use Rattle.frame_laws.proofs.Entries.{AlwaysSuits, Entry, item_of}
 use Rattle.frame_laws.proofs.SaidRows.{AreCounted, IsCounted, IsSaid, RowSays, entries_of, items_of, row_none, row_once}
 use Rattle.frame_laws.proofs.SaidRows.{rows_of}
@@ -14,13 +14,13 @@ use Rattle.frame_laws.proofs.SaidRows.{rows_of}
 module _ {K V : Type 0} where
   -- an item of its row's keyword
   pub counted_once : (row : Row K) (entry : Entry V) → row.keyword ≡ entry.keyword → IsCounted (row_once row entry)
-  counted_once row entry named = record { some = λ i. omega arith; few = λ i. omega arith; named = both named tt }
+  counted_once row entry named = record { some = λ i. omega arith; few = λ i. omega arith; named = both_hold named tt }
 
   -- the rows of two lists
   pub counted_both : (front back : List (RowSays K V)) → AreCounted front → AreCounted back
       → AreCounted (front ++ back)
   counted_both [] back a b = b
-  counted_both (says ∷ front) back a b = both a.0 (counted_both front back a.1 b)
+  counted_both (says ∷ front) back a b = both_hold a.0 (counted_both front back a.1 b)
 
   pub rows_of-append : (front back : List (RowSays K V)) → rows_of (front ++ back) ≡ rows_of front ++ rows_of back
   rows_of-append [] back = refl
@@ -41,7 +41,7 @@ module _ {S K V X : Type 0} where
   -- an item
   pub said_once : (tables : Tables S K V X) (row : Row K) (entry : Entry V) → AlwaysSuits tables row entry
       → IsSaid tables (row_once row entry)
-  said_once tables row entry suits = record { some = λ i. omega arith; few = λ i. omega arith; suits = both suits tt }
+  said_once tables row entry suits = record { some = λ i. omega arith; few = λ i. omega arith; suits = both_hold suits tt }
 
   -- nothing, of a row that need not stand
   pub said_none : (tables : Tables S K V X) (row : Row K) → is_one row.count ≡ false → IsSaid tables (row_none row)

@@ -15,7 +15,7 @@ use Rattle.frame_values.specs.Parts.{bytes_in, moment_of, part}
 use Rattle.frame_values.specs.Values.{fingerprint_in, item_at, number_in, object_in, text_if, text_in, text_of_value}
 use Rattle.frame_values.specs.declared.values.Value.{Value}
 use Rattle.frame_values.specs.declared.values.Value.TheVariants as value
-use Rattle.frame_laws.proofs.Both.{both}
+use Rattle.frame_laws.proofs.Both.{both_hold}
 use Rattle.frame_laws.proofs.Entries.{AlwaysSuits, Entry, after_one, all_taken, item_of}
 use Rattle.frame_laws.proofs.ReadRows.{IsRead, Stand, item_of_row}
 use Rattle.frame_laws.proofs.SaidRows.{EachSuits, IsSaid, RowSays, items_at, row_once}
@@ -98,7 +98,7 @@ module _ {S K W X : Type 0} where
     suits = tt;
   }
   said_if tables row (Some text) P optional is suits =
-      record { some = λ i. omega arith; few = λ i. omega arith; suits = both (suits text is) tt }
+      record { some = λ i. omega arith; few = λ i. omega arith; suits = both_hold (suits text is) tt }
 
   -- the same of a row that takes any text
   pub said_any_if : (tables : Tables S K (Value W) X) (row : Row K) (text : Option (List ℕ))
@@ -112,7 +112,7 @@ module _ {S K W X : Type 0} where
       → ((t : List ℕ) → AlwaysSuits tables row (text_entry row.keyword t))
       → EachSuits tables row (map (text_entry row.keyword) texts)
   each_text tables row [] suits = tt
-  each_text tables row (text ∷ texts) suits = both (suits text) (each_text tables row texts suits)
+  each_text tables row (text ∷ texts) suits = both_hold (suits text) (each_text tables row texts suits)
 
   -- any number of texts, of a row that may stand so often
   pub said_each : (tables : Tables S K (Value W) X) (row : Row K) (texts : List (List ℕ)) → is_one row.count ≡ false

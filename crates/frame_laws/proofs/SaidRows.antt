@@ -9,7 +9,7 @@ use Rattle.frame_terms.specs.Tables.{Tables}
 use Rattle.frame_terms.specs.declared.document.Taken.{Taken}
 use Rattle.frame_terms.specs.declared.keyword.Keyword.{Keyword}
 use Rattle.frame_terms.specs.declared.row.Row.{Row}
-use Rattle.frame_laws.proofs.Both.{both}
+use Rattle.frame_laws.proofs.Both.{both_hold}
 use Rattle.frame_laws.proofs.Entries.{AlwaysSuits, Entry, item_of}
 
 -- what a section says by one row of its table: the items that are written of it, in their order
@@ -69,7 +69,7 @@ module _ {S K V X : Type 0} where
       → EachNamed row entries
   each_named tables row [] suits = tt
   each_named tables row (entry ∷ entries) suits =
-      both ((suits.0 tables.start 0).keyword) (each_named tables row entries suits.1)
+      both_hold ((suits.0 tables.start 0).keyword) (each_named tables row entries suits.1)
 
 -- as many items stand of a row as may, and each suits it
 pub record IsSaid {S K V X : Type 0} (tables : Tables S K V X) (says : RowSays K V) : Type 0 where
@@ -87,7 +87,7 @@ module _ {S K V X : Type 0} where
   pub counted : (tables : Tables S K V X) (rows : List (RowSays K V)) → AreSaid tables rows → AreCounted rows
   counted tables [] said = tt
   counted tables (says ∷ rows) said =
-      both (record
+      both_hold (record
       { some = said.0.some; few = said.0.few; named = each_named tables says.row says.entries said.0.suits })
       (counted tables rows said.1)
 

@@ -1,12 +1,12 @@
 -- A section as it is written row by row, and what its table says of it.
 use Rattle.std.proofs.Common.{◌≡◌, ℕ, true, false, List, [], ◌∷◌, ◌++◌, Option, None, sym, ap, ◌∙◌, append-nil}
 use Rattle.std.proofs.lemmas.Bool.{and_parts}
-use Rattle.frame_terms.specs.Sections.{lacking, lacking_but, stands}
+use Rattle.frame_terms.specs.Sections.{lacking_keyword, lacking_but, stands}
 use Rattle.frame_terms.specs.Tables.{Tables}
 use Rattle.frame_terms.specs.declared.document.Group.{Group}
 use Rattle.frame_terms.specs.declared.document.Taken.{Taken}
 use Rattle.frame_terms.specs.declared.row.Row.{Row}
-use Rattle.frame_laws.proofs.Both.{both}
+use Rattle.frame_laws.proofs.Both.{both_hold}
 use Rattle.frame_laws.proofs.Entries.{Entry, after_one, all_taken, taken_at}
 use Rattle.frame_laws.proofs.Limits.{FitsIn, limit_inside}
 use Rattle.frame_laws.proofs.MoreRows.{none_after, none_before, rows_more}
@@ -74,7 +74,7 @@ module _ {S K V X : Type 0} where
       → IsWritten tables section others
       → AreCounted (rows_in section)
   all_counted tables section others is =
-      both (counted_once section.first section.opener is.opens) (counted tables section.middle is.said)
+      both_hold (counted_once section.first section.opener is.opens) (counted tables section.middle is.said)
 
   -- the items of each row are what was taken of its keyword
   section_taken : (tables : Tables S K V X) (section : Section S K V) (others : List (Row K)) (place : ℕ)
@@ -85,10 +85,10 @@ module _ {S K V X : Type 0} where
 
   -- a section that has all rows of its table lacks nothing
   pub section_whole : (tables : Tables S K V X) (section : Section S K V) (place : ℕ) → IsWritten tables section []
-      → lacking (tables.rows section.name) (taken_in place section) ≡ None
+      → lacking_keyword (tables.rows section.name) (taken_in place section) ≡ None
   section_whole tables section place is =
       let rows_ = rows_of (rows_in section) in
-      ap (λ (l : List (Row K)). lacking l (taken_in place section)) (sym is.table ∙ append-nil rows_)
+      ap (λ (l : List (Row K)). lacking_keyword l (taken_in place section)) (sym is.table ∙ append-nil rows_)
       ∙ none_lacks (taken_in place section) place (rows_in section) (all_counted tables section [] is)
       (section_taken tables section [] place is)
 
@@ -119,7 +119,7 @@ module _ {S K V X : Type 0} where
       (entries_of section.middle)
   section_more tables section others around place is within =
       let middle = section.middle in
-      let named = both is.opens tt in
+      let named = both_hold is.opens tt in
       let parts =
       and_parts (lack section.first.keyword (rows_of middle)) (are_apart (rows_of middle))
       (rows_apart tables section others is) in

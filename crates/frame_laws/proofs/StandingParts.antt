@@ -7,7 +7,7 @@ use Rattle.base64.specs.GeneralPurpose.{IsBytes}
 use Rattle.item_terms.specs.Items.{Item, Object}
 use Rattle.dir_bytes.specs.Causes.{last_moment}
 use Rattle.grammar_laws.proofs.WrittenBytes.{decoded-body_text}
-use Rattle.dirdoc_grammar.specs.Bodies.{body_text, decoded}
+use Rattle.dirdoc_grammar.specs.Bodies.{body_text, decoded_bytes}
 use Rattle.dirdoc_grammar.specs.InPlace.{InPlace}
 use Rattle.frame_values.specs.Fields.{span}
 use Rattle.frame_values.specs.Parts.{bytes_in, moment_of, part}
@@ -49,7 +49,7 @@ spelled_if : (text bytes : List ℕ) (object : Option Object) → IsBytes bytes
     → IfSome object (λ o. o.text ≡ body_text bytes → bytes_in text (span o.start o.text) ≡ bytes)
 spelled_if text bytes None are there = there
 spelled_if text bytes (Some object) are there = λ body.
-    ap (λ (l : List ℕ). unwrap_or (decoded l) []) (at_span text object.text object.start there ∙ body)
+    ap (λ (l : List ℕ). unwrap_or (decoded_bytes l) []) (at_span text object.text object.start there ∙ body)
     ∙ ap (λ (o : Option (List ℕ)). unwrap_or o []) (decoded-body_text bytes are)
 
 pub spelled : {text : List ℕ} {item : Item} (bytes : List ℕ) → IsBytes bytes → InPlace text item

@@ -5,10 +5,10 @@ use Rattle.std.specs.Prelude.{not, ◌&&◌, if◌then◌else◌}
 use Rattle.item_terms.specs.Items.{Item}
 use Rattle.dirdoc_grammar.specs.Writing.{written}
 use Rattle.frame_terms.specs.Decisions.{beyond_inner, made_by, made_later, unless_fault}
-use Rattle.frame_terms.specs.Order.{first_of, following, inner, is_keyword, opened_by, passed_over}
-use Rattle.frame_terms.specs.Refusals.{refused}
+use Rattle.frame_terms.specs.Order.{first_of, following_sections, inner, is_keyword, opened_by, passed_over}
+use Rattle.frame_terms.specs.Refusals.{refusal_at}
 use Rattle.frame_terms.specs.Rows.{is_many}
-use Rattle.frame_terms.specs.Sections.{accept, lacking, lacking_but, row_of, stands, taken_as, taken_of}
+use Rattle.frame_terms.specs.Sections.{accept, lacking_keyword, lacking_but, row_of, stands, taken_as, taken_of}
 use Rattle.frame_terms.specs.Standing.{as_made, begins, begins_again, by_keyword, by_row, elsewhere, ends, enters}
 use Rattle.frame_terms.specs.Standing.{goes_on, in_section, unless}
 use Rattle.frame_terms.specs.Tables.{Tables}
@@ -57,7 +57,7 @@ module _ {S K V X : Type 0} where
       → accept tables across row taken (written place (item_of entry)) ≡ Ok (taken_at place entry)
   accepted tables across row taken place entry new suits =
       let item = written place (item_of entry) in
-      let twice : Result (Taken V) ReadRefusal = Err (refused place (Twice row.keyword)) in
+      let twice : Result (Taken V) ReadRefusal = Err (refusal_at place (Twice row.keyword)) in
       let as_taken : Keyword → Result (Taken V) ReadRefusal =
       λ keyword. Ok (taken_of keyword item (entry.value place)) in
       ap (λ (t : Bool). if t then twice else taken_as row.keyword item (tables.value_of across row.kind item)) new
@@ -104,8 +104,8 @@ pub record IsAgain {S K V X : Type 0} (tables : Tables S K V X) (section : S) (r
 -- what the tables say of an item that opens a later section
 pub record IsOpener {S K V X : Type 0} (tables : Tables S K V X) (section next : S) (row : Row K) : Type 0 where
   pub not_here : row_of (tables.rows section) row.keyword ≡ None
-  pub opens : opened_by tables row.keyword (following tables section) ≡ Some next
-  pub passes_none : passed_over tables row.keyword (following tables section) ≡ None
+  pub opens : opened_by tables row.keyword (following_sections tables section) ≡ Some next
+  pub passes_none : passed_over tables row.keyword (following_sections tables section) ≡ None
   pub row_there : row_of (tables.rows next) row.keyword ≡ Some row
 
 module _ {S K V X : Type 0} where
@@ -167,7 +167,7 @@ module _ {S K V X : Type 0} where
 
   -- one more of its opener, where it may stand again and lacks nothing
   pub again_of : (tables : Tables S K V X) (across : X) (open_ : Open S V) (place : ℕ) (entry : Entry V) (row : Row K)
-      → IsAgain tables open_.section row again.Section → lacking (tables.rows open_.section) open_.taken ≡ None
+      → IsAgain tables open_.section row again.Section → lacking_keyword (tables.rows open_.section) open_.taken ≡ None
       → Suits tables across row place entry
       → by_keyword tables across open_ (written place (item_of entry)) (Some row.keyword)
       ≡ Ok (Opens open_.section (taken_at place entry))
@@ -182,7 +182,7 @@ module _ {S K V X : Type 0} where
 
   -- the opener of the next document, where the section lacks nothing
   pub stop_of : (tables : Tables S K V X) (across : X) (open_ : Open S V) (item : Item) (row : Row K)
-      → IsAgain tables open_.section row again.Document → lacking (tables.rows open_.section) open_.taken ≡ None
+      → IsAgain tables open_.section row again.Document → lacking_keyword (tables.rows open_.section) open_.taken ≡ None
       → tables.ignores row.kind item ≡ false → by_keyword tables across open_ item (Some row.keyword) ≡ Ok Stops
   stop_of tables across open_ item row here whole known_ =
       in_row tables across open_ item row here.row_there known_
@@ -195,14 +195,14 @@ module _ {S K V X : Type 0} where
   -- the first item of a later section, where the one before lacks nothing
   pub opener_of : (tables : Tables S K V X) (across : X) (open_ : Open S V) (next : S) (place : ℕ) (entry : Entry V)
       (row : Row K)
-      → IsOpener tables open_.section next row → lacking (tables.rows open_.section) open_.taken ≡ None
+      → IsOpener tables open_.section next row → lacking_keyword (tables.rows open_.section) open_.taken ≡ None
       → Suits tables across row place entry
       → by_keyword tables across open_ (written place (item_of entry)) (Some row.keyword)
       ≡ Ok (Opens next (taken_at place entry))
   opener_of tables across open_ next place entry row here whole suits =
       let item = written place (item_of entry) in
       let k = row.keyword in
-      let others = following tables open_.section in
+      let others = following_sections tables open_.section in
       let begun = begins tables across (Opens next) item (row_of (tables.rows next) k) in
       ap (λ (r : Option (Row K)). by_row tables across open_ item k r) here.not_here
       ∙ ap (λ (s : Option S). elsewhere tables across open_ item k s) here.opens
@@ -221,14 +221,14 @@ pub record IsInTable {S K V X : Type 0} (tables : Tables S K V X) (section : S) 
 
 module _ {S K V X : Type 0} where
   -- a later item of a section, which ends nothing and opens nothing
-  pub one_more : (tables : Tables S K V X) (across : X) (section : S) (first : Taken V) (taken : List (Taken V))
+  pub later_item_is_pushed : (tables : Tables S K V X) (across : X) (section : S) (first : Taken V) (taken : List (Taken V))
       (around : Option (Group S V))
       (place : ℕ) (entry : Entry V) (row : Row K) → IsInTable tables section row
       → FitsIn (limit_inside tables section around) first.place (after_one place entry) → IsNew row (first ∷ taken)
       → Suits tables across row place entry
       → made_by tables across (opening section (first ∷ taken) around) (written place (item_of entry))
       ≡ Ok (Pushes (taken_at place entry))
-  one_more tables across section first taken around place entry row table within new suits =
+  later_item_is_pushed tables across section first taken around place entry row table within new suits =
       let item = written place (item_of entry) in
       let open_ = opening section (first ∷ taken) around in
       let k = suits.keyword in

@@ -10,7 +10,7 @@ use Rattle.frame_terms.specs.Tables.{Tables}
 use Rattle.frame_terms.specs.declared.keyword.Keyword.{Keyword}
 use Rattle.frame_terms.specs.declared.row.Row.{Row}
 use Rattle.frame_terms.specs.declared.section.Again.TheVariants as again
-use Rattle.frame_laws.proofs.Both.{both}
+use Rattle.frame_laws.proofs.Both.{both_hold}
 use Rattle.frame_laws.proofs.Entries.{Entry}
 use Rattle.frame_laws.proofs.KnownWords.{same-refl, same-sym}
 use Rattle.frame_laws.proofs.MoreRows.{AreInTable}
@@ -139,7 +139,7 @@ module _ {S K V X : Type 0} where
       (row_of-there front row more (ap are_apart is ∙ apart)) in
       let parts =
       and_parts (is_plain tables section row || is_empty says.entries) (are_plain tables section middle) plain in
-      both (in_table_if tables section row says.entries there parts.0)
+      both_hold (in_table_if tables section row says.entries there parts.0)
       (each_in_table tables section (front ++ row ∷ []) middle back
       (append_assoc front (row ∷ []) more ∙ is) apart parts.1)
 

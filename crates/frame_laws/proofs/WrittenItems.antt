@@ -24,7 +24,7 @@ use Rattle.frame_values.specs.Fields.{is_there, span, span_of}
 use Rattle.frame_values.specs.Lines.{argument_of, fingerprint_of, literal, time_of}
 use Rattle.frame_values.specs.Signatures.{is_space}
 use Rattle.frame_values.specs.declared.found.Span.{Span}
-use Rattle.frame_values.specs.Items.{bare, timed}
+use Rattle.frame_values.specs.Items.{bare, moment_item}
 use Rattle.frame_values.specs.Parts.{moment_of}
 use Rattle.frame_laws.proofs.Words.{arguments_of_word, arguments_of_words, two_words, word_of_clock, word_of_date}
 use Rattle.frame_laws.proofs.Words.{word_of_identity}
@@ -116,7 +116,7 @@ fingerprint-written p k identity twenty bytes =
     (arguments_of_word start text (word_of_identity identity.0 twenty bytes)) (identity_again identity twenty bytes)
 
 -- a moment, which is never past the calendar
-pub time-written : (p : ℕ) (k : Keyword) (m : ℕ) → time_of (written p (timed k m)) ≡ Ok (moment_of m)
+pub time-written : (p : ℕ) (k : Keyword) (m : ℕ) → time_of (written p (moment_item k m)) ≡ Ok (moment_of m)
 time-written p k m =
     let n = moment_of m in
     let within : n ≤ last_moment = omega arith in
@@ -127,7 +127,7 @@ time-written p k m =
     arguments_of_words start (day ∷ clock ∷ [])
     (two_words day clock (word_of_date (n / 86400)) (word_of_clock (n % 86400))) in
     let sum : 86400 * (n / 86400) + n % 86400 ≡ n = omega arith in
-    time_is (written p (timed k m)) (record { place = start; text = day })
+    time_is (written p (moment_item k m)) (record { place = start; text = day })
     (record { place = start + length day + 1; text = clock })
     (n / 86400) (n % 86400) args
     (date-date_text (n / 86400) (omega (arith, within))) (time_of_day-clock_text (n % 86400) (omega arith))

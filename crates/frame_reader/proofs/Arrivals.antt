@@ -1,7 +1,7 @@
 -- How a document goes on whose bytes arrive.
 use Rattle.std.proofs.Common.{◌≡◌, ◌∙◌, ℕ, ◌≤◌, List, [], ◌∷◌, ◌++◌, length, drop, append_assoc, Some, None, Result, Ok, Err, sym, ap, subst}
 use Rattle.std.proofs.lemmas.List.{drop-append-le}
-use Rattle.item_terms.specs.Items.{Item, Contents, contents, nothing, also, failed}
+use Rattle.item_terms.specs.Items.{Item, Contents, contents, nothing, also, failed_contents}
 use Rattle.dirdoc_grammar.specs.declared.cursor.Cursor.{Cursor}
 use Rattle.dirdoc_grammar.specs.Cursors.{fed_by}
 use Rattle.frame_reader.specs.declared.arriving.Reached.{Reached}
@@ -51,7 +51,7 @@ item_refused {F = F} with_ tables old mid new item x0 x1 x2 o0 o1 o2 f0 f1 f2 re
     (turns length (left_with new more).fault (left_with new more).items)
 
 pub fault_met : {S K V X F : Type 0} (with_ : F → S → List (Taken V) → F) (tables : Tables S K V X) (old mid : Fed) (fault : DocFault) (x0 x1 : X) (o0 o1 : Open S V) (f0 f1 : F)
-    → SoFar with_ tables old x0 o0 f0 mid x1 o1 f1 → ((more : List ℕ) → MayFollow false more → left_with mid more ≡ failed fault)
+    → SoFar with_ tables old x0 o0 f0 mid x1 o1 f1 → ((more : List ℕ) → MayFollow false more → left_with mid more ≡ failed_contents fault)
     → (length : ℕ) (more : List ℕ) → Fails (of_doc fault) (goes_on with_ tables old x0 o0 f0 length more)
 unfolding read_items
 fault_met with_ tables old mid fault x0 x1 o0 o1 f0 f1 so left length more =

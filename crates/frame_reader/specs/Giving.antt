@@ -13,9 +13,9 @@ module _ {V : Type 0} where
   Gives wanted (Err (Frame fault)) = wanted ≡ Err fault
 
   -- this value, or this fault as a refusal
-  abbrev pub given : Result V FrameFault → Result V ReadRefusal
-  given (Ok value) = Ok value
-  given (Err fault) = Err (Frame fault)
+  abbrev pub given_result : Result V FrameFault → Result V ReadRefusal
+  given_result (Ok value) = Ok value
+  given_result (Err fault) = Err (Frame fault)
 
 module _ {Y : Type 0} where
   -- exactly what reading gives, unless memory ran out

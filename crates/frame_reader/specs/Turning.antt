@@ -11,19 +11,19 @@ use Rattle.frame_terms.specs.Documents.{Document, after_made, at_end, read_items
 use Rattle.frame_terms.specs.Refusals.{Fails}
 use Rattle.frame_terms.specs.Sections.{accept}
 use Rattle.frame_terms.specs.Tables.{Tables}
-use Rattle.frame_reader.specs.Giving.{given}
+use Rattle.frame_reader.specs.Giving.{given_result}
 
 module _ {S K V X : Type 0} where
   -- what is remembered with an item that was read, or why it may not stand
-  abbrev pub noted : Tables S K V X → X → Result (Taken V) ReadRefusal → Result X ReadRefusal
-  noted tables across (Err refusal) = Err refusal
-  noted tables across (Ok one) = given (tables.note across one)
+  abbrev pub noted_item : Tables S K V X → X → Result (Taken V) ReadRefusal → Result X ReadRefusal
+  noted_item tables across (Err refusal) = Err refusal
+  noted_item tables across (Ok one) = given_result (tables.note across one)
 
   -- an item of this row is read and remembered, or a fault told, unless there is no memory
   abbrev pub Takes : Tables S K V X → Row K → List (Taken V) → Item → X → X → Result (Taken V) ReadRefusal → Type 0
   Takes tables row taken item old new (Ok one) =
       (accept tables old row taken item ≡ Ok one) × (tables.note old one ≡ Ok new)
-  Takes tables row taken item old new (Err refusal) = Fails refusal (noted tables old (accept tables old row taken item))
+  Takes tables row taken item old new (Err refusal) = Fails refusal (noted_item tables old (accept tables old row taken item))
 
   -- an item that makes this is taken, whatever follows it, or a fault told, unless there is no memory
   abbrev pub Continues : Tables S K V X → Result (Made S V) ReadRefusal → Item → X → Open S V → X → Open S V

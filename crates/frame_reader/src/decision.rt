@@ -1,6 +1,6 @@
 // How an item is to be taken into a document.
 ghost use Rattle.std.specs.Prelude.{◌≡◌, []};
-ghost use Rattle.dirdoc_grammar.specs.Seen.{seen, IsInside};
+ghost use Rattle.dirdoc_grammar.specs.Seen.{seen_item, IsInside};
 ghost use Rattle.frame_terms.specs.Decisions as decisions;
 ghost use Rattle.frame_reader.specs.Steps.{Leads};
 
@@ -27,7 +27,7 @@ fn beginning_reason<F: Frame>(frame: F, keyword: Option<Keyword>) -> Option<Fram
 /// Why an item can not be the first of a document of a kind, whatever it says: the document
 /// begins with another keyword. None where it can.
 pub fn first_fault<F: Frame>(frame: F, item: &Item<'_>) -> Option<FrameFault>
-    ensures { result ≡ decisions.first_fault (F.tables frame) (seen item.now) }
+    ensures { result ≡ decisions.first_fault (F.tables frame) (seen_item item.now) }
 {
     match beginning_reason(frame, keyword_of(item.keyword)) {
         Some(reason) => Some(FrameFault {
@@ -45,7 +45,7 @@ fn first_item<F: Frame>(
     keyword: Option<Keyword>,
 ) -> Result<Step<F::Section, F::Kind>, ReadRefusal>
     requires { IsInside item.now }
-    ensures { Leads (F.tables frame) [] (seen item.now) result (λ across. decisions.first_item (F.tables frame) across (seen item.now) keyword) }
+    ensures { Leads (F.tables frame) [] (seen_item item.now) result (λ across. decisions.first_item (F.tables frame) across (seen_item item.now) keyword) }
 {
     let Some(keyword) = keyword else {
         return Ok(Step::Passes);
@@ -58,7 +58,7 @@ fn first_item<F: Frame>(
 
 /// The fault of an item that ends too far from a place, if that is limited.
 fn beyond(start: u64, limit: Option<Limit>, item: &Item<'_>) -> Option<FrameFault>
-    ensures { result ≡ decisions.beyond start limit (seen item.now) }
+    ensures { result ≡ decisions.beyond start limit (seen_item item.now) }
 {
     let limit = limit?;
     if item.after.saturating_sub(start) > limit.number() {
@@ -103,7 +103,7 @@ fn beyond_inside<F: Frame>(
     item: &Item<'_>,
     inside: Option<F::Section>,
 ) -> Option<FrameFault>
-    ensures { result ≡ decisions.beyond_inside (F.tables frame) (seen item.now) inside }
+    ensures { result ≡ decisions.beyond_inside (F.tables frame) (seen_item item.now) inside }
 {
     match inside {
         Some(section) => beyond(item.place, frame.shape(section).limit, item),
@@ -120,7 +120,7 @@ fn beyond_inner<F: Frame>(
     item: &Item<'_>,
     keyword: Option<Keyword>,
 ) -> Option<FrameFault>
-    ensures { result ≡ decisions.beyond_inner (F.tables frame) section taken.now around.now (seen item.now) keyword }
+    ensures { result ≡ decisions.beyond_inner (F.tables frame) section taken.now around.now (seen_item item.now) keyword }
 {
     match around {
         Some(_) => beyond(first_place(taken), frame.shape(section).limit, item),
@@ -135,7 +135,7 @@ fn step_first<F: Frame>(
     keyword: Option<Keyword>,
 ) -> Result<Step<F::Section, F::Kind>, ReadRefusal>
     requires { IsInside item.now }
-    ensures { Leads (F.tables frame) [] (seen item.now) result (λ across. decisions.made_first (F.tables frame) across (seen item.now) keyword) }
+    ensures { Leads (F.tables frame) [] (seen_item item.now) result (λ across. decisions.made_first (F.tables frame) across (seen_item item.now) keyword) }
 {
     match beginning_reason(frame, keyword) {
         Some(reason) => Err(refused(item.place, reason)),
@@ -151,7 +151,7 @@ fn step_later<F: Frame>(
     keyword: Option<Keyword>,
 ) -> Result<Step<F::Section, F::Kind>, ReadRefusal>
     requires { IsInside item.now }
-    ensures { Leads (F.tables frame) state.now.taken (seen item.now) result (λ across. decisions.made_later (F.tables frame) across state.now (seen item.now) keyword) }
+    ensures { Leads (F.tables frame) state.now.taken (seen_item item.now) result (λ across. decisions.made_later (F.tables frame) across state.now (seen_item item.now) keyword) }
 {
     let taken = state.taken.as_slice();
     match beyond_inner(frame, state.section, taken, &state.around, item, keyword) {
@@ -170,7 +170,7 @@ pub fn step_by<F: Frame>(
     item: &Item<'_>,
 ) -> Result<Step<F::Section, F::Kind>, ReadRefusal>
     requires { IsInside item.now }
-    ensures { Leads (F.tables frame) state.now.taken (seen item.now) result (λ across. decisions.made_by (F.tables frame) across state.now (seen item.now)) }
+    ensures { Leads (F.tables frame) state.now.taken (seen_item item.now) result (λ across. decisions.made_by (F.tables frame) across state.now (seen_item item.now)) }
 {
     let keyword = keyword_of(item.keyword);
     match state.taken.as_slice() {

@@ -1,6 +1,6 @@
 // What a kind of document has: its sections, the tables of their items, and what the items say.
 ghost use Rattle.std.specs.Prelude.{◌≡◌};
-ghost use Rattle.dirdoc_grammar.specs.Seen.{seen, IsInside};
+ghost use Rattle.dirdoc_grammar.specs.Seen.{seen_item, IsInside};
 ghost use Rattle.frame_terms.specs.Refusals.{Becomes};
 ghost use Rattle.frame_terms.specs.Tables.{Tables};
 ghost use Rattle.frame_reader.specs.Giving as giving;
@@ -51,7 +51,7 @@ pub trait Frame: Copy {
     /// Whether an item of this kind is passed over, as one that the document does not know.
     fn ignores(self, kind: Self::Kind, item: &Item<'_>) -> bool
         requires { IsInside item.now }
-        ensures { result ≡ (tables self).ignores kind (seen item.now) };
+        ensures { result ≡ (tables self).ignores kind (seen_item item.now) };
 
     /// What an item of a kind says.
     ///
@@ -64,7 +64,7 @@ pub trait Frame: Copy {
         item: &Item<'_>,
     ) -> Result<Self::Value, ReadRefusal>
         requires { IsInside item.now }
-        ensures { Gives ((tables self).value_of across.now kind (seen item.now)) result };
+        ensures { Gives ((tables self).value_of across.now kind (seen_item item.now)) result };
 
     /// What is remembered of nothing.
     fn start(self, alloc: Global) -> Self::Across
@@ -80,7 +80,7 @@ pub trait Frame: Copy {
 
 /// This value, or this fault as a refusal.
 pub fn given<V>(value: Result<V, FrameFault>) -> Result<V, ReadRefusal>
-    ensures { result ≡ giving.given value }
+    ensures { result ≡ giving.given_result value }
 {
     match value {
         Ok(value) => Ok(value),

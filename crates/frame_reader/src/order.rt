@@ -106,7 +106,7 @@ fn after<F: Frame>(
 
 /// The sections of a document that may follow one of them.
 pub fn following<F: Frame>(frame: F, section: F::Section) -> &'static [F::Section]
-    ensures { result.now ≡ order.following (F.tables frame) section }
+    ensures { result.now ≡ order.following_sections (F.tables frame) section }
 {
     after(frame, section, frame.sections())
 }

@@ -1,6 +1,6 @@
 // A document, as far as its items were read.
 ghost use Rattle.std.specs.Prelude.{◌≡◌};
-ghost use Rattle.dirdoc_grammar.specs.Seen.{seen, IsInside};
+ghost use Rattle.dirdoc_grammar.specs.Seen.{seen_item, IsInside};
 ghost use Rattle.frame_terms.specs.Documents as documents;
 ghost use Rattle.frame_reader.specs.Turning.{Closes, Turns};
 
@@ -50,7 +50,7 @@ impl<F: Frame> Reader<F> {
         item: &Item<'_>,
     ) -> Result<Option<u64>, ReadRefusal>
         requires { IsInside item.now }
-        ensures { Turns K.with (F.tables frame) (seen item.now) self.old.across self.old.state facts.old self.new.across self.new.state facts.new result }
+        ensures { Turns K.with (F.tables frame) (seen_item item.now) self.old.across self.old.state facts.old self.new.across self.new.state facts.new result }
     {
         turn(alloc, frame, &mut self.across, &mut self.state, facts, item)
     }

@@ -1,6 +1,6 @@
 // The items of a section and the rows of its table.
 ghost use Rattle.std.specs.Prelude.{◌≡◌};
-ghost use Rattle.dirdoc_grammar.specs.Seen.{seen, IsInside};
+ghost use Rattle.dirdoc_grammar.specs.Seen.{seen_item, IsInside};
 ghost use Rattle.frame_terms.specs.Refusals as refusals;
 ghost use Rattle.frame_terms.specs.Sections as sections;
 ghost use Rattle.frame_reader.specs.Giving.{Tells};
@@ -11,7 +11,7 @@ use frame_terms::{Count, FrameFault, FrameReason, Keyword, ReadRefusal, Row, Tak
 
 /// The refusal at a place.
 pub fn refused(place: u64, reason: FrameReason) -> ReadRefusal
-    ensures { result ≡ refusals.refused place reason }
+    ensures { result ≡ refusals.refusal_at place reason }
 {
     ReadRefusal::Frame(FrameFault { place, reason })
 }
@@ -32,7 +32,7 @@ pub fn stands<V>(keyword: Keyword, taken: &[Taken<V>]) -> bool
 
 /// The keyword of the first row that lacks its item.
 pub fn lacking<K, V>(rows: &[Row<K>], taken: &[Taken<V>]) -> Option<Keyword>
-    ensures { result ≡ sections.lacking rows.now taken.now }
+    ensures { result ≡ sections.lacking_keyword rows.now taken.now }
 {
     rows.iter()
         .find(|row| row.count == Count::One && !stands(row.keyword, taken))
@@ -53,7 +53,7 @@ pub fn lacking_but<K, V>(rows: &[Row<K>], last: Keyword, taken: &[Taken<V>]) -> 
 /// An item that says this, with its places.
 fn taken_of<V>(keyword: Keyword, item: &Item<'_>, value: V) -> Taken<V>
     requires { IsInside item.now }
-    ensures { result ≡ sections.taken_of keyword (seen item.now) value }
+    ensures { result ≡ sections.taken_of keyword (seen_item item.now) value }
 {
     Taken {
         keyword,
@@ -74,7 +74,7 @@ pub fn accept<F: Frame>(
     item: &Item<'_>,
 ) -> Result<Taken<F::Value>, ReadRefusal>
     requires { IsInside item.now }
-    ensures { Tells (sections.accept (F.tables frame) across.now row taken.now (seen item.now)) result }
+    ensures { Tells (sections.accept (F.tables frame) across.now row taken.now (seen_item item.now)) result }
 {
     if row.count != Count::Many && stands(row.keyword, taken) {
         return Err(refused(item.place, FrameReason::Twice(row.keyword)));

@@ -1,6 +1,6 @@
 // How an item is to be taken that is not the first of its document.
 ghost use Rattle.std.specs.Prelude.{◌≡◌};
-ghost use Rattle.dirdoc_grammar.specs.Seen.{seen, IsInside};
+ghost use Rattle.dirdoc_grammar.specs.Seen.{seen_item, IsInside};
 ghost use Rattle.frame_terms.specs.Order as order;
 ghost use Rattle.frame_terms.specs.Standing as standing;
 ghost use Rattle.frame_reader.specs.Steps as steps;
@@ -55,7 +55,7 @@ fn goes_on<F: Frame>(
     again: Again,
 ) -> Result<Step<F::Section, F::Kind>, ReadRefusal>
     requires { IsInside item.now }
-    ensures { Leads (F.tables frame) state.now.taken (seen item.now) result (λ across. standing.goes_on (F.tables frame) across state.now (seen item.now) row again) }
+    ensures { Leads (F.tables frame) state.now.taken (seen_item item.now) result (λ across. standing.goes_on (F.tables frame) across state.now (seen_item item.now) row again) }
 {
     if let Again::Nothing = again {
         return Ok(enters(inner(frame, state.section, row.keyword), row));
@@ -78,7 +78,7 @@ fn in_section<F: Frame>(
     row: Row<F::Kind>,
 ) -> Result<Step<F::Section, F::Kind>, ReadRefusal>
     requires { IsInside item.now }
-    ensures { Leads (F.tables frame) state.now.taken (seen item.now) result (λ across. standing.in_section (F.tables frame) across state.now (seen item.now) row) }
+    ensures { Leads (F.tables frame) state.now.taken (seen_item item.now) result (λ across. standing.in_section (F.tables frame) across state.now (seen_item item.now) row) }
 {
     let taken = state.taken.as_slice();
     if is_keyword(frame.shape(state.section).last, row.keyword) {
@@ -104,7 +104,7 @@ fn elsewhere<F: Frame>(
     keyword: Keyword,
 ) -> Result<Step<F::Section, F::Kind>, ReadRefusal>
     requires { IsInside item.now }
-    ensures { Leads (F.tables frame) state.now.taken (seen item.now) result (λ across. standing.elsewhere (F.tables frame) across state.now (seen item.now) keyword (order.opened_by (F.tables frame) keyword (order.following (F.tables frame) state.now.section))) }
+    ensures { Leads (F.tables frame) state.now.taken (seen_item item.now) result (λ across. standing.elsewhere (F.tables frame) across state.now (seen_item item.now) keyword (order.opened_by (F.tables frame) keyword (order.following_sections (F.tables frame) state.now.section))) }
 {
     let later = following(frame, state.section);
     let Some(other) = opened_by(frame, keyword, later) else {
@@ -131,7 +131,7 @@ pub fn by_keyword<F: Frame>(
     keyword: Option<Keyword>,
 ) -> Result<Step<F::Section, F::Kind>, ReadRefusal>
     requires { IsInside item.now }
-    ensures { Leads (F.tables frame) state.now.taken (seen item.now) result (λ across. standing.by_keyword (F.tables frame) across state.now (seen item.now) keyword) }
+    ensures { Leads (F.tables frame) state.now.taken (seen_item item.now) result (λ across. standing.by_keyword (F.tables frame) across state.now (seen_item item.now) keyword) }
 {
     let Some(keyword) = keyword else {
         return Ok(Step::Passes);

@@ -1,6 +1,6 @@
 // How an item is taken into a document.
 ghost use Rattle.std.specs.Prelude.{◌≡◌, []};
-ghost use Rattle.dirdoc_grammar.specs.Seen.{seen, IsInside};
+ghost use Rattle.dirdoc_grammar.specs.Seen.{seen_item, IsInside};
 ghost use Rattle.frame_terms.specs.declared.document.Made.TheVariants as made;
 ghost use Rattle.frame_terms.specs.Sections as sections;
 ghost use Rattle.frame_terms.specs.Standing.{as_made};
@@ -25,7 +25,7 @@ fn take<F: Frame>(
     item: &Item<'_>,
 ) -> Result<Taken<F::Value>, ReadRefusal>
     requires { IsInside item.now }
-    ensures { Takes (F.tables frame) row taken.now (seen item.now) across.old across.new result }
+    ensures { Takes (F.tables frame) row taken.now (seen_item item.now) across.old across.new result }
 {
     let one = accept(frame, across, row, taken, item)?;
     frame.note(across, &one)?;
@@ -41,7 +41,7 @@ fn pushes<F: Frame>(
     item: &Item<'_>,
 ) -> Result<(), ReadRefusal>
     requires { IsInside item.now }
-    ensures { Continues (F.tables frame) (as_made made.Pushes (sections.accept (F.tables frame) across.old row state.old.taken (seen item.now))) (seen item.now) across.old state.old across.new state.new result }
+    ensures { Continues (F.tables frame) (as_made made.Pushes (sections.accept (F.tables frame) across.old row state.old.taken (seen_item item.now))) (seen_item item.now) across.old state.old across.new state.new result }
 {
     let one = take(frame, across, row, state.taken.as_slice(), item)?;
     state.taken.push(one)?;
@@ -59,7 +59,7 @@ fn opens<F: Frame, K: Facts<F>>(
     item: &Item<'_>,
 ) -> Result<(), ReadRefusal>
     requires { IsInside item.now }
-    ensures { Goes K.with (F.tables frame) (as_made (made.Opens next) (sections.accept (F.tables frame) across.old row [] (seen item.now))) (seen item.now) across.old state.old facts.old across.new state.new facts.new result }
+    ensures { Goes K.with (F.tables frame) (as_made (made.Opens next) (sections.accept (F.tables frame) across.old row [] (seen_item item.now))) (seen_item item.now) across.old state.old facts.old across.new state.new facts.new result }
 {
     let none: [Taken<F::Value>; 0] = [];
     let one = take(frame, across, row, &none, item)?;
@@ -81,7 +81,7 @@ fn enters<F: Frame>(
     item: &Item<'_>,
 ) -> Result<(), ReadRefusal>
     requires { IsInside item.now }
-    ensures { Continues (F.tables frame) (as_made (made.Enters inner) (sections.accept (F.tables frame) across.old row state.old.taken (seen item.now))) (seen item.now) across.old state.old across.new state.new result }
+    ensures { Continues (F.tables frame) (as_made (made.Enters inner) (sections.accept (F.tables frame) across.old row state.old.taken (seen_item item.now))) (seen_item item.now) across.old state.old across.new state.new result }
 {
     let one = take(frame, across, row, state.taken.as_slice(), item)?;
     state.taken.push(one)?;
@@ -106,7 +106,7 @@ fn leaves<F: Frame, K: Facts<F>>(
     item: &Item<'_>,
 ) -> Result<(), ReadRefusal>
     requires { IsInside item.now }
-    ensures { Goes K.with (F.tables frame) (as_made made.Leaves (sections.accept (F.tables frame) across.old row state.old.taken (seen item.now))) (seen item.now) across.old state.old facts.old across.new state.new facts.new result }
+    ensures { Goes K.with (F.tables frame) (as_made made.Leaves (sections.accept (F.tables frame) across.old row state.old.taken (seen_item item.now))) (seen_item item.now) across.old state.old facts.old across.new state.new facts.new result }
 {
     let one = take(frame, across, row, state.taken.as_slice(), item)?;
     state.taken.push(one)?;
@@ -131,7 +131,7 @@ fn ends<F: Frame, K: Facts<F>>(
     item: &Item<'_>,
 ) -> Result<u64, ReadRefusal>
     requires { IsInside item.now }
-    ensures { Ends K.with (F.tables frame) (as_made made.Ends (sections.accept (F.tables frame) across.old row state.old.taken (seen item.now))) (seen item.now) across.old state.old facts.old facts.new result }
+    ensures { Ends K.with (F.tables frame) (as_made made.Ends (sections.accept (F.tables frame) across.old row state.old.taken (seen_item item.now))) (seen_item item.now) across.old state.old facts.old facts.new result }
 {
     let one = take(frame, across, row, state.taken.as_slice(), item)?;
     state.taken.push(one)?;
@@ -150,7 +150,7 @@ pub fn turn<F: Frame, K: Facts<F>>(
     item: &Item<'_>,
 ) -> Result<Option<u64>, ReadRefusal>
     requires { IsInside item.now }
-    ensures { Turns K.with (F.tables frame) (seen item.now) across.old state.old facts.old across.new state.new facts.new result }
+    ensures { Turns K.with (F.tables frame) (seen_item item.now) across.old state.old facts.old across.new state.new facts.new result }
 {
     match step_by(frame, state, item)? {
         Step::Passes => Ok(None),

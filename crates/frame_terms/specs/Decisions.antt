@@ -18,7 +18,7 @@ use Rattle.frame_terms.specs.declared.keyword.Keyword.{Keyword}
 use Rattle.frame_terms.specs.declared.row.Limit.{Limit}
 use Rattle.frame_terms.specs.Keywords.{word_of}
 use Rattle.frame_terms.specs.Order.{opener, begins_document, inner}
-use Rattle.frame_terms.specs.Refusals.{refused}
+use Rattle.frame_terms.specs.Refusals.{refusal_at}
 use Rattle.frame_terms.specs.Rows.{limit_number}
 use Rattle.frame_terms.specs.Sections.{row_of, stands}
 use Rattle.frame_terms.specs.Standing.{begins, by_keyword}
@@ -30,7 +30,7 @@ module _ {S V : Type 0} where
   -- what an item makes, unless there is a reason to refuse it
   abbrev pub unless_refused : ℕ → Option FrameReason → Result (Made S V) ReadRefusal → Result (Made S V) ReadRefusal
   unless_refused place None other = other
-  unless_refused place (Some reason) other = Err (refused place reason)
+  unless_refused place (Some reason) other = Err (refusal_at place reason)
 
   -- what an item makes, unless there is this fault
   abbrev pub unless_fault : Option FrameFault → Result (Made S V) ReadRefusal → Result (Made S V) ReadRefusal

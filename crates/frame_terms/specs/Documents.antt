@@ -14,9 +14,9 @@ use Rattle.frame_terms.specs.declared.fault.ReadRefusal.{ReadRefusal}
 use Rattle.frame_terms.specs.declared.fault.ReadRefusal.TheVariants.{Frame}
 use Rattle.frame_terms.specs.declared.keyword.Keyword.{Keyword}
 use Rattle.frame_terms.specs.Decisions.{made_by}
-use Rattle.frame_terms.specs.Order.{following, first_of, must_open}
-use Rattle.frame_terms.specs.Refusals.{refused, of_doc, Fails}
-use Rattle.frame_terms.specs.Sections.{lacking}
+use Rattle.frame_terms.specs.Order.{following_sections, first_of, must_open}
+use Rattle.frame_terms.specs.Refusals.{refusal_at, of_doc, Fails}
+use Rattle.frame_terms.specs.Sections.{lacking_keyword}
 use Rattle.frame_terms.specs.Tables.{Tables}
 
 -- the sections in order of their ends, and the place after the document
@@ -72,7 +72,7 @@ module _ {S V : Type 0} where
 
   -- the last section, unless something is missing at the input's end
   abbrev pub closed_at : ℕ → Open S V → Option Keyword → Result (Document S V) ReadRefusal
-  closed_at length open_ (Some keyword) = Err (refused length (Missing keyword))
+  closed_at length open_ (Some keyword) = Err (refusal_at length (Missing keyword))
   closed_at length open_ None = Ok (record { groups = group open_.section open_.taken ∷ []; used = length })
 
 module _ {S V X : Type 0} where
@@ -106,7 +106,7 @@ module _ {S K V X : Type 0} where
   -- what is missing where the input ends in a section
   abbrev pub missing_at_end : Tables S K V X → S → List (Taken V) → Option Keyword
   missing_at_end tables section taken =
-      first_of (lacking (tables.rows section) taken) (must_open tables (following tables section))
+      first_of (lacking_keyword (tables.rows section) taken) (must_open tables (following_sections tables section))
 
   -- what is left of the document after its last item, and the fault that stands there
   abbrev pub at_end : Tables S K V X → ℕ → Open S V → Option DocFault → Result (Document S V) ReadRefusal

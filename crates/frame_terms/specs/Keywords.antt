@@ -162,8 +162,8 @@ number_of the.EndStation = 73
 number_of the.FamilyIds = 74
 
 -- all of them
-abbrev pub known : List Keyword
-known =
+abbrev pub known_keywords : List Keyword
+known_keywords =
     the.R ∷ the.A ∷ the.S ∷ the.V ∷ the.Pr ∷ the.W ∷ the.P ∷ the.M ∷ the.Id ∷
     the.NetworkStatusVersion ∷ the.VoteStatus ∷ the.ConsensusMethods ∷ the.ConsensusMethod ∷ the.Published ∷
     the.ValidAfter ∷ the.FreshUntil ∷ the.ValidUntil ∷ the.VotingDelay ∷ the.ClientVersions ∷ the.ServerVersions ∷
@@ -188,7 +188,7 @@ among text words = find (λ word. pointwise nat_eq text (text_of word)) words
 
 -- the keyword that has this text
 unfoldable pub word_of : List ℕ → Option Keyword
-word_of text = among text known
+word_of text = among text known_keywords
 
 -- whether two keywords are one
 unfoldable pub same : Keyword → Keyword → Bool

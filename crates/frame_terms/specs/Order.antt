@@ -62,8 +62,8 @@ module _ {S K V X : Type 0} where
   after tables section list = drop (place_of tables section list + 1) list
 
   -- the sections of a document that may follow a section; none follows one inside another
-  abbrev pub following : Tables S K V X → S → List S
-  following tables section = after tables section tables.sections
+  abbrev pub following_sections : Tables S K V X → S → List S
+  following_sections tables section = after tables section tables.sections
 
   -- the first section of a list that the keyword opens
   abbrev pub opened_by : Tables S K V X → Keyword → List S → Option S

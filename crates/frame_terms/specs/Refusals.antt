@@ -8,12 +8,12 @@ use Rattle.frame_terms.specs.declared.fault.ReadRefusal.{ReadRefusal}
 use Rattle.frame_terms.specs.declared.fault.ReadRefusal.TheVariants.{Frame, Memory}
 
 -- the fault at this place
-abbrev pub refused : ℕ → FrameReason → ReadRefusal
-refused place reason = Frame (record { place = place; reason = reason })
+abbrev pub refusal_at : ℕ → FrameReason → ReadRefusal
+refusal_at place reason = Frame (record { place = place; reason = reason })
 
 -- the fault of a line or an object
 abbrev pub of_doc : DocFault → ReadRefusal
-of_doc fault = refused fault.place (Doc fault.reason)
+of_doc fault = refusal_at fault.place (Doc fault.reason)
 
 -- a refusal is what reading gives, unless memory ran out
 abbrev pub Fails : {Y : Type 0} → ReadRefusal → Result Y ReadRefusal → Type 0

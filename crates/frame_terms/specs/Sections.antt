@@ -10,7 +10,7 @@ use Rattle.frame_terms.specs.declared.fault.ReadRefusal.TheVariants.{Frame}
 use Rattle.frame_terms.specs.declared.keyword.Keyword.{Keyword}
 use Rattle.frame_terms.specs.declared.row.Row.{Row}
 use Rattle.frame_terms.specs.Keywords.{same}
-use Rattle.frame_terms.specs.Refusals.{refused}
+use Rattle.frame_terms.specs.Refusals.{refusal_at}
 use Rattle.frame_terms.specs.Rows.{is_one, is_many}
 use Rattle.frame_terms.specs.Tables.{Tables}
 
@@ -47,8 +47,8 @@ module _ {V : Type 0} where
 
 module _ {K V : Type 0} where
   -- the keyword of the first row that lacks its item
-  abbrev pub lacking : List (Row K) → List (Taken V) → Option Keyword
-  lacking rows taken = keyword_if (find (λ (row : Row K). is_one row.count && not (stands row.keyword taken)) rows)
+  abbrev pub lacking_keyword : List (Row K) → List (Taken V) → Option Keyword
+  lacking_keyword rows taken = keyword_if (find (λ (row : Row K). is_one row.count && not (stands row.keyword taken)) rows)
 
   -- the same of the rows but the one of this last keyword
   abbrev pub lacking_but : List (Row K) → Keyword → List (Taken V) → Option Keyword
@@ -59,5 +59,5 @@ module _ {S K V X : Type 0} where
   -- an item of this row after those that are taken: Twice, then what is wrong with what it says
   abbrev pub accept : Tables S K V X → X → Row K → List (Taken V) → Item → Result (Taken V) ReadRefusal
   accept tables across row taken item =
-      if not (is_many row.count) && stands row.keyword taken then Err (refused item.place (Twice row.keyword))
+      if not (is_many row.count) && stands row.keyword taken then Err (refusal_at item.place (Twice row.keyword))
       else taken_as row.keyword item (tables.value_of across row.kind item)

@@ -13,16 +13,16 @@ use Rattle.frame_terms.specs.declared.row.Row.{Row}
 use Rattle.frame_terms.specs.declared.section.Again.{Again}
 use Rattle.frame_terms.specs.declared.section.Again.TheVariants.{Nothing, Section, Document}
 use Rattle.frame_terms.specs.Keywords.{same}
-use Rattle.frame_terms.specs.Order.{is_keyword, opener, is_strange, following, opened_by, passed_over, first_of, inner}
-use Rattle.frame_terms.specs.Refusals.{refused}
-use Rattle.frame_terms.specs.Sections.{row_of, lacking, lacking_but, accept}
+use Rattle.frame_terms.specs.Order.{is_keyword, opener, is_strange, following_sections, opened_by, passed_over, first_of, inner}
+use Rattle.frame_terms.specs.Refusals.{refusal_at}
+use Rattle.frame_terms.specs.Sections.{row_of, lacking_keyword, lacking_but, accept}
 use Rattle.frame_terms.specs.Tables.{Tables}
 
 module _ {S V : Type 0} where
   -- what an item makes, unless a keyword is missing before it
   abbrev pub unless : ℕ → Option Keyword → Result (Made S V) ReadRefusal → Result (Made S V) ReadRefusal
   unless place None other = other
-  unless place (Some keyword) other = Err (refused place (Missing keyword))
+  unless place (Some keyword) other = Err (refusal_at place (Missing keyword))
 
   -- what an item makes that is taken
   abbrev pub as_made : (Taken V → Made S V) → Result (Taken V) ReadRefusal → Result (Made S V) ReadRefusal
@@ -50,10 +50,10 @@ module _ {S K V X : Type 0} where
   goes_on tables across open_ item row Nothing =
       as_made (enters (inner tables open_.section row.keyword)) (accept tables across row open_.taken item)
   goes_on tables across open_ item row Section =
-      unless item.place (lacking (tables.rows open_.section) open_.taken)
+      unless item.place (lacking_keyword (tables.rows open_.section) open_.taken)
       (as_made (Opens open_.section) (accept tables across row [] item))
   goes_on tables across open_ item row Document =
-      unless item.place (lacking (tables.rows open_.section) open_.taken) (Ok Stops)
+      unless item.place (lacking_keyword (tables.rows open_.section) open_.taken) (Ok Stops)
 
   -- an item of this row of the section that is open
   abbrev pub in_section : Tables S K V X → X → Open S V → Item → Row K → Result (Made S V) ReadRefusal
@@ -71,10 +71,10 @@ module _ {S K V X : Type 0} where
   -- an item of no row of the section that is open, and the section that it opens
   abbrev pub elsewhere : Tables S K V X → X → Open S V → Item → Keyword → Option S → Result (Made S V) ReadRefusal
   elsewhere tables across open_ item keyword None =
-      if is_strange tables open_.section keyword then Err (refused item.place Order) else Ok Passes
+      if is_strange tables open_.section keyword then Err (refusal_at item.place Order) else Ok Passes
   elsewhere tables across open_ item keyword (Some other) =
       unless item.place
-      (first_of (lacking (tables.rows open_.section) open_.taken) (passed_over tables keyword (following tables open_.section)))
+      (first_of (lacking_keyword (tables.rows open_.section) open_.taken) (passed_over tables keyword (following_sections tables open_.section)))
       (begins tables across (Opens other) item (row_of (tables.rows other) keyword))
 
   -- an item of this keyword, and its row in the section that is open
@@ -82,7 +82,7 @@ module _ {S K V X : Type 0} where
   by_row tables across open_ item keyword (Some row) =
       if tables.ignores row.kind item then Ok Passes else in_section tables across open_ item row
   by_row tables across open_ item keyword None =
-      elsewhere tables across open_ item keyword (opened_by tables keyword (following tables open_.section))
+      elsewhere tables across open_ item keyword (opened_by tables keyword (following_sections tables open_.section))
 
   -- an item that is not the first of its document, and its keyword if it is known
   abbrev pub by_keyword : Tables S K V X → X → Open S V → Item → Option Keyword → Result (Made S V) ReadRefusal

@@ -21,5 +21,5 @@ item_if keyword None = []
 item_if keyword (Some rest) = bare keyword rest ∷ []
 
 -- an item that says a moment; one past the calendar is written as its last one
-abbrev pub timed : Keyword → ℕ → NewItem
-timed keyword moment = bare keyword (moment_text (moment_of moment))
+abbrev pub moment_item : Keyword → ℕ → NewItem
+moment_item keyword moment = bare keyword (moment_text (moment_of moment))

@@ -1,7 +1,7 @@
 // The arguments of an item.
 ghost use Rattle.std.specs.Prelude.{◌≡◌, ◌<◌, ◌+◌, ◌^◌, nat_lt, length};
 ghost use Rattle.dir_values.specs.Taking.{argument_of};
-ghost use Rattle.dirdoc_grammar.specs.Seen.{seen, IsInside};
+ghost use Rattle.dirdoc_grammar.specs.Seen.{seen_item, IsInside};
 ghost use Rattle.frame_values.specs.Arguments as terms;
 
 use dir_values::{Argument, Arguments};
@@ -10,7 +10,7 @@ use dirdoc_grammar::Item;
 /// The arguments of an item.
 pub fn arguments_of<'a>(item: &Item<'a>) -> Arguments<'a>
     requires { IsInside item.now }
-    ensures { result ≡ terms.arguments_of (seen item.now) }
+    ensures { result ≡ terms.arguments_of (seen_item item.now) }
 {
     Arguments::at(item.start, item.arguments)
 }

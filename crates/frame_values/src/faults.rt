@@ -1,6 +1,6 @@
 // What is wrong with what an item says.
 ghost use Rattle.std.specs.Prelude.{◌≡◌};
-ghost use Rattle.dirdoc_grammar.specs.Seen.{seen, IsInside};
+ghost use Rattle.dirdoc_grammar.specs.Seen.{seen_item, IsInside};
 ghost use Rattle.frame_values.specs.Faults as faults;
 
 use crate::arguments::{are_above, arguments_of};
@@ -23,7 +23,7 @@ pub fn at_place<V>(value: Result<V, u64>) -> Result<V, FrameFault>
 /// The fault of an item that has more arguments than a limit.
 pub fn too_many(limit: Limit, item: &Item<'_>) -> Result<(), FrameFault>
     requires { IsInside item.now }
-    ensures { result ≡ faults.too_many limit (seen item.now) }
+    ensures { result ≡ faults.too_many limit (seen_item item.now) }
 {
     if are_above(limit.number(), &mut arguments_of(item)) {
         Err(FrameFault {

@@ -65,7 +65,7 @@ pub fn push_timed(
     keyword: Keyword,
     number: u64,
 ) -> Result<(), Memory>
-    ensures ok { OnOk result (out.new.items ≡ out.old.items ++ item_text (items.timed keyword number)) }
+    ensures ok { OnOk result (out.new.items ≡ out.old.items ++ item_text (items.moment_item keyword number)) }
     ensures err { OnErr result (take (vec_len out.old) out.new.items ≡ out.old.items) }
 {
     let mut rest = Vec::new(alloc);

@@ -1,6 +1,6 @@
 // What the line of an item says.
 ghost use Rattle.std.specs.Prelude.{◌≡◌, IfOk};
-ghost use Rattle.dirdoc_grammar.specs.Seen.{seen, IsInside};
+ghost use Rattle.dirdoc_grammar.specs.Seen.{seen_item, IsInside};
 ghost use Rattle.frame_values.specs.Lines as lines;
 
 use crate::arguments::{arguments_of, take_argument};
@@ -14,7 +14,7 @@ use std::alloc::Global;
 /// Where the arguments stand.
 pub fn rest_of(item: &Item<'_>) -> Span
     requires { IsInside item.now }
-    ensures { result ≡ lines.rest_of (seen item.now) }
+    ensures { result ≡ lines.rest_of (seen_item item.now) }
 {
     span(item.start, item.arguments)
 }
@@ -22,7 +22,7 @@ pub fn rest_of(item: &Item<'_>) -> Span
 /// Where the arguments stand, unless something is wrong at a place.
 pub fn rest_unless(wrong: Option<u64>, item: &Item<'_>) -> Result<Span, u64>
     requires { IsInside item.now }
-    ensures { result ≡ lines.rest_unless wrong (seen item.now) }
+    ensures { result ≡ lines.rest_unless wrong (seen_item item.now) }
 {
     match wrong {
         None => Ok(rest_of(item)),
@@ -33,7 +33,7 @@ pub fn rest_unless(wrong: Option<u64>, item: &Item<'_>) -> Result<Span, u64>
 /// This word.
 pub fn literal(word: &[u8], item: &Item<'_>) -> Result<(), u64>
     requires { IsInside item.now }
-    ensures { result ≡ lines.literal word.now (seen item.now) }
+    ensures { result ≡ lines.literal word.now (seen_item item.now) }
 {
     let first = take_argument(&mut arguments_of(item), item.place);
     if first.text == word {
@@ -46,7 +46,7 @@ pub fn literal(word: &[u8], item: &Item<'_>) -> Result<(), u64>
 /// Numbers below 2 ^ 32, in any number.
 pub fn numbers_of(item: &Item<'_>) -> Result<Span, u64>
     requires { IsInside item.now }
-    ensures { result ≡ lines.numbers_of (seen item.now) }
+    ensures { result ≡ lines.numbers_of (seen_item item.now) }
 {
     rest_unless(wrong_number(&mut arguments_of(item)), item)
 }
@@ -57,7 +57,7 @@ pub fn numbers_of(item: &Item<'_>) -> Result<Span, u64>
 /// `Memory` is want of memory.
 pub fn flags_of(alloc: Global, item: &Item<'_>) -> Result<Result<Span, u64>, Memory>
     requires { IsInside item.now }
-    ensures { IfOk result (λ read. read ≡ lines.flags_of (seen item.now)) }
+    ensures { IfOk result (λ read. read ≡ lines.flags_of (seen_item item.now)) }
 {
     let wrong = first_wrong_flag(alloc, item.start, item.arguments)?;
     Ok(rest_unless(wrong, item))
@@ -66,7 +66,7 @@ pub fn flags_of(alloc: Global, item: &Item<'_>) -> Result<Result<Span, u64>, Mem
 /// A date and a time of day: the seconds since 1970-01-01 00:00:00.
 pub fn time_of(item: &Item<'_>) -> Result<u64, u64>
     requires { IsInside item.now }
-    ensures { result ≡ lines.time_of (seen item.now) }
+    ensures { result ≡ lines.time_of (seen_item item.now) }
 {
     let mut arguments = arguments_of(item);
     let first = take_argument(&mut arguments, item.place);
@@ -79,7 +79,7 @@ pub fn time_of(item: &Item<'_>) -> Result<u64, u64>
 /// Two numbers of seconds.
 pub fn delays_of(item: &Item<'_>) -> Result<(u32, u32), u64>
     requires { IsInside item.now }
-    ensures { result ≡ lines.delays_of (seen item.now) }
+    ensures { result ≡ lines.delays_of (seen_item item.now) }
 {
     let mut arguments = arguments_of(item);
     let first = take_argument(&mut arguments, item.place);
@@ -92,7 +92,7 @@ pub fn delays_of(item: &Item<'_>) -> Result<(u32, u32), u64>
 /// Who an authority is.
 pub fn source_of(item: &Item<'_>) -> Result<DirSource, u64>
     requires { IsInside item.now }
-    ensures { result ≡ lines.source_of (seen item.now) }
+    ensures { result ≡ lines.source_of (seen_item item.now) }
 {
     let mut arguments = arguments_of(item);
     let name = take_argument(&mut arguments, item.place);
@@ -120,7 +120,7 @@ pub fn source_of(item: &Item<'_>) -> Result<DirSource, u64>
 /// Where the first argument stands, whatever it is.
 pub fn argument_of(item: &Item<'_>) -> Result<Span, u64>
     requires { IsInside item.now }
-    ensures { result ≡ lines.argument_of (seen item.now) }
+    ensures { result ≡ lines.argument_of (seen_item item.now) }
 {
     let first = take_argument(&mut arguments_of(item), item.place);
     field(&first, any_text(&first))
@@ -129,7 +129,7 @@ pub fn argument_of(item: &Item<'_>) -> Result<Span, u64>
 /// A fingerprint.
 pub fn fingerprint_of(item: &Item<'_>) -> Result<Fingerprint, u64>
     requires { IsInside item.now }
-    ensures { result ≡ lines.fingerprint_of (seen item.now) }
+    ensures { result ≡ lines.fingerprint_of (seen_item item.now) }
 {
     let first = take_argument(&mut arguments_of(item), item.place);
     field(&first, fingerprint(first.text))

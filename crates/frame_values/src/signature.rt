@@ -1,7 +1,7 @@
 // Objects, and the signature of a vote.
 ghost use Rattle.std.specs.Prelude.{◌≡◌};
 ghost use Rattle.dir_values.specs.Taking.{argument_of};
-ghost use Rattle.dirdoc_grammar.specs.Seen.{seen, seen_object_if, IsInside};
+ghost use Rattle.dirdoc_grammar.specs.Seen.{seen_item, seen_object_if, IsInside};
 ghost use Rattle.frame_values.specs.Arguments as arguments;
 ghost use Rattle.frame_values.specs.Signatures as signatures;
 
@@ -24,7 +24,7 @@ pub fn has_words(item: &Item<'_>, words: &[u8]) -> bool
 /// Where the lines of an item's object stand, if it is the one that is wanted.
 pub fn object_of(is_wanted: bool, item: &Item<'_>) -> Result<Span, u64>
     requires { IsInside item.now }
-    ensures { result ≡ signatures.object_of is_wanted (seen item.now) }
+    ensures { result ≡ signatures.object_of is_wanted (seen_item item.now) }
 {
     match item.object {
         Some(object) => {
@@ -51,7 +51,7 @@ fn algorithm_if(first: &Argument<'_>) -> Result<Option<Algorithm>, u64>
 /// The arguments of an item after the algorithm, where one is named.
 fn after_algorithm<'a>(name: Option<Algorithm>, item: &Item<'a>) -> Arguments<'a>
     requires { IsInside item.now }
-    ensures { result ≡ signatures.after_algorithm name (arguments.arguments_of (seen item.now)) }
+    ensures { result ≡ signatures.after_algorithm name (arguments.arguments_of (seen_item item.now)) }
 {
     let mut arguments = arguments_of(item);
     if name.is_some() {
@@ -67,7 +67,7 @@ fn signed_by(
     item: &Item<'_>,
 ) -> Result<VoteSignature, u64>
     requires { IsInside item.now }
-    ensures { result ≡ signatures.signed_by name arguments.old (seen item.now) }
+    ensures { result ≡ signatures.signed_by name arguments.old (seen_item item.now) }
 {
     let identity = take_argument(arguments, item.place);
     let key = take_argument(arguments, item.place);
@@ -85,7 +85,7 @@ fn signed_by(
 /// What a signature says, which a space has to stand before.
 pub fn signature_of(item: &Item<'_>) -> Result<VoteSignature, u64>
     requires { IsInside item.now }
-    ensures { result ≡ signatures.signature_of (seen item.now) }
+    ensures { result ≡ signatures.signature_of (seen_item item.now) }
 {
     let Some(b' ') = item.separator else {
         return Err(item.place + item.keyword.len() as u64);
@@ -98,7 +98,7 @@ pub fn signature_of(item: &Item<'_>) -> Result<VoteSignature, u64>
 /// What one of several signatures says, and nothing by an algorithm that is not known.
 pub fn known_signature_of(item: &Item<'_>) -> Result<Option<VoteSignature>, u64>
     requires { IsInside item.now }
-    ensures { result ≡ signatures.known_signature_of (seen item.now) }
+    ensures { result ≡ signatures.known_signature_of (seen_item item.now) }
 {
     let first = take_argument(&mut arguments_of(item), item.place);
     if first.text.is_empty() {
@@ -113,7 +113,7 @@ pub fn known_signature_of(item: &Item<'_>) -> Result<Option<VoteSignature>, u64>
 /// Nothing, where a space stands right after the keyword; else the place of the byte that stands there.
 pub fn space_of(item: &Item<'_>) -> Result<(), u64>
     requires { IsInside item.now }
-    ensures { result ≡ signatures.space_of (seen item.now) }
+    ensures { result ≡ signatures.space_of (seen_item item.now) }
 {
     match item.separator {
         Some(b' ') => Ok(()),

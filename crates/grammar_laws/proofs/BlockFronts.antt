@@ -10,7 +10,7 @@ use Rattle.item_terms.specs.Words.{is_blank_line, is_keyword_line, begin_words, 
 use Rattle.item_terms.specs.Base64Text.{is_body}
 use Rattle.item_terms.specs.Faults.{at, line_fault, object_line_fault, max_object}
 use Rattle.item_terms.specs.Steps.{Item, Open, Step, Object, step, nothing, keyword_line, object_lines, keyword_item, begun_object, with_line, with_object, open_item, item_unless, open_unless, step_unless, read_line, starts_dash, first_object_line}
-use Rattle.item_terms.specs.Items.{Contents, contents_of, also, proceed, failed, at_end, items_from}
+use Rattle.item_terms.specs.Items.{Contents, contents_of, also, proceed, failed_contents, at_end, items_from}
 use Rattle.grammar_laws.proofs.BlockLines.{sizes_append, dash_no_keyword, last_append}
 use Rattle.grammar_laws.specs.BlockFaults.{IsFaultBetween, IsFaultOfBegin, IsFaultInside, IsFaultAfter, HasFault, EndInFault, begin_with_dash, end_in_keyword_line}
 use Rattle.grammar_laws.specs.Blocks.{sizes, text_of, IsBeginLine, IsBodyLine, IsEndLine, AreBodyLines, AreLinesOfObject, AreLinesOfItem, AreLinesOfItems, ItemsAreThere}
@@ -62,7 +62,7 @@ begun limit p place before item line words o e w short = record {
 
 -- the fault of a line that begins no object
 no_object : (limit p place : ℕ) (before : List Line) (item : Item) (line : Line) (rest : List Line) (fault : DocFault) → OpensItem limit p place before item → starts_dash line ≡ true → IsFaultOfBegin limit place line fault
-    → HasFront limit p ((before ++ line ∷ []) ++ rest) (failed fault)
+    → HasFront limit p ((before ++ line ∷ []) ++ rest) (failed_contents fault)
 no_object limit p place before item line rest fault o d h =
     stops limit p ((before ++ line ∷ []) ++ rest) fault
     (HasFault.begin o.line line rest (ap (λ (b : List Line). (b ++ line ∷ []) ++ rest) o.lines) o.begins d (subst (λ (k : ℕ). IsFaultOfBegin limit k line fault) o.next h))
@@ -135,7 +135,7 @@ item_whole limit p place before item begin object line o b l = record {
 
 -- the fault of an object that has begun
 object_fails : (limit p place : ℕ) (before : List Line) (item : Item) (begin : ℕ) (object : Object) (others : List Line) (fault : DocFault) (o : OpensObject limit p place before item begin object)
-    → IsFaultAfter limit begin place object.words o.body others fault → HasFront limit p (before ++ others) (failed fault)
+    → IsFaultAfter limit begin place object.words o.body others fault → HasFront limit p (before ++ others) (failed_contents fault)
 object_fails limit p place before item begin object others fault o h =
     stops limit p (before ++ others) fault
     (HasFault.object (record {
@@ -153,9 +153,9 @@ object_fails limit p place before item begin object others fault o h =
     }))
 
 inside_fails : (limit p place : ℕ) (before : List Line) (item : Item) (begin : ℕ) (object : Object) (line : Line) (rest : List Line) (fault : DocFault) (o : OpensObject limit p place before item begin object)
-    → IsFaultInside limit begin place object.words o.body line fault → HasFront limit p ((before ++ line ∷ []) ++ rest) (failed fault)
+    → IsFaultInside limit begin place object.words o.body line fault → HasFront limit p ((before ++ line ∷ []) ++ rest) (failed_contents fault)
 inside_fails limit p place before item begin object line rest fault o h =
-    subst (λ (l : List Line). HasFront limit p l (failed fault)) (sym (append_assoc before (line ∷ []) rest)) (object_fails limit p place before item begin object (line ∷ rest) fault o h)
+    subst (λ (l : List Line). HasFront limit p l (failed_contents fault)) (sym (append_assoc before (line ∷ []) rest)) (object_fails limit p place before item begin object (line ∷ rest) fault o h)
 
 -- no keyword line is the last line of an object
 end_apart : (before : List Line) (line : Line) (rest : List Line) → starts_dash line ≡ true → end_in_keyword_line (before ++ line ∷ []) && begin_with_dash rest ≡ false

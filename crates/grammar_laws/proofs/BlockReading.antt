@@ -10,7 +10,7 @@ use Rattle.item_terms.specs.Words.{is_keyword_line, keyword, separator, argument
 use Rattle.item_terms.specs.Base64Text.{is_body}
 use Rattle.item_terms.specs.Faults.{at, line_fault, max_object}
 use Rattle.item_terms.specs.Steps.{Item, Open, Step, Object, step, nothing, keyword_line, object_lines, keyword_item, begun_object, open_item, item_unless, open_unless, step_unless, object_step, line_item, read_line, first_object_line}
-use Rattle.item_terms.specs.Items.{Contents, contents_of, also, proceed, failed, items_from}
+use Rattle.item_terms.specs.Items.{Contents, contents_of, also, proceed, failed_contents, items_from}
 use Rattle.grammar_laws.specs.Blocks.{sizes, text_of, AreLinesOfObjectIf, AreLinesOfItem, AreLinesOfItems, NoOthersAre}
 use Rattle.grammar_laws.specs.BlockFaults.{IsFaultBetween, IsFaultOfBegin, IsFaultInside, IsFaultAfter, HasFaultInObject, HasFault, EndInFault, begin_with_dash, end_in_keyword_line}
 use Rattle.grammar_laws.proofs.BlockLines.{sizes_append, and_false, end_dash, items_no_dash, last_append}
@@ -129,7 +129,7 @@ no_others_are start limit bytes items h = items_read (start + limit) start (line
 -- ---- faults
 
 -- a line with a fault ends the reading
-fails : (limit place : ℕ) (so_far : Open) (line : Line) (rest : List Line) (fault : DocFault) → step limit place so_far line ≡ record { whole = None; next = Err fault } → contents_of limit place so_far (line ∷ rest) ≡ failed fault
+fails : (limit place : ℕ) (so_far : Open) (line : Line) (rest : List Line) (fault : DocFault) → step limit place so_far line ≡ record { whole = None; next = Err fault } → contents_of limit place so_far (line ∷ rest) ≡ failed_contents fault
 unfolding contents_of
 fails limit place so_far line rest fault e = ap (λ (s : Step). also s.whole (proceed s.next (λ open_. contents_of limit (place + size line) open_ rest))) e
 
@@ -168,13 +168,13 @@ inside_fails limit begin place start item words body line fault (IsFaultInside.n
     ∙ ap (λ (o : DocFault). record { whole = None; next = Err o }) (sym f)
 
 after_fails : (limit begin place start : ℕ) (item : Item) (words : List ℕ) (body others : List Line) (fault : DocFault) → IsFaultAfter limit begin place words body others fault
-    → contents_of limit place (object_lines item begin (record { words = words; start = start; text = text_of body })) others ≡ failed fault
+    → contents_of limit place (object_lines item begin (record { words = words; start = start; text = text_of body })) others ≡ failed_contents fault
 unfolding contents_of
-after_fails limit begin place start item words body [] fault h = ap failed (sym h)
+after_fails limit begin place start item words body [] fault h = ap failed_contents (sym h)
 after_fails limit begin place start item words body (line ∷ rest) fault h =
     fails limit place (object_lines item begin (record { words = words; start = start; text = text_of body })) line rest fault (inside_fails limit begin place start item words body line fault h)
 
-object_fails : (limit place : ℕ) (all : List Line) (fault : DocFault) → HasFaultInObject limit place all fault → contents_of limit place nothing all ≡ failed fault
+object_fails : (limit place : ℕ) (all : List Line) (fault : DocFault) → HasFaultInObject limit place all fault → contents_of limit place nothing all ≡ failed_contents fault
 object_fails limit place all fault h =
     let begin = place + size h.line in
     let start = begin + size h.first in
@@ -185,7 +185,7 @@ object_fails limit place all fault h =
     ∙ body_read limit start item begin (begun_object begin h.first h.words) h.body h.others h.inside
     ∙ after_fails limit begin (start + sizes h.body) start item h.words h.body h.others fault h.is_fault
 
-all_fail : (limit place : ℕ) (all : List Line) (fault : DocFault) → HasFault limit place all fault → contents_of limit place nothing all ≡ failed fault
+all_fail : (limit place : ℕ) (all : List Line) (fault : DocFault) → HasFault limit place all fault → contents_of limit place nothing all ≡ failed_contents fault
 all_fail limit place all fault (HasFault.between line others e h) = ap (λ (l : List Line). contents_of limit place nothing l) e ∙ fails limit place nothing line others fault (between_fails limit place line fault h)
 all_fail limit place all fault (HasFault.begin line first others e k d h) =
     ap (λ (l : List Line). contents_of limit place nothing l) e

@@ -23,8 +23,8 @@ sections (item ∷ front) back =
     ap (λ (l : List ℕ). item_text item ++ l) (sections front back) ∙ sym (append_assoc (item_text item) (items_text front) (items_text back))
 
 -- what is appended stands behind the last of three parts
-behind : (before items line more text : List ℕ) → text ≡ before ++ (items ++ line) → text ++ more ≡ before ++ (items ++ (line ++ more))
-behind before items line more text is =
+appended_to_last_of_three : (before items line more text : List ℕ) → text ≡ before ++ (items ++ line) → text ++ more ≡ before ++ (items ++ (line ++ more))
+appended_to_last_of_three before items line more text is =
     ap (λ (l : List ℕ). l ++ more) is
     ∙ append_assoc before (items ++ line) more
     ∙ ap (λ (l : List ℕ). before ++ l) (append_assoc items line more)
@@ -76,8 +76,8 @@ in_a_line before whole Rested e has = has
 in_a_line before whole Ended e has = absurd (false≢true e)
 
 -- one more item, with this object if there is one
-one_more : (before whole : List ℕ) (items : List NewItem) (item : NewItem) → All IsItem items → IsItem item → whole ≡ before ++ (items_text items ++ item_text item) → HasItems before whole
-one_more before whole items item each is text = record {
+has_items_with_one_more : (before whole : List ℕ) (items : List NewItem) (item : NewItem) → All IsItem items → IsItem item → whole ≡ before ++ (items_text items ++ item_text item) → HasItems before whole
+has_items_with_one_more before whole items item each is text = record {
   items = items ++ item ∷ [];
   each = All-append IsItem items (item ∷ []) each (All-cons IsItem item [] is (All-nil IsItem));
   text = text ∙ ap (λ (l : List ℕ). before ++ l) (ap (λ (l : List ℕ). items_text items ++ l) (sym (append-nil (item_text item))) ∙ sym (sections items (item ∷ [])));
@@ -85,7 +85,7 @@ one_more before whole items item each is text = record {
 
 without_object : (before whole : List ℕ) → HasOpenItem before whole → HasItems before whole
 without_object before whole has =
-    one_more before whole has.items (record { keyword = has.keyword; arguments = has.arguments; object = None }) has.each
+    has_items_with_one_more before whole has.items (record { keyword = has.keyword; arguments = has.arguments; object = None }) has.each
     (record { keyword = has.is_keyword; arguments = has.is_rest; object = tt }) has.text
 
 outside : (before whole : List ℕ) (stage : Stage) → in_line stage ≡ false → Stands before whole stage → HasItems before whole
@@ -120,7 +120,7 @@ line_goes_on before whole more is has =
       arguments = joined has.arguments more;
       is_keyword = has.is_keyword;
       is_rest = rest_of_joined has.arguments more has.is_rest is;
-      text = behind before (items_text has.items) line (tail more) whole has.text ∙ ap (λ (l : List ℕ). before ++ (items_text has.items ++ l)) same;
+      text = appended_to_last_of_three before (items_text has.items) line (tail more) whole has.text ∙ ap (λ (l : List ℕ). before ++ (items_text has.items ++ l)) same;
     }
 
 with_argument : (before whole bytes : List ℕ) → is_argument bytes ≡ true → HasLine before whole → HasLine before (whole ++ 32 ∷ bytes)
@@ -134,16 +134,16 @@ ended before whole has = record {
   arguments = has.arguments;
   is_keyword = has.is_keyword;
   is_rest = has.is_rest;
-  text = behind before (items_text has.items) (has.keyword ++ tail has.arguments) (10 ∷ []) whole has.text;
+  text = appended_to_last_of_three before (items_text has.items) (has.keyword ++ tail has.arguments) (10 ∷ []) whole has.text;
 }
 
 with_object : (before whole words bytes : List ℕ) → are_words true words ≡ true → IsBytes bytes → HasOpenItem before whole → HasItems before (whole ++ object_text words bytes)
 with_object before whole words bytes are_words_ are_bytes has =
     let line = has.keyword ++ tail has.arguments in
     let text = object_text words bytes in
-    one_more before (whole ++ text) has.items (record { keyword = has.keyword; arguments = has.arguments; object = Some (record { words = words; bytes = bytes }) }) has.each
+    has_items_with_one_more before (whole ++ text) has.items (record { keyword = has.keyword; arguments = has.arguments; object = Some (record { words = words; bytes = bytes }) }) has.each
     (record { keyword = has.is_keyword; arguments = has.is_rest; object = record { words = are_words_; bytes = are_bytes } })
-    (behind before (items_text has.items) (line ++ 10 ∷ []) text whole has.text ∙ ap (λ (l : List ℕ). before ++ (items_text has.items ++ l)) (append_assoc line (10 ∷ []) text))
+    (appended_to_last_of_three before (items_text has.items) (line ++ 10 ∷ []) text whole has.text ∙ ap (λ (l : List ℕ). before ++ (items_text has.items ++ l)) (append_assoc line (10 ∷ []) text))
 
 -- what stands there after a call
 one_call : (before whole : List ℕ) (stage : Stage) (call : Call) → MayCall (record { text = whole; stage = stage }) call → Stands before whole stage

@@ -6,10 +6,10 @@ use Rattle.item_terms.specs.Items.{Item}
 use Rattle.frame_terms.specs.Decisions.{beginning_reason, beyond_inner, first_item, made_after, made_by}
 use Rattle.frame_terms.specs.Decisions.{unless_fault, unless_refused}
 use Rattle.frame_terms.specs.Keywords.{same, word_of}
-use Rattle.frame_terms.specs.Order.{first_of, following, inner, is_keyword, is_strange, opened_by, passed_over}
-use Rattle.frame_terms.specs.Refusals.{refused}
+use Rattle.frame_terms.specs.Order.{first_of, following_sections, inner, is_keyword, is_strange, opened_by, passed_over}
+use Rattle.frame_terms.specs.Refusals.{refusal_at}
 use Rattle.frame_terms.specs.Rows.{is_many}
-use Rattle.frame_terms.specs.Sections.{accept, lacking, lacking_but, row_of, stands, taken_as, taken_of}
+use Rattle.frame_terms.specs.Sections.{accept, lacking_keyword, lacking_but, row_of, stands, taken_as, taken_of}
 use Rattle.frame_terms.specs.Standing.{as_made, begins, begins_again, by_keyword, by_row, elsewhere, ends, enters}
 use Rattle.frame_terms.specs.Standing.{goes_on, in_section, unless}
 use Rattle.frame_terms.specs.Tables.{Tables}
@@ -89,7 +89,7 @@ module _ {S K V X : Type 0} (tables : Tables S K V X) (end : EndWithObjects tabl
     where
       by : (twice : Bool) (said : Result V FrameFault) → tables.value_of across row.kind item ≡ said
           → IsRight item (as_made (ends open_.around)
-          (if twice then Err (refused item.place (Twice row.keyword)) else taken_as row.keyword item said))
+          (if twice then Err (refusal_at item.place (Twice row.keyword)) else taken_as row.keyword item said))
       by true said e = tt
       by false (Err fault) e = tt
       by false (Ok value) e = right_ends item open_.around (taken_of row.keyword item value) (some value e)
@@ -101,7 +101,7 @@ module _ {S K V X : Type 0} (tables : Tables S K V X) (end : EndWithObjects tabl
       (right_enters item (inner tables open_.section row.keyword))
       (accept tables across row open_.taken item)
   right_goes_on open_ row again.Section never =
-      right_keyword item item.place (lacking (tables.rows open_.section) open_.taken)
+      right_keyword item item.place (lacking_keyword (tables.rows open_.section) open_.taken)
       (as_made (Opens open_.section) (accept tables across row [] item))
       (right_made item (Opens open_.section) (λ one. tt) (accept tables across row [] item))
   right_goes_on open_ row again.Document never = absurd (never refl)
@@ -133,13 +133,13 @@ module _ {S K V X : Type 0} (tables : Tables S K V X) (end : EndWithObjects tabl
       → IsRight item (elsewhere tables across open_ item keyword other)
   right_elsewhere open_ keyword None = by (is_strange tables open_.section keyword)
     where
-      by : (t : Bool) → IsRight {S = S} {V = V} item (if t then Err (refused item.place Order) else Ok Passes)
+      by : (t : Bool) → IsRight {S = S} {V = V} item (if t then Err (refusal_at item.place Order) else Ok Passes)
       by true = tt
       by false = tt
   right_elsewhere open_ keyword (Some other) =
       right_keyword item item.place
-      (first_of (lacking (tables.rows open_.section) open_.taken)
-      (passed_over tables keyword (following tables open_.section)))
+      (first_of (lacking_keyword (tables.rows open_.section) open_.taken)
+      (passed_over tables keyword (following_sections tables open_.section)))
       (begins tables across (Opens other) item (row_of (tables.rows other) keyword))
       (right_begins (Opens other) (λ one. tt) (row_of (tables.rows other) keyword))
 
@@ -147,7 +147,7 @@ module _ {S K V X : Type 0} (tables : Tables S K V X) (end : EndWithObjects tabl
       → row_of (tables.rows open_.section) keyword ≡ found
       → IsRight item (by_row tables across open_ item keyword found)
   right_row open_ keyword None there =
-      right_elsewhere open_ keyword (opened_by tables keyword (following tables open_.section))
+      right_elsewhere open_ keyword (opened_by tables keyword (following_sections tables open_.section))
   right_row open_ keyword (Some row) there = by (tables.ignores row.kind item)
     where
       by : (t : Bool) → IsRight item (if t then Ok Passes else in_section tables across open_ item row)

@@ -76,8 +76,8 @@ tail-joined [] more = refl
 tail-joined (b ∷ args) more = refl
 
 -- both have bytes
-both : (b : ℕ) (args : List ℕ) (c : ℕ) (more : List ℕ) → IsLineRest (b ∷ args) → IsLineRest (c ∷ more) → IsLineRest ((b ∷ args) ++ 32 ∷ c ∷ more)
-both b args c more first second =
+two_spaced_rests_are_a_rest : (b : ℕ) (args : List ℕ) (c : ℕ) (more : List ℕ) → IsLineRest (b ∷ args) → IsLineRest (c ∷ more) → IsLineRest ((b ∷ args) ++ 32 ∷ c ∷ more)
+two_spaced_rests_are_a_rest b args c more first second =
     let text = (b ∷ args) ++ 32 ∷ c ∷ more in
     let bare = bare_if_trimmed (b ∷ args) (omega arith) first.trimmed in
     let bare_more = bare_if_trimmed (c ∷ more) (omega arith) second.trimmed in
@@ -93,7 +93,7 @@ both b args c more first second =
 pub rest_of_joined : (args more : List ℕ) → IsLineRest args → IsLineRest more → IsLineRest (joined args more)
 rest_of_joined [] more first second = second
 rest_of_joined (b ∷ args) [] first second = rw (append-nil (b ∷ args)) first
-rest_of_joined (b ∷ args) (c ∷ more) first second = both b args c more first second
+rest_of_joined (b ∷ args) (c ∷ more) first second = two_spaced_rests_are_a_rest b args c more first second
 
 -- nothing may be the rest of a line
 pub rest_of_nothing : IsLineRest []

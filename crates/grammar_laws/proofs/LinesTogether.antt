@@ -6,7 +6,7 @@ use Rattle.item_terms.specs.Items.{Contents, also, contents, contents_of, procee
 use Rattle.item_terms.specs.Lines.{Line, lines, onto, size}
 use Rattle.item_terms.specs.Steps.{Item, Open, Step, nothing}
 use Rattle.dirdoc_grammar.specs.Writing.{in_front}
-use Rattle.grammar_laws.specs.Moved.{Reads, moved, sizes, with_whole}
+use Rattle.grammar_laws.specs.Moved.{Reads, moved_item, sizes, with_whole}
 use Rattle.grammar_laws.proofs.MovedLines.{reads_moved}
 
 -- lines that have no fault, and then others
@@ -88,12 +88,12 @@ sizes_all (b ∷ text) = by (sizes_all text) (b == 10)
 pub together : (limit limit' n : ℕ) (text more : List ℕ) (items : List Item) → AllEnded (lines text)
     → Reads limit 0 nothing (lines text) items nothing → n + length text ≤ limit'
     → contents limit' n nothing (text ++ more)
-    ≡ in_front (map (moved n) items) (contents limit' (n + length text) nothing more)
+    ≡ in_front (map (moved_item n) items) (contents limit' (n + length text) nothing more)
 together limit limit' n text more items ended is fits =
     let long = sizes_all text in
     let from_zero : 0 + n ≡ n = omega arith in
-    let there = subst (λ (k : ℕ). Reads limit' k nothing (lines text) (map (moved n) items) nothing) from_zero
+    let there = subst (λ (k : ℕ). Reads limit' k nothing (lines text) (map (moved_item n) items) nothing) from_zero
     (reads_moved limit limit' 0 n nothing (lines text) items nothing is (omega (arith, long, fits))) in
     ap (λ (l : List Line). contents_of limit' n nothing l) (lines_both text more ended)
-    ∙ both_read limit' n nothing (lines text) (lines more) (map (moved n) items) nothing there
-    ∙ ap (λ (k : ℕ). in_front (map (moved n) items) (contents_of limit' (n + k) nothing (lines more))) long
+    ∙ both_read limit' n nothing (lines text) (lines more) (map (moved_item n) items) nothing there
+    ∙ ap (λ (k : ℕ). in_front (map (moved_item n) items) (contents_of limit' (n + k) nothing (lines more))) long

@@ -8,7 +8,7 @@ use Rattle.item_terms.specs.declared.fault.DocReason.TheVariants.{ObjectTooLong}
 use Rattle.item_terms.specs.declared.fault.DocReason.TheVariants.{DocumentTooLong, LineTooLong}
 use Rattle.item_terms.specs.declared.fault.DocReason.TheVariants.{Unterminated}
 use Rattle.item_terms.specs.Faults.{at, line_fault, max_line, max_object, nul_fault, object_line_fault, or_else}
-use Rattle.item_terms.specs.Faults.{too_long, unterminated}
+use Rattle.item_terms.specs.Faults.{too_long, unterminated_fault}
 use Rattle.item_terms.specs.Lines.{Line, size}
 use Rattle.item_terms.specs.Words.{nul_in}
 
@@ -32,7 +32,7 @@ not_long limit place size_ fits =
     (if nat_le (limit - place) max_line then at limit DocumentTooLong else at (place + max_line) LineTooLong))
     (le-leb size_ (min (limit - place) max_line) fits)
 
-ended_too : (place other : ℕ) (line : Line) → unterminated place line ≡ None → unterminated other line ≡ None
+ended_too : (place other : ℕ) (line : Line) → unterminated_fault place line ≡ None → unterminated_fault other line ≡ None
 ended_too place other line is = by line.ended is
   where
     by : (t : Bool) → (if t then None else Some (at (place + length line.text) Unterminated)) ≡ None
@@ -48,13 +48,13 @@ pub sound_moved : (limit limit' place n : ℕ) (line : Line) → line_fault limi
     → place + n + size line ≤ limit' → line_fault limit' (place + n) line ≡ None
 sound_moved limit limit' place n line is fits =
     let long = too_long limit place (size line) in
-    let others = or_else (unterminated place line) (nul_fault place (nul_in line.text)) in
+    let others = or_else (unterminated_fault place line) (nul_fault place (nul_in line.text)) in
     let p = none_of long others is in
-    let q = none_of (unterminated place line) (nul_fault place (nul_in line.text)) p.1 in
+    let q = none_of (unterminated_fault place line) (nul_fault place (nul_in line.text)) p.1 in
     let s = short limit place (size line) p.0 in
     let m : size line ≤ min (limit' - (place + n)) 1048576 = omega (arith, s, fits) in
     ap (λ (f : Option DocFault). or_else f
-    (or_else (unterminated (place + n) line) (nul_fault (place + n) (nul_in line.text))))
+    (or_else (unterminated_fault (place + n) line) (nul_fault (place + n) (nul_in line.text))))
     (not_long limit' (place + n) (size line) m)
     ∙ ap (λ (f : Option DocFault). or_else f (nul_fault (place + n) (nul_in line.text)))
     (ended_too place (place + n) line q.0)
@@ -94,7 +94,7 @@ object_sound_moved limit limit' begin place n line is fits =
     by false true ea eb is =
         let p =
         none_of (too_long limit place (size line))
-        (or_else (unterminated place line) (nul_fault place (nul_in line.text))) is in
+        (or_else (unterminated_fault place line) (nul_fault place (nul_in line.text))) is in
         let s = short limit place (size line) p.0 in
         let over = ltb-true (max_object - (place - begin)) (size line) eb in
         let under = ltb-false (max_object - (place - begin)) (min (limit - place) max_line) ea in

@@ -12,7 +12,7 @@ use Rattle.item_terms.specs.Words.{keyword, separator}
 use Rattle.item_terms.specs.Steps.{Item, Object, Open, Step, begun_object, first_object_line, item_unless, keyword_item}
 use Rattle.item_terms.specs.Steps.{keyword_line, line_item, nothing, object_lines, object_step, open_item, open_unless}
 use Rattle.item_terms.specs.Steps.{read_line, starts_dash, step, step_unless, with_line, with_object}
-use Rattle.grammar_laws.specs.Moved.{Reads, moved, moved_object, moved_open, sizes, with_whole}
+use Rattle.grammar_laws.specs.Moved.{Reads, moved_item, moved_object, moved_open, sizes, with_whole}
 use Rattle.grammar_laws.proofs.MovedFaults.{object_sound_moved, sound_moved}
 
 -- ---- a line between items
@@ -22,9 +22,9 @@ moved_next n (Ok open_) = Ok (moved_open n open_)
 moved_next n (Err fault) = Err fault
 
 abbrev moved_step : ℕ → Step → Step
-moved_step n made = record { whole = option_map (moved n) made.whole; next = moved_next n made.next }
+moved_step n made = record { whole = option_map (moved_item n) made.whole; next = moved_next n made.next }
 
-keyword_moved : (place n : ℕ) (line : Line) → keyword_item (place + n) line ≡ moved n (keyword_item place line)
+keyword_moved : (place n : ℕ) (line : Line) → keyword_item (place + n) line ≡ moved_item n (keyword_item place line)
 keyword_moved place n line =
     let start : argument_start (place + n) line.text ≡ argument_start place line.text + n = omega arith in
     let end : place + n + size line ≡ place + size line + n = omega arith in
@@ -73,7 +73,7 @@ begun_moved : (limit limit' place n : ℕ) (item : Item) (line : Line) (next : O
     → open_unless (line_fault limit place line) (first_object_line place item line (begin_words line.text)) ≡ Ok next
     → place + n + size line ≤ limit'
     → open_unless (line_fault limit' (place + n) line)
-    (first_object_line (place + n) (moved n item) line (begin_words line.text))
+    (first_object_line (place + n) (moved_item n item) line (begin_words line.text))
     ≡ Ok (moved_open n next)
 begun_moved limit limit' place n item line next is fits = by (line_fault limit place line) refl is
   where
@@ -87,26 +87,26 @@ begun_moved limit limit' place n item line next is fits = by (line_fault limit p
         → (if t then Err (at place ObjectTooLong) else Ok (object_lines item place (begun_object place line words)))
         ≡ Ok next
         → (if t then Err (at (place + n) ObjectTooLong) else Ok
-        (object_lines (moved n item) (place + n) (begun_object (place + n) line words)))
+        (object_lines (moved_item n item) (place + n) (begun_object (place + n) line words)))
         ≡ Ok (moved_open n next)
     by_size true words is = absurd (cc is)
     by_size false words is =
-        ap (λ (o : Object). Ok (object_lines (moved n item) (place + n) o)) (object_moved words) ∙ ap (moved_next n) is
+        ap (λ (o : Object). Ok (object_lines (moved_item n item) (place + n) o)) (object_moved words) ∙ ap (moved_next n) is
 
     by_words : (words : Option (List ℕ)) → first_object_line place item line words ≡ Ok next
-        → first_object_line (place + n) (moved n item) line words ≡ Ok (moved_open n next)
+        → first_object_line (place + n) (moved_item n item) line words ≡ Ok (moved_open n next)
     by_words None is = absurd (cc is)
     by_words (Some words) is = by_size (nat_lt max_object (size line)) words is
 
     by : (f : Option DocFault) → line_fault limit place line ≡ f
         → open_unless f (first_object_line place item line (begin_words line.text)) ≡ Ok next
         → open_unless (line_fault limit' (place + n) line)
-        (first_object_line (place + n) (moved n item) line (begin_words line.text))
+        (first_object_line (place + n) (moved_item n item) line (begin_words line.text))
         ≡ Ok (moved_open n next)
     by (Some f) e is = absurd (cc is)
     by None e is =
         ap (λ (f : Option DocFault). open_unless f
-        (first_object_line (place + n) (moved n item) line (begin_words line.text)))
+        (first_object_line (place + n) (moved_item n item) line (begin_words line.text)))
         (sound_moved limit limit' place n line e fits)
         ∙ by_words (begin_words line.text) is
 
@@ -128,13 +128,13 @@ object_made line at_ item_ begin_ object_ dash end_ body =
 object_step_moved : (place n : ℕ) (item : Item) (begin : ℕ) (object : Object) (line : Line) (whole : Option Item)
     (next : Open)
     → object_step item begin object place line ≡ record { whole = whole; next = Ok next }
-    → object_step (moved n item) (begin + n) (moved_object n object) (place + n) line
-    ≡ record { whole = option_map (moved n) whole; next = Ok (moved_open n next) }
+    → object_step (moved_item n item) (begin + n) (moved_object n object) (place + n) line
+    ≡ record { whole = option_map (moved_item n) whole; next = Ok (moved_open n next) }
 object_step_moved place n item begin object line whole next is =
     by (starts_dash line) (is_end_line object.words line.text) (is_body object.text) is
   where
-    whole_moved : with_object (moved n item) (moved_object n object) (place + n + size line)
-        ≡ moved n (with_object item object (place + size line))
+    whole_moved : with_object (moved_item n item) (moved_object n object) (place + n + size line)
+        ≡ moved_item n (with_object item object (place + size line))
     whole_moved =
         let end : place + n + size line ≡ place + size line + n = omega arith in
         λ i. record {
@@ -150,8 +150,8 @@ object_step_moved place n item begin object line whole next is =
 
     by : (dash end_ body : Bool) → object_made line place item begin object dash end_ body
         ≡ record { whole = whole; next = Ok next }
-        → object_made line (place + n) (moved n item) (begin + n) (moved_object n object) dash end_ body
-        ≡ record { whole = option_map (moved n) whole; next = Ok (moved_open n next) }
+        → object_made line (place + n) (moved_item n item) (begin + n) (moved_object n object) dash end_ body
+        ≡ record { whole = option_map (moved_item n) whole; next = Ok (moved_open n next) }
     by true true true is =
         ap (λ (i : Item). record { whole = Some i; next = Ok nothing }) whole_moved ∙ ap (moved_step n) is
     by true true false is =
@@ -168,21 +168,21 @@ object_moved : (limit limit' place n : ℕ) (item : Item) (begin : ℕ) (object 
     ≡ record { whole = whole; next = Ok next }
     → place + n + size line ≤ limit'
     → step_unless (object_line_fault limit' (begin + n) (place + n) line)
-    (object_step (moved n item) (begin + n) (moved_object n object) (place + n) line)
-    ≡ record { whole = option_map (moved n) whole; next = Ok (moved_open n next) }
+    (object_step (moved_item n item) (begin + n) (moved_object n object) (place + n) line)
+    ≡ record { whole = option_map (moved_item n) whole; next = Ok (moved_open n next) }
 object_moved limit limit' place n item begin object line whole next is fits =
     by (object_line_fault limit begin place line) refl is
   where
     by : (f : Option DocFault) → object_line_fault limit begin place line ≡ f
         → step_unless f (object_step item begin object place line) ≡ record { whole = whole; next = Ok next }
         → step_unless (object_line_fault limit' (begin + n) (place + n) line)
-        (object_step (moved n item) (begin + n) (moved_object n object) (place + n) line)
-        ≡ record { whole = option_map (moved n) whole; next = Ok (moved_open n next) }
+        (object_step (moved_item n item) (begin + n) (moved_object n object) (place + n) line)
+        ≡ record { whole = option_map (moved_item n) whole; next = Ok (moved_open n next) }
     by (Some f) e is =
         absurd (not_faulty f next (step_unless (Some f) (object_step item begin object place line)) whole refl is)
     by None e is =
         ap (λ (f : Option DocFault). step_unless f
-        (object_step (moved n item) (begin + n) (moved_object n object) (place + n) line))
+        (object_step (moved_item n item) (begin + n) (moved_object n object) (place + n) line))
         (object_sound_moved limit limit' begin place n line e fits)
         ∙ object_step_moved place n item begin object line whole next is
 
@@ -196,13 +196,13 @@ after_line dash begun item next =
 pub step_moved : (limit limit' place n : ℕ) (open_ : Open) (line : Line) (whole : Option Item) (next : Open)
     → step limit place open_ line ≡ record { whole = whole; next = Ok next } → place + n + size line ≤ limit'
     → step limit' (place + n) (moved_open n open_) line
-    ≡ record { whole = option_map (moved n) whole; next = Ok (moved_open n next) }
+    ≡ record { whole = option_map (moved_item n) whole; next = Ok (moved_open n next) }
 step_moved limit limit' place n nothing line whole next is fits =
     let w : None ≡ whole = ap (λ (s : Step). s.whole) is in
     let r : open_item (read_line limit place line) ≡ Ok next = ap (λ (s : Step). s.next) is in
     ap (λ (o : Result Open DocFault). record { whole = None; next = o })
     (read_moved limit limit' place n line next r fits)
-    ∙ ap (λ (i : Option Item). record { whole = option_map (moved n) i; next = Ok (moved_open n next) }) w
+    ∙ ap (λ (i : Option Item). record { whole = option_map (moved_item n) i; next = Ok (moved_open n next) }) w
 step_moved limit limit' place n (keyword_line item) line whole next is fits = by (starts_dash line) is
   where
     by : (dash : Bool)
@@ -210,45 +210,45 @@ step_moved limit limit' place n (keyword_line item) line whole next is fits = by
         (first_object_line place item line (begin_words line.text))) item (open_item (read_line limit place line))
         ≡ record { whole = whole; next = Ok next }
         → after_line dash (open_unless (line_fault limit' (place + n) line)
-        (first_object_line (place + n) (moved n item) line (begin_words line.text)))
-        (moved n item) (open_item (read_line limit' (place + n) line))
-        ≡ record { whole = option_map (moved n) whole; next = Ok (moved_open n next) }
+        (first_object_line (place + n) (moved_item n item) line (begin_words line.text)))
+        (moved_item n item) (open_item (read_line limit' (place + n) line))
+        ≡ record { whole = option_map (moved_item n) whole; next = Ok (moved_open n next) }
     by true is =
         let w : None ≡ whole = ap (λ (s : Step). s.whole) is in
         let r : open_unless (line_fault limit place line) (first_object_line place item line (begin_words line.text))
         ≡ Ok next = ap (λ (s : Step). s.next) is in
         ap (λ (o : Result Open DocFault). record { whole = None; next = o })
         (begun_moved limit limit' place n item line next r fits)
-        ∙ ap (λ (i : Option Item). record { whole = option_map (moved n) i; next = Ok (moved_open n next) }) w
+        ∙ ap (λ (i : Option Item). record { whole = option_map (moved_item n) i; next = Ok (moved_open n next) }) w
     by false is =
         let w : Some item ≡ whole = ap (λ (s : Step). s.whole) is in
         let r : open_item (read_line limit place line) ≡ Ok next = ap (λ (s : Step). s.next) is in
-        ap (λ (o : Result Open DocFault). record { whole = Some (moved n item); next = o })
+        ap (λ (o : Result Open DocFault). record { whole = Some (moved_item n item); next = o })
         (read_moved limit limit' place n line next r fits)
-        ∙ ap (λ (i : Option Item). record { whole = option_map (moved n) i; next = Ok (moved_open n next) }) w
+        ∙ ap (λ (i : Option Item). record { whole = option_map (moved_item n) i; next = Ok (moved_open n next) }) w
 step_moved limit limit' place n (object_lines item begin object) line whole next is fits =
     object_moved limit limit' place n item begin object line whole next is fits
 
 -- ---- lines
 
 whole_map : (n : ℕ) (whole : Option Item) (others : List Item)
-    → map (moved n) (with_whole whole others) ≡ with_whole (option_map (moved n) whole) (map (moved n) others)
+    → map (moved_item n) (with_whole whole others) ≡ with_whole (option_map (moved_item n) whole) (map (moved_item n) others)
 whole_map n None others = refl
 whole_map n (Some item) others = refl
 
 -- Lines without a fault make the same items so many bytes further on, where they do not pass the limit there.
 pub reads_moved : (limit limit' place n : ℕ) (open_ : Open) (lines : List Line) (items : List Item) (last : Open)
     → Reads limit place open_ lines items last → place + n + sizes lines ≤ limit'
-    → Reads limit' (place + n) (moved_open n open_) lines (map (moved n) items) (moved_open n last)
+    → Reads limit' (place + n) (moved_open n open_) lines (map (moved_item n) items) (moved_open n last)
 reads_moved limit limit' place n open_ [] items last is fits =
-    (ap (map (moved n)) is.0, ap (moved_open n) is.1)
+    (ap (map (moved_item n)) is.0, ap (moved_open n) is.1)
 reads_moved limit limit' place n open_ (line ∷ rest) items last (whole, next, others, made, come, more) fits =
     let here : place + size line + n ≡ place + n + size line = omega arith in (
-      option_map (moved n) whole,
+      option_map (moved_item n) whole,
       moved_open n next,
-      map (moved n) others,
+      map (moved_item n) others,
       step_moved limit limit' place n open_ line whole next made (omega (arith, fits)),
-      ap (map (moved n)) come ∙ whole_map n whole others,
-      subst (λ (k : ℕ). Reads limit' k (moved_open n next) rest (map (moved n) others) (moved_open n last)) here
+      ap (map (moved_item n)) come ∙ whole_map n whole others,
+      subst (λ (k : ℕ). Reads limit' k (moved_open n next) rest (map (moved_item n) others) (moved_open n last)) here
           (reads_moved limit limit' (place + size line) n next rest others last more (omega (arith, fits))),
     )

@@ -5,7 +5,7 @@ use Rattle.item_terms.specs.declared.fault.DocFault.{DocFault}
 use Rattle.item_terms.specs.Lines.{Line, lines, size}
 use Rattle.item_terms.specs.Words.{is_keyword_line}
 use Rattle.item_terms.specs.Steps.{Item, Open, Object, nothing, keyword_line, object_lines, keyword_item}
-use Rattle.item_terms.specs.Items.{Contents, also, failed}
+use Rattle.item_terms.specs.Items.{Contents, also, failed_contents}
 use Rattle.grammar_laws.proofs.BlockLines.{sizes_append, and_false, blank_apart, item_apart}
 use Rattle.grammar_laws.specs.BlockFaults.{HasFault, begin_with_dash, end_in_keyword_line}
 use Rattle.grammar_laws.specs.Blocks.{sizes, text_of, IsBlankLine, IsKeywordLine, IsBeginLine, AreBodyLines, AreLinesOfItem, AreLinesOfItems}
@@ -26,7 +26,7 @@ pub record HasFront (limit place : ℕ) (all : List Line) (made : Contents) : Ty
   pub apart : end_in_keyword_line front && begin_with_dash rest ≡ false
   pub left : Left limit (place + sizes front) rest made.fault
 
-pub stops : (limit place : ℕ) (all : List Line) (fault : DocFault) → HasFault limit place all fault → HasFront limit place all (failed fault)
+pub stops : (limit place : ℕ) (all : List Line) (fault : DocFault) → HasFault limit place all fault → HasFront limit place all (failed_contents fault)
 stops limit place all fault h = record { front = []; rest = all; lines = refl; items = tt; apart = refl; left = subst (λ (k : ℕ). HasFault limit k all fault) (omega arith) h }
 
 pub ends : (limit place : ℕ) → HasFront limit place [] (record { items = []; fault = None })

@@ -36,21 +36,21 @@ pub record MayStand (limit place : ℕ) (line : List ℕ) : Type 0 where
   pub no_nul : list_all (λ b. not (b == 0)) line ≡ true
   pub fits : length line + 1 ≤ min (limit - place) max_line
 
-both : (a b : Bool) → a && b ≡ true → (a ≡ true) × (b ≡ true)
-both true b e = (refl, e)
-both false b e = absurd cc
+both_tests_hold : (a b : Bool) → a && b ≡ true → (a ≡ true) × (b ≡ true)
+both_tests_hold true b e = (refl, e)
+both_tests_hold false b e = absurd cc
 
 -- the longest front that passes, where the next byte does not
 prefix_stops : (p : ℕ → Bool) (front : List ℕ) (c : ℕ) (rest : List ℕ) → list_all p front ≡ true → p c ≡ false → prefix_len p (front ++ c ∷ rest) ≡ length front
 prefix_stops p [] c rest all stop = ap (λ (b : Bool). cond b (1 + prefix_len p rest) 0) stop
 prefix_stops p (b ∷ front) c rest all stop =
-    let h = both (p b) (list_all p front) all in
+    let h = both_tests_hold (p b) (list_all p front) all in
     ap (λ (t : Bool). cond t (1 + prefix_len p (front ++ c ∷ rest)) 0) h.0 ∙ ap (λ (n : ℕ). 1 + n) (prefix_stops p front c rest h.1 stop) ∙ omega arith
 
 prefix_whole : (p : ℕ → Bool) (front : List ℕ) → list_all p front ≡ true → prefix_len p front ≡ length front
 prefix_whole p [] all = refl
 prefix_whole p (b ∷ front) all =
-    let h = both (p b) (list_all p front) all in
+    let h = both_tests_hold (p b) (list_all p front) all in
     ap (λ (t : Bool). cond t (1 + prefix_len p front) 0) h.0 ∙ ap (λ (n : ℕ). 1 + n) (prefix_whole p front h.1) ∙ omega arith
 
 -- the first line of a text that begins with a line

@@ -7,7 +7,7 @@ use Rattle.item_terms.specs.declared.fault.DocFault.{DocFault}
 use Rattle.item_terms.specs.declared.fault.DocReason.TheVariants.{ObjectTooLong, Unterminated, Keyword}
 use Rattle.item_terms.specs.Base64Text.{is_body}
 use Rattle.item_terms.specs.Faults.{at, line_fault, max_line, max_object, nul_fault, object_line_fault, or_else}
-use Rattle.item_terms.specs.Faults.{too_long, unterminated}
+use Rattle.item_terms.specs.Faults.{too_long, unterminated_fault}
 use Rattle.item_terms.specs.Lines.{Line, lines, onto, size}
 use Rattle.item_terms.specs.Words.{begin_words, is_blank_line, is_end_line, is_keyword_line, nul_in}
 use Rattle.item_terms.specs.Steps.{Item, Object, Open, Step, first_object_line, begun_object, item_unless, keyword_item}
@@ -74,8 +74,8 @@ step_sound limit place (object_lines item begin object) line whole next is =
 -- a line without a fault ends with its NL, and within the limit
 pub has_end : (limit place : ℕ) (line : Line) → line_fault limit place line ≡ None → line.ended ≡ true
 has_end limit place line is =
-    let others = or_else (unterminated place line) (nul_fault place (nul_in line.text)) in
-    by line.ended (none_of (unterminated place line) (nul_fault place (nul_in line.text))
+    let others = or_else (unterminated_fault place line) (nul_fault place (nul_in line.text)) in
+    by line.ended (none_of (unterminated_fault place line) (nul_fault place (nul_in line.text))
     (none_of (too_long limit place (size line)) others is).1).0
   where
     by : (t : Bool) → (if t then None else Some (at (place + length line.text) Unterminated)) ≡ None → t ≡ true
@@ -104,7 +104,7 @@ within_all limit place open_ (line ∷ rest) items last (whole, next, others, ma
     let sound = step_sound limit place open_ line whole next made in
     let s =
     short limit place (size line) (none_of (too_long limit place (size line))
-    (or_else (unterminated place line) (nul_fault place (nul_in line.text))) sound).0 in
+    (or_else (unterminated_fault place line) (nul_fault place (nul_in line.text))) sound).0 in
     let here : place + size line ≤ limit = omega (arith, s, fits) in
     let all = within_all limit (place + size line) next rest others last more here in
     omega (arith, all)

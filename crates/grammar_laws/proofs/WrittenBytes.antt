@@ -12,9 +12,9 @@ use Rattle.base64.specs.declared.decode.DecodeError.{DecodeError}
 use Rattle.base64.specs.Engines.{standard}
 use Rattle.base64.specs.GeneralPurpose.{IsBytes, decode_of}
 use Rattle.base64.proofs.EngineFacts.{decode_of-encode_of}
-use Rattle.item_terms.specs.Base64Text.{is_base64, is_body, is_inside, joined, lines_fit}
+use Rattle.item_terms.specs.Base64Text.{is_base64, is_body, is_inside, joined_text, lines_fit}
 use Rattle.item_terms.specs.Words.{are_words, begin_words, begins, dashes, ends, if_words, is_dashes, is_end_line, is_word_byte, strip, strip_end}
-use Rattle.dirdoc_grammar.specs.Bodies.{base64_of, begin_line, body_text, decoded, end_line, in_lines}
+use Rattle.dirdoc_grammar.specs.Bodies.{base64_of, begin_line, body_text, decoded_bytes, end_line, in_lines}
 use Rattle.dirdoc_grammar.proofs.Symbols.{base64_symbols, is_symbol}
 
 -- ---- bytes of one kind are none of another
@@ -75,16 +75,16 @@ in_lines_fit count (b ∷ text) no_nl short =
 
 -- ---- and joined they are the text
 
-joined_end : (none : Bool) → joined (cond none [] (10 ∷ [])) ≡ []
+joined_end : (none : Bool) → joined_text (cond none [] (10 ∷ [])) ≡ []
 joined_end true = refl
 joined_end false = refl
 
-joined_by : (full : Bool) (count b : ℕ) (text : List ℕ) → is_inside b ≡ true → joined (in_lines 0 text) ≡ text → joined (in_lines (count + 1) text) ≡ text
-    → joined (cond full (b ∷ 10 ∷ in_lines 0 text) (b ∷ in_lines (count + 1) text)) ≡ b ∷ text
-joined_by true count b text inside next same = ap (λ (t : Bool). cond t (b ∷ joined (in_lines 0 text)) (joined (in_lines 0 text))) inside ∙ ap (λ (l : List ℕ). b ∷ l) next
-joined_by false count b text inside next same = ap (λ (t : Bool). cond t (b ∷ joined (in_lines (count + 1) text)) (joined (in_lines (count + 1) text))) inside ∙ ap (λ (l : List ℕ). b ∷ l) same
+joined_by : (full : Bool) (count b : ℕ) (text : List ℕ) → is_inside b ≡ true → joined_text (in_lines 0 text) ≡ text → joined_text (in_lines (count + 1) text) ≡ text
+    → joined_text (cond full (b ∷ 10 ∷ in_lines 0 text) (b ∷ in_lines (count + 1) text)) ≡ b ∷ text
+joined_by true count b text inside next same = ap (λ (t : Bool). cond t (b ∷ joined_text (in_lines 0 text)) (joined_text (in_lines 0 text))) inside ∙ ap (λ (l : List ℕ). b ∷ l) next
+joined_by false count b text inside next same = ap (λ (t : Bool). cond t (b ∷ joined_text (in_lines (count + 1) text)) (joined_text (in_lines (count + 1) text))) inside ∙ ap (λ (l : List ℕ). b ∷ l) same
 
-joined-in_lines : (count : ℕ) (text : List ℕ) → NoNl text → joined (in_lines count text) ≡ text
+joined-in_lines : (count : ℕ) (text : List ℕ) → NoNl text → joined_text (in_lines count text) ≡ text
 joined-in_lines count [] no_nl = joined_end (count == 0)
 joined-in_lines count (b ∷ text) no_nl =
     let parts = and_parts (not (b == 10)) (list_all (λ b. not (b == 10)) text) no_nl in
@@ -95,14 +95,14 @@ joined-in_lines count (b ∷ text) no_nl =
 no_nl_in : (bytes : List ℕ) → IsBytes bytes → NoNl (base64_of bytes)
 no_nl_in bytes fit = avoids is_symbol 10 (base64_of bytes) refl (base64_symbols bytes fit)
 
-joined-body_text : (bytes : List ℕ) → IsBytes bytes → joined (body_text bytes) ≡ base64_of bytes
+joined-body_text : (bytes : List ℕ) → IsBytes bytes → joined_text (body_text bytes) ≡ base64_of bytes
 joined-body_text bytes fit = joined-in_lines 0 (base64_of bytes) (no_nl_in bytes fit)
 
 spells : (bytes : List ℕ) → IsBytes bytes → decode_of standard (base64_of bytes) ≡ Ok bytes
 unfolding base64_of
 spells bytes fit = decode_of-encode_of standard bytes refl fit
 
-is_base64_text : (bytes : List ℕ) → IsBytes bytes → is_base64 (joined (body_text bytes)) ≡ true
+is_base64_text : (bytes : List ℕ) → IsBytes bytes → is_base64 (joined_text (body_text bytes)) ≡ true
 unfolding is_base64
 is_base64_text bytes fit =
     ap (λ (l : List ℕ). is_ok (decode_of standard l)) (joined-body_text bytes fit) ∙ ap (λ (r : Result (List ℕ) DecodeError). is_ok r) (spells bytes fit)
@@ -110,11 +110,11 @@ is_base64_text bytes fit =
 -- the lines of an object that is written are a body
 pub body_is_body : (bytes : List ℕ) → IsBytes bytes → is_body (body_text bytes) ≡ true
 body_is_body bytes fit =
-    ap (λ (t : Bool). t && is_base64 (joined (body_text bytes))) (in_lines_fit 0 (base64_of bytes) (no_nl_in bytes fit) (omega arith)) ∙ is_base64_text bytes fit
+    ap (λ (t : Bool). t && is_base64 (joined_text (body_text bytes))) (in_lines_fit 0 (base64_of bytes) (no_nl_in bytes fit) (omega arith)) ∙ is_base64_text bytes fit
 
 -- and they spell its bytes
-pub decoded-body_text : (bytes : List ℕ) → IsBytes bytes → decoded (body_text bytes) ≡ Some bytes
-unfolding decoded
+pub decoded-body_text : (bytes : List ℕ) → IsBytes bytes → decoded_bytes (body_text bytes) ≡ Some bytes
+unfolding decoded_bytes
 decoded-body_text bytes fit =
     ap (λ (l : List ℕ). result_ok (decode_of standard l)) (joined-body_text bytes fit) ∙ ap (λ (r : Result (List ℕ) DecodeError). result_ok r) (spells bytes fit)
 

@@ -3,7 +3,7 @@ use Rattle.std.specs.Prelude.{◌≡◌, ℕ, ◌+◌, false, ◌&&◌, List, �
 use Rattle.base64.specs.GeneralPurpose.{IsBytes}
 use Rattle.item_terms.specs.Words.{begins_dash}
 use Rattle.item_terms.specs.Items.{contents, nothing}
-use Rattle.dirdoc_grammar.specs.Bodies.{body_text, decoded}
+use Rattle.dirdoc_grammar.specs.Bodies.{body_text, decoded_bytes}
 use Rattle.dirdoc_grammar.specs.Writing.{AreWritable, NewItem, all_written, in_front, is_open, items_text}
 
 -- Items that were written are the first that are read, and what follows them is read as it would be alone, unless an object
@@ -15,4 +15,4 @@ ReadsAgain =
 
 -- The lines of an object that was written spell its bytes.
 abbrev pub ObjectsAreReadAgain : Type 0
-ObjectsAreReadAgain = (bytes : List ℕ) → IsBytes bytes → decoded (body_text bytes) ≡ Some bytes
+ObjectsAreReadAgain = (bytes : List ℕ) → IsBytes bytes → decoded_bytes (body_text bytes) ≡ Some bytes

@@ -4,7 +4,7 @@ use Rattle.base64.specs.GeneralPurpose.{IsBytes}
 use Rattle.item_terms.specs.Words.{are_words}
 use Rattle.dirdoc_grammar.specs.declared.writer.Stage.TheVariants.{Between, Begun, Rested, Ended}
 use Rattle.dirdoc_grammar.specs.Bodies.{object_text}
-use Rattle.dirdoc_grammar.specs.Writers.{Draft, added, in_line, is_argument}
+use Rattle.dirdoc_grammar.specs.Writers.{Draft, longer_draft, in_line, is_argument}
 use Rattle.dirdoc_grammar.specs.Writing.{IsKeyword, IsLineRest, tail}
 use Rattle.grammar_laws.specs.Written.{HasItems}
 
@@ -18,11 +18,11 @@ pub data Call : Type 0 where
 
 -- the draft after a call
 abbrev pub after : Draft → Call → Draft
-after draft (begin keyword) = added draft keyword Begun
-after draft (argument bytes) = added draft (32 ∷ bytes) Begun
-after draft (rest bytes) = added draft (tail bytes) Rested
-after draft end = added draft (10 ∷ []) Ended
-after draft (object words bytes) = added draft (object_text words bytes) Between
+after draft (begin keyword) = longer_draft draft keyword Begun
+after draft (argument bytes) = longer_draft draft (32 ∷ bytes) Begun
+after draft (rest bytes) = longer_draft draft (tail bytes) Rested
+after draft end = longer_draft draft (10 ∷ []) Ended
+after draft (object words bytes) = longer_draft draft (object_text words bytes) Between
 
 -- the call may be made: what may be written next, and what the call is given
 abbrev pub MayCall : Draft → Call → Type 0

@@ -20,7 +20,7 @@ use Rattle.frame_values.specs.Parts.{part}
 use Rattle.frame_values.specs.Values.{item_at, text_if, text_in}
 use Rattle.frame_values.specs.declared.found.Span.{Span}
 use Rattle.frame_values.specs.declared.values.Value.{Value}
-use Rattle.frame_laws.proofs.Both.{both}
+use Rattle.frame_laws.proofs.Both.{both_hold}
 use Rattle.frame_laws.proofs.Entries.{AlwaysSuits}
 use Rattle.frame_laws.proofs.ReadRows.{IsRead}
 use Rattle.frame_laws.proofs.RowCounts.{said_none, said_once}
@@ -157,18 +157,18 @@ module _ {S K W X : Type 0} {tables : Tables S K (Value W) X} {kinds : ListKinds
   pub versions_said : (client server : Option (List (List ℕ))) → IfSome client AreVersionsInRange
       → IfSome server AreVersionsInRange → AreSaid tables (version_rows kinds client server)
   versions_said client server of_client of_server =
-      both (said_versions the.ClientVersions client of_client)
-      (both (said_versions the.ServerVersions server of_server) tt)
+      both_hold (said_versions the.ClientVersions client of_client)
+      (both_hold (said_versions the.ServerVersions server of_server) tt)
 
   -- the versions of protocols
   pub protocols_said : (a b c d : Option (List (Named (List ℕ)))) → IfSome a AreProtocolsInRange
       → IfSome b AreProtocolsInRange → IfSome c AreProtocolsInRange → IfSome d AreProtocolsInRange
       → AreSaid tables (protocol_rows kinds a b c d)
   protocols_said a b c d of_a of_b of_c of_d =
-      both (said_protocols the.RecommendedClientProtocols a of_a)
-      (both (said_protocols the.RecommendedRelayProtocols b of_b)
-      (both (said_protocols the.RequiredClientProtocols c of_c)
-      (both (said_protocols the.RequiredRelayProtocols d of_d) tt)))
+      both_hold (said_protocols the.RecommendedClientProtocols a of_a)
+      (both_hold (said_protocols the.RecommendedRelayProtocols b of_b)
+      (both_hold (said_protocols the.RequiredClientProtocols c of_c)
+      (both_hold (said_protocols the.RequiredRelayProtocols d of_d) tt)))
 
 -- ---- what is read of them
 

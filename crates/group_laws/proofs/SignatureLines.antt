@@ -22,7 +22,7 @@ use Rattle.frame_values.specs.declared.found.Span.{Span}
 use Rattle.frame_values.specs.declared.found.VoteSignature.{VoteSignature}
 use Rattle.frame_laws.proofs.Words.{AreWords, IsWord, arguments_of_words, two_words, word_of_identity}
 use Rattle.frame_laws.proofs.WrittenItems.{identity_again, key_again, lines_at, space_first, start_of, word_is_there}
-use Rattle.group_laws.specs.Again.{IsSignerInRange, SignatureLinesAreReadAgain, named, signature_at, signature_said}
+use Rattle.group_laws.specs.Again.{IsSignerInRange, SignatureLinesAreReadAgain, named_algorithm, signature_at, signature_said}
 use Rattle.group_laws.specs.Again.{signer_text}
 
 -- ---- items whose arguments are known
@@ -155,7 +155,7 @@ module _ (p : ℕ) (k : Keyword) (identity : Fingerprint) (key : Digest1) (bytes
 
   -- a line of the one signature of a document, by an algorithm that is known or none
   pub signature_again : (name : Option (List ℕ)) (found : Option Algorithm) → IsSignerInRange name identity key
-      → named name ≡ Some found → signature_of (item name) ≡ Ok (at name found)
+      → named_algorithm name ≡ Some found → signature_of (item name) ≡ Ok (at name found)
   signature_again None found are is =
       whole_is (item None) None (at None None) (space_again None) (without_name are)
       ∙ ap (λ (f : Option Algorithm). Ok (at None f)) (same_name None found is)

@@ -10,7 +10,7 @@ use Rattle.frame_values.specs.Lines.{delays_of, time_of}
 use Rattle.frame_values.specs.Parts.{moment_of}
 use Rattle.frame_values.specs.declared.values.Value.{Value}
 use Rattle.frame_values.specs.declared.values.Value.TheVariants as value
-use Rattle.frame_laws.proofs.Both.{both}
+use Rattle.frame_laws.proofs.Both.{both_hold}
 use Rattle.frame_laws.proofs.RowCounts.{said_once}
 use Rattle.frame_laws.proofs.RowValues.{moment_entry, own_entry}
 use Rattle.frame_laws.proofs.SaidRows.{AreSaid, IsSaid, RowSays, row_once}
@@ -86,7 +86,7 @@ module _ {S K W X : Type 0} {tables : Tables S K (Value W) X} {moment delays : K
   pub times_said : (times : Times) → times.vote_seconds ≤ 4294967295 → times.dist_seconds ≤ 4294967295
       → AreSaid tables (time_rows moment delays own times)
   times_said times first second =
-      both (said_moment has.moments the.ValidAfter times.valid_after)
-      (both (said_moment has.moments the.FreshUntil times.fresh_until)
-      (both (said_moment has.moments the.ValidUntil times.valid_until)
-      (both (said_delays times.vote_seconds times.dist_seconds first second) tt)))
+      both_hold (said_moment has.moments the.ValidAfter times.valid_after)
+      (both_hold (said_moment has.moments the.FreshUntil times.fresh_until)
+      (both_hold (said_moment has.moments the.ValidUntil times.valid_until)
+      (both_hold (said_delays times.vote_seconds times.dist_seconds first second) tt)))

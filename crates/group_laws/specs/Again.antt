@@ -42,9 +42,9 @@ pub record IsSignerInRange (name : Option (List ℕ)) (identity : Fingerprint) (
 -- ---- what it says
 
 -- the algorithm that a name names or none, where it is known
-abbrev pub named : Option (List ℕ) → Option (Option Algorithm)
-named None = Some None
-named (Some name) = option_map (λ found. Some found) (algorithm name)
+abbrev pub named_algorithm : Option (List ℕ) → Option (Option Algorithm)
+named_algorithm None = Some None
+named_algorithm (Some name) = option_map (λ found. Some found) (algorithm name)
 
 -- where the lines of the signature begin whose item stands at a place
 abbrev pub lines_start : ℕ → Keyword → List ℕ → ℕ
@@ -64,7 +64,7 @@ signature_at place keyword name found identity key bytes = record {
 -- the same, and nothing where its algorithm is not known
 abbrev pub signature_said : ℕ → Keyword → Option (List ℕ) → Fingerprint → Digest1 → List ℕ → Option VoteSignature
 signature_said place keyword name identity key bytes =
-    option_map (λ (found : Option Algorithm). signature_at place keyword name found identity key bytes) (named name)
+    option_map (λ (found : Option Algorithm). signature_at place keyword name found identity key bytes) (named_algorithm name)
 
 -- the item of a signature that was written at a place
 abbrev pub signature_written : ℕ → Keyword → Option (List ℕ) → Fingerprint → Digest1 → List ℕ → Item
@@ -78,6 +78,6 @@ SignatureLinesAreReadAgain = (place : ℕ) (keyword : Keyword) (name : Option (L
     (key : Digest1) (bytes : List ℕ) → IsSignerInRange name identity key
     → (known_signature_of (signature_written place keyword name identity key bytes)
     ≡ Ok (signature_said place keyword name identity key bytes))
-    × ((found : Option Algorithm) → named name ≡ Some found
+    × ((found : Option Algorithm) → named_algorithm name ≡ Some found
     → signature_of (signature_written place keyword name identity key bytes)
     ≡ Ok (signature_at place keyword name found identity key bytes))

@@ -19,10 +19,10 @@ key_at : (votes : List ReadVote) (i : ℕ) (vote : ReadVote) (key : SignerKey) �
 key_at votes i vote key lt is of = of ∙ ap key_of is ∙ sym (get_or-map key_of votes i vote key lt)
 
 -- the keys of the votes so far, and that of the next one
-pub one_more : (votes : List ReadVote) (i : ℕ) (vote : ReadVote) (key : SignerKey) (keys new : List SignerKey)
+pub one_more_vote_key : (votes : List ReadVote) (i : ℕ) (vote : ReadVote) (key : SignerKey) (keys new : List SignerKey)
     → i < length votes → vote ≡ get_or votes i vote → key ≡ key_of vote → keys ≡ take i (map key_of votes)
     → new ≡ keys ++ key ∷ [] → new ≡ take (i + 1) (map key_of votes)
-one_more votes i vote key keys new lt is of so_far new_is =
+one_more_vote_key votes i vote key keys new lt is of so_far new_is =
     new_is ∙ ap (λ (l : List SignerKey). l ++ key ∷ []) so_far
     ∙ sym (taken (map key_of votes) i key (omega (arith, lt, length-map votes key_of)) (key_at votes i vote key lt is of))
 

@@ -36,10 +36,10 @@ abbrev pub behind : List (List ℕ) → Option (List (List ℕ)) → Option (Lis
 behind digests more = option_map (λ others. digests ++ others) more
 
 -- one digest more
-one_more : (digests : List (List ℕ)) (digest : List ℕ) (more : Option (List (List ℕ)))
+one_more_digest_joined : (digests : List (List ℕ)) (digest : List ℕ) (more : Option (List (List ℕ)))
     → behind digests (with_others (Some digest) more) ≡ behind (digests ++ digest ∷ []) more
-one_more digests digest None = refl
-one_more digests digest (Some others) = ap (λ l. Some l) (sym (append_assoc digests (digest ∷ []) others))
+one_more_digest_joined digests digest None = refl
+one_more_digest_joined digests digest (Some others) = ap (λ l. Some l) (sym (append_assoc digests (digest ∷ []) others))
 
 -- none before the first
 pub none_before : (more : Option (List (List ℕ))) → behind [] more ≡ more
@@ -57,7 +57,7 @@ pub digest_added : (digests parts all : List (List ℕ)) (part digest : List ℕ
     → behind digests (digests_of (part ∷ parts)) ≡ digests_of all
     → behind (digests ++ digest ∷ []) (digests_of parts) ≡ digests_of all
 digest_added digests parts all part digest some is =
-    sym (one_more digests digest (digests_of parts))
+    sym (one_more_digest_joined digests digest (digests_of parts))
     ∙ sym (ap (λ d. behind digests (with_others d (digests_of parts))) some)
     ∙ is
 

@@ -7,12 +7,12 @@ use Rattle.item_terms.specs.declared.fault.DocReason.TheVariants.{LineTooLong, D
 use Rattle.item_terms.specs.declared.fault.DocFault.{DocFault}
 use Rattle.item_terms.specs.Lines.{Line, lines, onto, size}
 use Rattle.item_terms.specs.Words.{nul_in, begin_words}
-use Rattle.item_terms.specs.Faults.{at, or_else, unterminated, nul_fault, line_fault, object_line_fault, max_line}
+use Rattle.item_terms.specs.Faults.{at, or_else, unterminated_fault, nul_fault, line_fault, object_line_fault, max_line}
 use Rattle.item_terms.specs.Faults.{max_object}
 use Rattle.item_terms.specs.Steps.{Item, Open, Step, step, nothing, keyword_line, object_lines, open_item}
 use Rattle.item_terms.specs.Steps.{item_unless, open_unless, step_unless, object_step, line_item, read_line}
 use Rattle.item_terms.specs.Steps.{starts_dash, first_object_line}
-use Rattle.item_terms.specs.Items.{Contents, contents_of, also, proceed, failed}
+use Rattle.item_terms.specs.Items.{Contents, contents_of, also, proceed, failed_contents}
 use Rattle.item_feeder.specs.Limits.{LimitIsEnough}
 
 -- ---- lines that are alike
@@ -87,7 +87,7 @@ pub far_is : (limit place : ℕ) (line : Line) → limit - place < size line
     → line_fault limit place line ≡ Some (far_fault limit place)
 far_is limit place line lt =
     ap (λ (t : Bool). or_else (cond t None (Some (far_fault limit place)))
-    (or_else (unterminated place line) (nul_fault place (nul_in line.text)))) (lt-leb _ _ (omega (arith, lt)))
+    (or_else (unterminated_fault place line) (nul_fault place (nul_in line.text)))) (lt-leb _ _ (omega (arith, lt)))
 
 over_is : (room m n : ℕ) → m ≤ n → (nat_lt room m && nat_lt room n) ≡ nat_lt room m
 over_is room m n fits = elim (cases_lt room m) [
@@ -119,9 +119,9 @@ inside_is limit begin place line far reaches is =
 
 -- the contents where the first line reaches the limits and has this fault
 abbrev pub stopped : DocFault → ℕ → ℕ → Open → Bool → Contents
-stopped far limit place nothing dash = failed far
-stopped far limit place (keyword_line item) dash = cond dash (failed far) (also (Some item) (failed far))
-stopped far limit place (object_lines item begin object) dash = failed (inside_fault far limit begin place)
+stopped far limit place nothing dash = failed_contents far
+stopped far limit place (keyword_line item) dash = cond dash (failed_contents far) (also (Some item) (failed_contents far))
+stopped far limit place (object_lines item begin object) dash = failed_contents (inside_fault far limit begin place)
 
 abbrev pub Rest : Type 0
 Rest = Open → Contents
@@ -130,7 +130,7 @@ dash_by : (dash : Bool) (item : Item) (far : DocFault) (object read : Result Ope
     → object ≡ Err far → read ≡ Err far
     → (let made : Step = cond dash (record { whole = None; next = object })
     (record { whole = Some item; next = read }) in also made.whole (proceed made.next rest))
-    ≡ cond dash (failed far) (also (Some item) (failed far))
+    ≡ cond dash (failed_contents far) (also (Some item) (failed_contents far))
 dash_by true item far object read rest a b = ap (λ (n : Result Open DocFault). also None (proceed n rest)) a
 dash_by false item far object read rest a b = ap (λ (n : Result Open DocFault). also (Some item) (proceed n rest)) b
 

@@ -7,17 +7,17 @@ use Rattle.std.proofs.lemmas.List.{append-nil, append_assoc, length-append, leng
 use Rattle.item_terms.specs.declared.fault.DocReason.TheVariants.{DocumentTooLong}
 use Rattle.item_terms.specs.declared.fault.DocFault.{DocFault}
 use Rattle.item_terms.specs.Faults.{at}
-use Rattle.item_terms.specs.Items.{Contents, contents, contents_of, nothing, also, failed}
+use Rattle.item_terms.specs.Items.{Contents, contents, contents_of, nothing, also, failed_contents}
 use Rattle.dirdoc_grammar.specs.declared.cursor.Cursor.{Cursor}
 use Rattle.dirdoc_grammar.specs.declared.item.Item as item_
 use Rattle.dirdoc_grammar.specs.declared.take.Take.{Take}
 use Rattle.dirdoc_grammar.specs.declared.take.Take.TheVariants as take_
 use Rattle.dirdoc_grammar.specs.Cursors.{fed_by}
 use Rattle.dirdoc_grammar.specs.Feeding.{Fed, Takes, left_with}
-use Rattle.dirdoc_grammar.specs.Seen.{seen, LiesInOrder}
+use Rattle.dirdoc_grammar.specs.Seen.{seen_item, LiesInOrder}
 use Rattle.item_feeder.specs.Feeders.{behind_place, fed_with, Shows}
 use Rattle.item_feeder.proofs.LastWithin.{over, past, stays, goes}
-use Rattle.item_feeder.proofs.OneMore.{one_more}
+use Rattle.item_feeder.proofs.OneMore.{contents_with_one_more_byte}
 
 -- the bytes are all that the document may have
 pub record Full (cursor : Cursor) (bytes : List ℕ) : Type 0 where
@@ -25,19 +25,19 @@ pub record Full (cursor : Cursor) (bytes : List ℕ) : Type 0 where
   pub ends : length bytes ≡ cursor.limit
 
 -- what is left from a place on, with the byte beside
-behind : (limit place : ℕ) (rest : List ℕ) (b : ℕ) (more : List ℕ) → place + length rest ≡ limit
+contents_with_byte_beside : (limit place : ℕ) (rest : List ℕ) (b : ℕ) (more : List ℕ) → place + length rest ≡ limit
     → contents limit place nothing ((rest ++ b ∷ []) ++ more)
     ≡ past (eqb b 45) limit (contents limit place nothing (rest ++ []))
-behind limit place rest b more e =
+contents_with_byte_beside limit place rest b more e =
     ap (contents limit place nothing) (append_assoc rest (b ∷ []) more)
-    ∙ one_more limit place rest b more e
+    ∙ contents_with_one_more_byte limit place rest b more e
     ∙ ap (λ (l : List ℕ). past (eqb b 45) limit (contents limit place nothing l)) (sym (append-nil rest))
 
 left_is : (cursor : Cursor) (bytes : List ℕ) (b : ℕ) (finished : Bool) (more : List ℕ) → Full cursor bytes
     → left_with (fed_with cursor bytes (Some b) finished) more
     ≡ past (eqb b 45) cursor.limit (left_with (fed_by cursor bytes true) [])
 left_is cursor bytes b finished more full =
-    behind cursor.limit cursor.place (drop cursor.place bytes) b more
+    contents_with_byte_beside cursor.limit cursor.place (drop cursor.place bytes) b more
     (omega (arith, full.begins, full.ends, length-drop cursor.place bytes))
 
 -- what is left behind an item, with the byte beside
@@ -49,7 +49,7 @@ later_is cursor bytes b finished more after full first last =
     let rest : List ℕ = drop cursor.place bytes in
     ap (λ (l : List ℕ). contents cursor.limit after nothing (l ++ more))
     (drop-append-le (after - cursor.place) rest (b ∷ []) (omega (arith, first, last)))
-    ∙ behind cursor.limit after (drop (after - cursor.place) rest) b more
+    ∙ contents_with_byte_beside cursor.limit after (drop (after - cursor.place) rest) b more
     (omega (
       arith,
       full.begins,
@@ -69,9 +69,9 @@ item_shows cursor bytes b finished item new full e h = (
   λ more may.
       left_is cursor bytes b finished more full
       ∙ ap (past (eqb b 45) cursor.limit) (h.0 [] refl)
-      ∙ stays (eqb b 45) cursor.limit (seen item) (left_with new []) e
-      ∙ ap (λ (f : Fed). also (Some (seen item)) (past (eqb b 45) cursor.limit (left_with f []))) h.1
-      ∙ ap (also (Some (seen item))) (sym (later_is cursor bytes b finished more item.after full
+      ∙ stays (eqb b 45) cursor.limit (seen_item item) (left_with new []) e
+      ∙ ap (λ (f : Fed). also (Some (seen_item item)) (past (eqb b 45) cursor.limit (left_with f []))) h.1
+      ∙ ap (also (Some (seen_item item))) (sym (later_is cursor bytes b finished more item.after full
       (omega (arith, h.2)) h.3)),
   refl,
   h.2,
@@ -84,7 +84,7 @@ pub fault_shows : (cursor : Cursor) (bytes : List ℕ) (b : ℕ) (finished : Boo
     → Shows (fed_with cursor bytes (Some b) finished) (take_.Fault given)
 fault_shows cursor bytes b finished fault given new full e h = (
   λ more may. left_is cursor bytes b finished more full ∙ ap (past (eqb b 45) cursor.limit) (h.0 [] refl)
-      ∙ ap failed e,
+      ∙ ap failed_contents e,
   refl,
 )
 
@@ -112,7 +112,7 @@ nothing_left limit place = refl
 
 -- an item whose keyword line ends the bytes, where '-' follows
 pub open_shows : (cursor : Cursor) (bytes : List ℕ) (b : ℕ) (finished : Bool) (item : item_.Item) (new : Fed)
-    → Full cursor bytes → b ≡ 45 → item.line_end ≡ cursor.limit → LiesInOrder (seen item)
+    → Full cursor bytes → b ≡ 45 → item.line_end ≡ cursor.limit → LiesInOrder (seen_item item)
     → Takes (fed_by cursor bytes true) (take_.Item item) new
     → Shows (fed_with cursor bytes (Some b) finished) (take_.Fault (at cursor.limit DocumentTooLong))
 open_shows cursor bytes b finished item new full dash e order h =
@@ -126,8 +126,8 @@ open_shows cursor bytes b finished item new full dash e order h =
       λ more may.
           left_is cursor bytes b finished more full
           ∙ ap (past (eqb b 45) cursor.limit) (h.0 [] refl)
-          ∙ ap (λ (t : Bool). past t cursor.limit (also (Some (seen item)) (left_with new []))) (eq-eqb b 45 dash)
-          ∙ goes cursor.limit (seen item) (left_with new []) e
-          ∙ ap (λ (c : Contents). failed (over cursor.limit c.fault)) last,
+          ∙ ap (λ (t : Bool). past t cursor.limit (also (Some (seen_item item)) (left_with new []))) (eq-eqb b 45 dash)
+          ∙ goes cursor.limit (seen_item item) (left_with new []) e
+          ∙ ap (λ (c : Contents). failed_contents (over cursor.limit c.fault)) last,
       refl,
     )

@@ -8,7 +8,7 @@ use Rattle.item_terms.specs.declared.fault.DocFault.{DocFault}
 use Rattle.item_terms.specs.Lines.{Line, lines, onto, size}
 use Rattle.item_terms.specs.Words.{nul_in, is_blank_line, is_keyword_line, begin_words, is_end_line}
 use Rattle.item_terms.specs.Base64Text.{is_body}
-use Rattle.item_terms.specs.Faults.{at, or_else, too_long, unterminated, nul_fault, line_fault, object_line_fault, max_line, max_object}
+use Rattle.item_terms.specs.Faults.{at, or_else, too_long, unterminated_fault, nul_fault, line_fault, object_line_fault, max_line, max_object}
 use Rattle.item_terms.specs.Steps.{Item, Open, Step, step, nothing, keyword_line, object_lines, keyword_item, begun_object, with_line, open_item, item_unless, open_unless, step_unless, object_step, line_item, read_line, starts_dash, first_object_line, with_object}
 use Rattle.item_terms.specs.Items.{Contents, contents, contents_of, also, proceed, at_end}
 
@@ -68,9 +68,9 @@ nul_by n place m (Some i) b le = omega (arith, b, le)
 line_within : (n limit place : ℕ) (line : Line) → limit ≤ n → place + size line + max_line ≤ n → Within n (line_fault limit place line)
 line_within n limit place line far le =
     let text : place + length line.text ≤ n = omega (arith, le) in
-    either n (too_long limit place (size line)) (or_else (unterminated place line) (nul_fault place (nul_in line.text)))
+    either n (too_long limit place (size line)) (or_else (unterminated_fault place line) (nul_fault place (nul_in line.text)))
     (long_by (nat_le (size line) (min (limit - place) max_line)) (nat_le (limit - place) max_line) n limit (place + max_line) far (omega (arith, le)))
-    (either n (unterminated place line) (nul_fault place (nul_in line.text)) (ended_by line.ended n (place + length line.text) text) (nul_by n place (length line.text) (nul_in line.text) (nul_below line.text) text))
+    (either n (unterminated_fault place line) (nul_fault place (nul_in line.text)) (ended_by line.ended n (place + length line.text) text) (nul_by n place (length line.text) (nul_in line.text) (nul_below line.text) text))
 
 over_by : (over : Bool) (n begin : ℕ) (other : Option DocFault) → begin ≤ n → Within n other → Within n (cond over (Some (at begin ObjectTooLong)) other)
 over_by true n begin other le h = le
@@ -114,9 +114,9 @@ begun : (long : Bool) (n place : ℕ) (open_ : Open) → place ≤ n → OpenWit
 begun true n place open_ le h = le
 begun false n place open_ le h = h
 
-begins : (n place : ℕ) (item : Item) (line : Line) (words : Option (List ℕ)) → place ≤ n → NextWithin n (first_object_line place item line words)
-begins n place item line None le = le
-begins n place item line (Some words) le = begun (nat_lt max_object (size line)) n place (object_lines item place (begun_object place line words)) le le
+first_object_line_is_within : (n place : ℕ) (item : Item) (line : Line) (words : Option (List ℕ)) → place ≤ n → NextWithin n (first_object_line place item line words)
+first_object_line_is_within n place item line None le = le
+first_object_line_is_within n place item line (Some words) le = begun (nat_lt max_object (size line)) n place (object_lines item place (begun_object place line words)) le le
 
 unless : (n : ℕ) (fault : Option DocFault) (next : Result Open DocFault) → Within n fault → NextWithin n next → NextWithin n (open_unless fault next)
 unless n None next a b = b
@@ -144,7 +144,7 @@ step_within : (n limit place : ℕ) (so_far : Open) (line : Line) → limit ≤ 
 step_within n limit place nothing line far le h = between n limit place line far le
 step_within n limit place (keyword_line item) line far le h =
     by_dash (starts_dash line) n item (open_unless (line_fault limit place line) (first_object_line place item line (begin_words line.text))) (open_item (read_line limit place line))
-    (unless n (line_fault limit place line) (first_object_line place item line (begin_words line.text)) (line_within n limit place line far le) (begins n place item line (begin_words line.text) (omega (arith, le))))
+    (unless n (line_fault limit place line) (first_object_line place item line (begin_words line.text)) (line_within n limit place line far le) (first_object_line_is_within n place item line (begin_words line.text) (omega (arith, le))))
     (between n limit place line far le)
 step_within n limit place (object_lines item begin object) line far le h =
     let room = max_object - (place - begin) in

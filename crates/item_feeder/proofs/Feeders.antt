@@ -6,7 +6,7 @@ use Rattle.std.proofs.lemmas.Bool.{false≢true}
 use Rattle.std.proofs.lemmas.List.{append-nil, append_assoc, length-append, length-drop, length-take, drop-append-le}
 use Rattle.std.proofs.Math.Seq.{take-add, take-append-add}
 use Rattle.item_terms.specs.declared.fault.DocFault.{DocFault}
-use Rattle.item_terms.specs.Items.{Contents, contents, nothing, failed}
+use Rattle.item_terms.specs.Items.{Contents, contents, nothing, failed_contents}
 use Rattle.dirdoc_grammar.specs.declared.cursor.Cursor.{Cursor}
 use Rattle.dirdoc_grammar.specs.declared.take.Take.{Take}
 use Rattle.dirdoc_grammar.specs.declared.take.Take.TheVariants as take_
@@ -87,7 +87,7 @@ may true = refl
 may false = tt
 
 near : (n limit place : ℕ) (rest : List ℕ) (fault : DocFault) → limit ≤ n → place + length rest + 1048576 ≤ n
-    → contents limit place nothing rest ≡ failed fault → fault.place ≤ n
+    → contents limit place nothing rest ≡ failed_contents fault → fault.place ≤ n
 near n limit place rest fault far le e =
     subst (λ (c : Contents). IfSome c.fault (λ f. f.place ≤ n)) e (fault_within n limit place rest far le)
 

@@ -11,12 +11,12 @@ use Rattle.item_terms.specs.declared.fault.DocFault.{DocFault}
 use Rattle.item_terms.specs.Lines.{Line, size}
 use Rattle.item_terms.specs.Words.{nul_in, is_blank_line, is_keyword_line, begin_words, is_end_line}
 use Rattle.item_terms.specs.Base64Text.{is_body}
-use Rattle.item_terms.specs.Faults.{at, or_else, too_long, unterminated, nul_fault, line_fault, object_line_fault}
+use Rattle.item_terms.specs.Faults.{at, or_else, too_long, unterminated_fault, nul_fault, line_fault, object_line_fault}
 use Rattle.item_terms.specs.Faults.{max_line, max_object}
 use Rattle.item_terms.specs.Steps.{Item, Open, Step, step, nothing, keyword_line, object_lines, keyword_item}
 use Rattle.item_terms.specs.Steps.{begun_object, with_line, with_object, open_item, item_unless, open_unless}
 use Rattle.item_terms.specs.Steps.{step_unless, object_step, line_item, read_line, starts_dash, first_object_line}
-use Rattle.item_terms.specs.Items.{Contents, contents, also, proceed, failed}
+use Rattle.item_terms.specs.Items.{Contents, contents, also, proceed, failed_contents}
 use Rattle.item_feeder.proofs.BehindLimit.{Rest}
 
 -- ---- what one more byte makes of what the bytes hold
@@ -79,7 +79,7 @@ stays dash limit item rest e =
 
 -- an item that goes
 pub goes : (limit : ℕ) (item : Item) (rest : Contents) → item.line_end ≡ limit
-    → past true limit (also (Some item) rest) ≡ failed (over limit rest.fault)
+    → past true limit (also (Some item) rest) ≡ failed_contents (over limit rest.fault)
 goes limit item rest e =
     ap (λ (t : Bool). record {
       items = cond t [] (item ∷ keep true limit rest.items);
@@ -129,10 +129,10 @@ nul_by limit place (Some i) = refl
 settled : (limit place : ℕ) (line : Line) → line.ended ≡ true → Settled limit (line_fault limit place line)
 settled limit place line e =
     either limit (too_long limit place (size line))
-    (or_else (unterminated place line) (nul_fault place (nul_in line.text)))
+    (or_else (unterminated_fault place line) (nul_fault place (nul_in line.text)))
     (long_by (nat_le (size line) (min (limit - place) max_line)) (nat_le (limit - place) max_line) limit limit
     (place + max_line))
-    (either limit (unterminated place line) (nul_fault place (nul_in line.text))
+    (either limit (unterminated_fault place line) (nul_fault place (nul_in line.text))
     (ended_by line.ended limit (place + length line.text) e) (nul_by limit place (nul_in line.text)))
 
 object_by : (long : Bool) (limit begin : ℕ) (other : Option DocFault) → Settled limit other
@@ -174,10 +174,10 @@ begun : (long : Bool) (limit after place : ℕ) (open_ : Open) → Fits after op
 begun true limit after place open_ h = refl
 begun false limit after place open_ h = h
 
-begins : (limit place : ℕ) (item : Item) (line : Line) (words : Option (List ℕ)) → item.line_end ≤ place + size line
+first_object_line_fits : (limit place : ℕ) (item : Item) (line : Line) (words : Option (List ℕ)) → item.line_end ≤ place + size line
     → NextFits limit (place + size line) (first_object_line place item line words)
-begins limit place item line None le = refl
-begins limit place item line (Some words) le =
+first_object_line_fits limit place item line None le = refl
+first_object_line_fits limit place item line (Some words) le =
     begun (nat_lt max_object (size line)) limit (place + size line) place
     (object_lines item place (begun_object place line words)) le
 
@@ -222,7 +222,7 @@ step_fits limit place (keyword_line item) line lt e h =
     (open_item (read_line limit place line))
     (omega (arith, lt, h))
     (unless limit after (line_fault limit place line) (first_object_line place item line (begin_words line.text))
-    (settled limit place line e) (begins limit place item line (begin_words line.text) (omega (arith, h))))
+    (settled limit place line e) (first_object_line_fits limit place item line (begin_words line.text) (omega (arith, h))))
     (between limit place line e)
 step_fits limit place (object_lines item begin object) line lt e h =
     let room = max_object - (place - begin) in
@@ -238,7 +238,7 @@ goes_on : (dash : Bool) (limit after : ℕ) (next : Result Open DocFault) (rest 
     → NextFits limit after next → ((open_ : Open) → Fits after open_ → longer open_ ≡ past dash limit (rest open_))
     → proceed next longer ≡ past dash limit (proceed next rest)
 goes_on dash limit after (Ok open_) rest longer h more = more open_ h
-goes_on dash limit after (Err fault) rest longer h more = ap failed (sym h)
+goes_on dash limit after (Err fault) rest longer h more = ap failed_contents (sym h)
 
 pub in_front : (dash : Bool) (limit : ℕ) (whole : Option Item) (rest : Contents)
     → IfSome whole (λ item. item.line_end < limit)

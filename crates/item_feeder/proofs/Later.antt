@@ -1,13 +1,13 @@
 -- What is given of a document whose first byte stands so many places later.
 use Rattle.std.proofs.Common.{◌≡◌, ℕ, ◌+◌, ◌-◌, List, [], ◌∷◌, ◌++◌, drop, Option, Some, None, Result, Ok, Err, refl, sym, ap, subst, ◌∙◌, arith}
 use Rattle.item_terms.specs.declared.fault.DocFault.{DocFault}
-use Rattle.item_terms.specs.Items.{Item, Object, nothing, also, failed}
+use Rattle.item_terms.specs.Items.{Item, Object, nothing, also, failed_contents}
 use Rattle.dirdoc_grammar.specs.declared.take.Take.{Take}
 use Rattle.dirdoc_grammar.specs.declared.take.Take.TheVariants as take_
 use Rattle.item_feeder.specs.Moving.{moved_object_if, moved_item, moved_fault, moved_fault_if, moved_items, moved_contents}
 use Rattle.dirdoc_grammar.specs.Feeding.{Fed, left_with, first_by, first_of, Settles, Takes}
 use Rattle.item_feeder.specs.Feeders.{behind_next, Shows, Moves}
-use Rattle.dirdoc_grammar.specs.Seen.{seen}
+use Rattle.dirdoc_grammar.specs.Seen.{seen_item}
 use Rattle.item_feeder.proofs.Shifts.{contents_moved}
 
 abbrev pub later : ℕ → Fed → Fed
@@ -85,7 +85,7 @@ takes_later k old new (take_.Item one) (take_.Item other) h is = (
       left_later k old more
       ∙ ap (moved_contents k) (h.0 more may)
       ∙ ap (λ (i : Item). also (Some i) (moved_contents k (left_with new more))) (sym is.0)
-      ∙ ap (also (Some (seen other))) (sym (left_later k new more)),
+      ∙ ap (also (Some (seen_item other))) (sym (left_later k new more)),
   ap (later k) h.1
       ∙ ap (λ (n : ℕ). record { limit = k + old.limit; place = n; rest = drop (one.after - old.place) old.rest; finished = old.finished }) (sym is.1)
       ∙ ap (λ (n : ℕ). record { limit = k + old.limit; place = other.after; rest = drop n old.rest; finished = old.finished }) (omega (arith, is.1)),
@@ -98,7 +98,7 @@ takes_later k old new (take_.Item one) (take_.Fault other) h is = absurd is
 takes_later k old new (take_.Fault one) (take_.Item other) h is = absurd is
 takes_later k old new (take_.Fault one) take_.NotYet h is = absurd is
 takes_later k old new (take_.Fault one) take_.End h is = absurd is
-takes_later k old new (take_.Fault one) (take_.Fault other) h is = (λ more may. left_later k old more ∙ ap (moved_contents k) (h.0 more may) ∙ ap failed (sym is), ap (later k) h.1)
+takes_later k old new (take_.Fault one) (take_.Fault other) h is = (λ more may. left_later k old more ∙ ap (moved_contents k) (h.0 more may) ∙ ap failed_contents (sym is), ap (later k) h.1)
 takes_later k old new take_.NotYet (take_.Item other) h is = absurd is
 takes_later k old new take_.NotYet take_.NotYet h is = (h.0, λ answer settled. h.1 (answer_back k answer) (settles_later k old answer settled), ap (later k) h.2)
 takes_later k old new take_.NotYet take_.End h is = absurd is

@@ -13,7 +13,7 @@ use Rattle.item_terms.specs.Faults.{at, or_else, too_long, nul_fault, line_fault
 use Rattle.item_terms.specs.Faults.{max_line, max_object}
 use Rattle.item_terms.specs.Steps.{Item, Open, step, nothing, keyword_line, object_lines}
 use Rattle.item_terms.specs.Steps.{starts_dash}
-use Rattle.item_terms.specs.Items.{contents, contents_of, also, proceed, failed, at_end}
+use Rattle.item_terms.specs.Items.{contents, contents_of, also, proceed, failed_contents, at_end}
 use Rattle.item_feeder.proofs.BehindLimit.{far_fault, stopped, stops, stops_far}
 use Rattle.item_feeder.proofs.LastWithin.{over, past, Fits, step_fits, in_front, after_step}
 
@@ -102,7 +102,7 @@ at_limit limit =
     ap (λ (t : Bool). cond t (at limit DocumentTooLong) (at (limit + max_line) LineTooLong)) (le-leb _ _ (omega arith))
 
 ends_by : (dash t : Bool) (limit : ℕ) (item : Item) → t ≡ true
-    → cond dash (failed (at limit DocumentTooLong)) (also (Some item) (failed (at limit DocumentTooLong)))
+    → cond dash (failed_contents (at limit DocumentTooLong)) (also (Some item) (failed_contents (at limit DocumentTooLong)))
     ≡ record { items = cond (dash && t) [] (item ∷ []); fault = Some (at limit DocumentTooLong) }
 ends_by true true limit item e = refl
 ends_by true false limit item e = absurd (false≢true e)
@@ -114,7 +114,7 @@ ends : (dash : Bool) (limit : ℕ) (so_far : Open) → Fits limit so_far
 ends dash limit nothing h = refl
 ends dash limit (keyword_line item) h = ends_by dash (eqb item.line_end limit) limit item (eq-eqb item.line_end limit h)
 ends dash limit (object_lines item begin object) h =
-    ap (λ (t : Bool). failed (cond t (at begin ObjectTooLong) (at limit DocumentTooLong)))
+    ap (λ (t : Bool). failed_contents (cond t (at begin ObjectTooLong) (at limit DocumentTooLong)))
     (le-ltb (max_object - (limit - begin)) (min (limit - limit) max_line) (omega arith))
 
 -- the fault of a line that is cut at the limit
@@ -163,25 +163,25 @@ over_cut true limit place = refl
 over_cut false limit place = refl
 
 inside_cut : (long : Bool) (limit begin : ℕ) (cut far : DocFault) → over limit (Some cut) ≡ far
-    → failed (cond long (at begin ObjectTooLong) far)
-    ≡ failed (over limit (Some (cond long (at begin ObjectTooLong) cut)))
+    → failed_contents (cond long (at begin ObjectTooLong) far)
+    ≡ failed_contents (over limit (Some (cond long (at begin ObjectTooLong) cut)))
 inside_cut true limit begin cut far e = refl
-inside_cut false limit begin cut far e = ap failed (sym e)
+inside_cut false limit begin cut far e = ap failed_contents (sym e)
 
 dashed : (first dash : Bool) (limit : ℕ) (item : Item) (cut far : DocFault) → item.line_end < limit
     → over limit (Some cut) ≡ far
-    → cond first (failed far) (also (Some item) (failed far))
-    ≡ past dash limit (cond first (failed cut) (also (Some item) (failed cut)))
-dashed true dash limit item cut far lt e = ap failed (sym e)
+    → cond first (failed_contents far) (also (Some item) (failed_contents far))
+    ≡ past dash limit (cond first (failed_contents cut) (also (Some item) (failed_contents cut)))
+dashed true dash limit item cut far lt e = ap failed_contents (sym e)
 dashed false dash limit item cut far lt e =
-    ap (λ (f : DocFault). also (Some item) (failed f)) (sym e)
-    ∙ in_front dash limit (Some item) (failed cut) lt
+    ap (λ (f : DocFault). also (Some item) (failed_contents f)) (sym e)
+    ∙ in_front dash limit (Some item) (failed_contents cut) lt
 
 -- within a line
 cuts : (first dash : Bool) (limit place : ℕ) (so_far : Open) (cut far : DocFault) → place < limit → Fits place so_far
     → over limit (Some cut) ≡ far
     → stopped far limit place so_far first ≡ past dash limit (stopped cut limit place so_far first)
-cuts first dash limit place nothing cut far lt h e = ap failed (sym e)
+cuts first dash limit place nothing cut far lt h e = ap failed_contents (sym e)
 cuts first dash limit place (keyword_line item) cut far lt h e =
     dashed first dash limit item cut far (omega (arith, lt, h)) e
 cuts first dash limit place (object_lines item begin object) cut far lt h e =
@@ -220,8 +220,8 @@ longer limit place dash so_far (one ∷ rest) (two ∷ more) fits (inr h) =
     (cut_is limit place one h.open_ h.ends)))
 
 -- what a document holds from a place on, where one more byte follows those up to the limit
-pub one_more : (limit place : ℕ) (bytes : List ℕ) (b : ℕ) (more : List ℕ) → place + length bytes ≡ limit
+pub contents_with_one_more_byte : (limit place : ℕ) (bytes : List ℕ) (b : ℕ) (more : List ℕ) → place + length bytes ≡ limit
     → contents limit place nothing (bytes ++ b ∷ more) ≡ past (eqb b 45) limit (contents limit place nothing bytes)
-one_more limit place bytes b more e =
+contents_with_one_more_byte limit place bytes b more e =
     longer limit place (eqb b 45) nothing (lines bytes) (lines (bytes ++ b ∷ more)) tt
     (lines_longer limit place bytes b more e)

@@ -7,7 +7,7 @@ use Rattle.item_terms.specs.declared.fault.DocFault.{DocFault}
 use Rattle.item_terms.specs.Lines.{Line, lines, size}
 use Rattle.item_terms.specs.Words.{nul_in, is_blank, is_blank_line, is_keyword_line, keyword, keyword_len, after_keyword, separator, arguments, begin_words, is_end_line}
 use Rattle.item_terms.specs.Base64Text.{is_body}
-use Rattle.item_terms.specs.Faults.{at, or_else, too_long, unterminated, nul_fault, line_fault, object_line_fault, max_line, max_object}
+use Rattle.item_terms.specs.Faults.{at, or_else, too_long, unterminated_fault, nul_fault, line_fault, object_line_fault, max_line, max_object}
 use Rattle.item_terms.specs.Steps.{Item, Open, Step, Object, step, nothing, keyword_line, object_lines, keyword_item, with_line, open_item, item_unless, open_unless, step_unless, object_step, line_item, read_line, starts_dash, first_object_line, with_object}
 use Rattle.item_terms.specs.Items.{Contents, contents, contents_of, also, proceed, at_end}
 use Rattle.item_feeder.specs.Moving.{moved_object, moved_item, moved_if, moved_fault, moved_fault_if, moved_open, moved_next, moved_step, moved_contents}
@@ -45,9 +45,9 @@ nul_moved k place (Some i) = ap (λ (m : ℕ). Some (at m Nul)) (omega arith)
 line_fault_moved : (k limit place : ℕ) (line : Line) → line_fault (k + limit) (k + place) line ≡ moved_fault_if k (line_fault limit place line)
 line_fault_moved k limit place line =
     let long = too_long limit place (size line) in
-    let open_ = unterminated place line in
+    let open_ = unterminated_fault place line in
     let nul = nul_fault place (nul_in line.text) in
-    ap (λ (f : Option DocFault). or_else f (or_else (unterminated (k + place) line) (nul_fault (k + place) (nul_in line.text)))) (long_moved k limit place (size line))
+    ap (λ (f : Option DocFault). or_else f (or_else (unterminated_fault (k + place) line) (nul_fault (k + place) (nul_in line.text)))) (long_moved k limit place (size line))
     ∙ ap (λ (f : Option DocFault). or_else (moved_fault_if k long) (or_else f (nul_fault (k + place) (nul_in line.text)))) (ended_moved line.ended k place (length line.text))
     ∙ ap (λ (f : Option DocFault). or_else (moved_fault_if k long) (or_else (moved_fault_if k open_) f)) (nul_moved k place (nul_in line.text))
     ∙ ap (λ (f : Option DocFault). or_else (moved_fault_if k long) f) (either_moved k open_ nul)

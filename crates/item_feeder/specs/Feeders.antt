@@ -7,7 +7,7 @@ use Rattle.dirdoc_grammar.specs.declared.take.Take.{Take}
 use Rattle.dirdoc_grammar.specs.declared.take.Take.TheVariants.{Item, NotYet, End, Fault}
 use Rattle.dirdoc_grammar.specs.Cursors.{IsAt, WaitsIf}
 use Rattle.dirdoc_grammar.specs.Feeding.{Fed, Takes}
-use Rattle.dirdoc_grammar.specs.Seen.{seen}
+use Rattle.dirdoc_grammar.specs.Seen.{seen_item}
 use Rattle.item_feeder.specs.Moving.{moved_item, moved_fault}
 
 -- a fact about the fault that is given, if one is
@@ -19,7 +19,7 @@ IfFault End fact = Unit {0}
 
 -- the same is given, so many places later
 abbrev pub Moves : ℕ → Take → Take → Type 0
-Moves k (Item one) (Item other) = (seen other ≡ moved_item k (seen one)) × (other.after ≡ k + one.after)
+Moves k (Item one) (Item other) = (seen_item other ≡ moved_item k (seen_item one)) × (other.after ≡ k + one.after)
 Moves k (Item one) NotYet = ⊥
 Moves k (Item one) End = ⊥
 Moves k (Item one) (Fault other) = ⊥

@@ -6,7 +6,7 @@ ghost use Rattle.dirdoc_grammar.specs.Cursors.{IsAt};
 ghost use Rattle.dirdoc_grammar.specs.Feeding.{Fed, IfItem};
 ghost use Rattle.item_feeder.specs.Feeders.{behind_place, fed_with, IfFault, Keeps, KeepsWithin, Moves, Shows};
 ghost use Rattle.item_feeder.specs.Moving.{moved_item, moved_fault, moved_object};
-ghost use Rattle.dirdoc_grammar.specs.Seen.{seen, seen_object, LiesInOrder};
+ghost use Rattle.dirdoc_grammar.specs.Seen.{seen_item, seen_object, LiesInOrder};
 
 use dirdoc_grammar::{Cursor, DocFault, DocReason, Item, ObjectText, Take};
 use std::alloc::{AllocError, Global};
@@ -63,9 +63,9 @@ fn object_at(base: u64, object: ObjectText<'_>) -> ObjectText<'_>
 
 /// An item so many places later: that of a document whose first byte stands behind so many others.
 pub fn item_at(base: u64, item: Item<'_>) -> Item<'_>
-    requires order { LiesInOrder (seen item) }
+    requires order { LiesInOrder (seen_item item) }
     requires fits { base + item.after < 2 ^ 63 }
-    ensures { seen result ≡ moved_item base (seen item.entry) }
+    ensures { seen_item result ≡ moved_item base (seen_item item.entry) }
 {
     let object = match item.object {
         Some(object) => Some(object_at(base, object)),
@@ -83,7 +83,7 @@ pub fn item_at(base: u64, item: Item<'_>) -> Item<'_>
 
 /// What is given so many places later.
 fn take_at(base: u64, taken: Take<'_>) -> Take<'_>
-    requires order { IfItem taken (λ item. LiesInOrder (seen item) × (base + item.after < 2 ^ 63)) }
+    requires order { IfItem taken (λ item. LiesInOrder (seen_item item) × (base + item.after < 2 ^ 63)) }
     requires fault { IfFault taken (λ fault. base + fault.place < 2 ^ 63) }
     ensures { Moves base taken.entry result }
 {
@@ -117,7 +117,7 @@ fn last_within(mut cursor: Cursor, bytes: &[u8], beside: u8) -> Take<'_>
     requires full { length bytes.now ≡ cursor.limit }
     requires short { length bytes.now < 2 ^ 62 }
     ensures shows { (finished : Bool) → Shows (fed_with cursor bytes.now (Some beside) finished) result }
-    ensures order { IfItem result (λ item. LiesInOrder (seen item)) }
+    ensures order { IfItem result (λ item. LiesInOrder (seen_item item)) }
     ensures within { IfItem result (λ item. item.after ≤ cursor.limit) }
 {
     let limit = cursor.limit;
@@ -148,7 +148,7 @@ fn next_of(mut cursor: Cursor, bytes: &[u8], beside: Option<u8>, finished: bool)
     requires within { KeepsWithin cursor.limit bytes.now beside }
     requires short { length bytes.now < 2 ^ 62 }
     ensures shows { Shows (fed_with cursor bytes.now beside finished) result }
-    ensures order { IfItem result (λ item. LiesInOrder (seen item)) }
+    ensures order { IfItem result (λ item. LiesInOrder (seen_item item)) }
     ensures within { IfItem result (λ item. item.after ≤ cursor.limit) }
 {
     match beside {

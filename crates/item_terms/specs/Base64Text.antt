@@ -14,8 +14,8 @@ abbrev pub is_inside : ℕ → Bool
 is_inside b = not (b == line_feed)
 
 -- the lines without their NLs, in one text
-abbrev pub joined : List ℕ → List ℕ
-joined text = filter is_inside text
+abbrev pub joined_text : List ℕ → List ℕ
+joined_text text = filter is_inside text
 
 -- the text is the base64 of some bytes, with its padding and nothing left over
 unfoldable pub is_base64 : List ℕ → Bool
@@ -23,4 +23,4 @@ is_base64 text = is_ok (decode_of standard text)
 
 -- the lines have their sizes, and are base64 when they are joined
 abbrev pub is_body : List ℕ → Bool
-is_body text = lines_fit 0 text && is_base64 (joined text)
+is_body text = lines_fit 0 text && is_base64 (joined_text text)

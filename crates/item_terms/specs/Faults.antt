@@ -31,8 +31,8 @@ too_long limit place size =
     else Some (if nat_le (limit - place) max_line then at limit DocumentTooLong else at (place + max_line) LineTooLong)
 
 -- the text ends inside the line
-abbrev pub unterminated : ℕ → Line → Option DocFault
-unterminated place line = if line.ended then None else Some (at (place + length line.text) Unterminated)
+abbrev pub unterminated_fault : ℕ → Line → Option DocFault
+unterminated_fault place line = if line.ended then None else Some (at (place + length line.text) Unterminated)
 
 -- a NUL at this offset, if there is one, of a line from this place on
 abbrev pub nul_fault : ℕ → Option ℕ → Option DocFault
@@ -41,7 +41,7 @@ nul_fault place (Some i) = Some (at (place + i) Nul)
 
 -- the first fault of the line at this place, whatever stands in it
 abbrev pub line_fault : ℕ → ℕ → Line → Option DocFault
-line_fault limit place line = or_else (too_long limit place (size line)) (or_else (unterminated place line) (nul_fault place (nul_in line.text)))
+line_fault limit place line = or_else (too_long limit place (size line)) (or_else (unterminated_fault place line) (nul_fault place (nul_in line.text)))
 
 -- The same of a line inside the object whose BEGIN line stands at begin: the line may pass the object's limit, and before
 -- the document's and its own.

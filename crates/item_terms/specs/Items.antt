@@ -17,19 +17,19 @@ also None rest = rest
 also (Some item) rest = record { items = item ∷ rest.items; fault = rest.fault }
 
 -- no item, and this fault
-abbrev pub failed : DocFault → Contents
-failed fault = record { items = []; fault = Some fault }
+abbrev pub failed_contents : DocFault → Contents
+failed_contents fault = record { items = []; fault = Some fault }
 
 -- what follows a line that has no fault
 abbrev pub proceed : Result Open DocFault → (Open → Contents) → Contents
-proceed (Err fault) rest = failed fault
+proceed (Err fault) rest = failed_contents fault
 proceed (Ok open_) rest = rest open_
 
 -- what is left where the text ends at this place
 abbrev pub at_end : ℕ → Open → Contents
 at_end place nothing = record { items = []; fault = None }
 at_end place (keyword_line item) = record { items = item ∷ []; fault = None }
-at_end place (object_lines item begin object) = failed (at place Unterminated)
+at_end place (object_lines item begin object) = failed_contents (at place Unterminated)
 
 -- what the lines hold that begin at this place: the limit, then the place
 unfoldable pub contents_of : ℕ → ℕ → Open → List Line → Contents

@@ -13,10 +13,10 @@ TakesConnection gives before after (Some stands) taken = (taken ≡ Some stands)
 TakesConnection gives before after None taken = gives before taken after
 
 -- what is kept of a connection: all of it where the service answered, and nothing after a fault
-abbrev pub kept : {C : Type 0} → VerifyAnswer → Option C → Option C
-kept answer.Yes connection = connection
-kept answer.No connection = connection
-kept answer.Fault connection = None
+abbrev pub kept_connection : {C : Type 0} → VerifyAnswer → Option C → Option C
+kept_connection answer.Yes connection = connection
+kept_connection answer.No connection = connection
+kept_connection answer.Fault connection = None
 
 module _ {S K : Type 0} (left : S → Option (List ℕ)) (read_faults : S → ℕ) (written : K → Option (List ℕ)) (write_faults : K → ℕ) where
   -- one exchange over a connection: what was written and read, and which answer there is unless an end failed
@@ -39,7 +39,7 @@ module _ {S K : Type 0} (left : S → Option (List ℕ)) (read_faults : S → �
   -- a request that is not too long is asked, and then the connection is kept, or dropped after a fault
   abbrev pub Serves : {D : Type 0} → (D → Option (S × K) → D → Type 0) → D → D → Option (S × K) → Option (S × K) → List ℕ → VerifyAnswer → Type 0
   Serves gives before after stands now request result = length request ≤ line_limit
-      → (ended : Option (S × K)) × Asked gives before after stands ended request result × (now ≡ kept result ended)
+      → (ended : Option (S × K)) × Asked gives before after stands ended request result × (now ≡ kept_connection result ended)
 
 -- a request that is too long is a fault: nothing is dialed, and no connection stays
 abbrev pub RefusesLong : {D C : Type 0} → D → D → Option C → List ℕ → VerifyAnswer → Type 0

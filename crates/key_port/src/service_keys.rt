@@ -60,7 +60,7 @@ impl<D: Dial> ServiceKeys<D> {
     // Keeps the connection, or drops it after a fault, which is counted.
     fn settle(&mut self, answer: VerifyAnswer)
         ensures dial { self.new.dial ≡ self.old.dial }
-        ensures kept { self.new.connection ≡ services.kept answer self.old.connection }
+        ensures kept { self.new.connection ≡ services.kept_connection answer self.old.connection }
         ensures faults { self.new.faults ≡ faults_after self.old.faults answer }
         ensures cause { CountsAnswers self.old.faults self.new.faults answer }
     {

@@ -26,11 +26,11 @@ high_bits low number lt = by (nat_le low number) refl
     by true is = bit_at_mask_inside low 64 number (leb-true low number is) lt
     by false is = bit_at_mask_below low 64 number (leb-false low number is)
 
-both : (a b : Bool) → (min (if b then 1 else 0) (if a then 1 else 0) == 1) ≡ (a && b)
-both true true = refl
-both true false = refl
-both false true = refl
-both false false = refl
+lesser_bit_is_and : (a b : Bool) → (min (if b then 1 else 0) (if a then 1 else 0) == 1) ≡ (a && b)
+lesser_bit_is_and true true = refl
+lesser_bit_is_and true false = refl
+lesser_bit_is_and false true = refl
+lesser_bit_is_and false false = refl
 
 -- the bits of a range are those of its numbers
 pub range_bits : (low high number : ℕ) → low ≤ high → high < 64 → number < 64
@@ -44,7 +44,7 @@ range_bits low high number up small lt =
     ap₂ (λ (a b : ℕ). bit_at (bit_and a b) number == 1) ones above
     ∙ ap (λ (n : ℕ). n == 1) (bit_at_and (2 ^ (high + 1) - 1) (2 ^ 64 - 2 ^ low) number
     ∙ ap₂ (λ (a b : ℕ). min a b) (low_bits high number) (high_bits low number lt))
-    ∙ both (nat_le low number) (nat_le number high)
+    ∙ lesser_bit_is_and (nat_le low number) (nat_le number high)
 
 one_of : (a b : ℕ) → a < 2 → b < 2 → (max a b == 1) ≡ ((a == 1) || (b == 1))
 one_of zero zero p q = refl

@@ -8,8 +8,8 @@ use Rattle.std.proofs.lemmas.List.Elements.{All-nil, All-cons, All-head, All-tai
 use Rattle.dir_values.specs.Digests.{bytes_below}
 use Rattle.dir_values.proofs.Orders.{AllPairs-cons, AllPairs-head, AllPairs-tail, AllPairs-nil}
 use Rattle.list_values.specs.declared.named.Named.{Named}
-use Rattle.list_values.specs.Maps.{named, has_name, names_of, value_at, Ascend, with_value}
-use Rattle.list_values.specs.Masks.{numbers_of, listed, all_listed, listed_text}
+use Rattle.list_values.specs.Maps.{named_value, has_name, names_of, value_at, Ascend, with_value}
+use Rattle.list_values.specs.Masks.{numbers_of, listed_protocol, all_listed, listed_text}
 use Rattle.list_values.specs.Protocols.{numbers_at, protocol_text}
 use Rattle.list_values.proofs.NumberLists.{no_numbers}
 
@@ -20,11 +20,11 @@ listed-with_value [] name mask = refl
 listed-with_value (first ∷ rest) name mask = by (bytes_below first.name name) (bytes_eq first.name name) (listed-with_value rest name mask)
   where
     by : (b e : Bool) → all_listed (with_value rest name mask) ≡ with_value (all_listed rest) name (numbers_of mask)
-        → all_listed (if b then first ∷ with_value rest name mask else if e then named first.name mask ∷ rest else named name mask ∷ first ∷ rest)
-        ≡ (if b then listed first ∷ with_value (all_listed rest) name (numbers_of mask)
-        else if e then named first.name (numbers_of mask) ∷ all_listed rest
-        else named name (numbers_of mask) ∷ listed first ∷ all_listed rest)
-    by true e later = ap (λ (l : List (Named (List ℕ))). listed first ∷ l) later
+        → all_listed (if b then first ∷ with_value rest name mask else if e then named_value first.name mask ∷ rest else named_value name mask ∷ first ∷ rest)
+        ≡ (if b then listed_protocol first ∷ with_value (all_listed rest) name (numbers_of mask)
+        else if e then named_value first.name (numbers_of mask) ∷ all_listed rest
+        else named_value name (numbers_of mask) ∷ listed_protocol first ∷ all_listed rest)
+    by true e later = ap (λ (l : List (Named (List ℕ))). listed_protocol first ∷ l) later
     by false true later = refl
     by false false later = refl
 
@@ -34,7 +34,7 @@ value_at-listed [] name = refl
 value_at-listed (first ∷ rest) name = by (bytes_eq first.name name) (value_at-listed rest name)
   where
     by : (b : Bool) → value_at (all_listed rest) name ≡ option_map numbers_of (value_at rest name)
-        → option_map (λ (e : Named (List ℕ)). e.value) (if b then Some (listed first) else find (has_name name) (all_listed rest))
+        → option_map (λ (e : Named (List ℕ)). e.value) (if b then Some (listed_protocol first) else find (has_name name) (all_listed rest))
         ≡ option_map numbers_of (option_map (λ (e : Named ℕ). e.value) (if b then Some first else find (has_name name) rest))
     by true later = refl
     by false later = later
@@ -54,17 +54,17 @@ Before a b = bytes_below a.name b.name ≡ true
 abbrev ListedBefore : Named (List ℕ) → Named (List ℕ) → Type 0
 ListedBefore a b = bytes_below a.name b.name ≡ true
 
-all_before : (first : Named ℕ) (rest : List (Named ℕ)) → All (Before first) rest → All (ListedBefore (listed first)) (all_listed rest)
-all_before first [] all = All-nil (ListedBefore (listed first))
+all_before : (first : Named ℕ) (rest : List (Named ℕ)) → All (Before first) rest → All (ListedBefore (listed_protocol first)) (all_listed rest)
+all_before first [] all = All-nil (ListedBefore (listed_protocol first))
 all_before first (next ∷ rest) all =
-    All-cons (ListedBefore (listed first)) (listed next) (all_listed rest) (All-head (Before first) next rest all)
+    All-cons (ListedBefore (listed_protocol first)) (listed_protocol next) (all_listed rest) (All-head (Before first) next rest all)
     (all_before first rest (All-tail (Before first) next rest all))
 
 -- they ascend still
 pub listed_ascend : (items : List (Named ℕ)) → Ascend items → Ascend (all_listed items)
 listed_ascend [] up = AllPairs-nil ListedBefore
 listed_ascend (first ∷ rest) up =
-    AllPairs-cons ListedBefore (listed first) (all_listed rest) (all_before first rest (AllPairs-head Before first rest up))
+    AllPairs-cons ListedBefore (listed_protocol first) (all_listed rest) (all_before first rest (AllPairs-head Before first rest up))
     (listed_ascend rest (AllPairs-tail Before first rest up))
 
 -- their texts

@@ -8,7 +8,7 @@ use Rattle.dir_values.specs.Digests.{bytes_below}
 use Rattle.dir_values.proofs.Orders.{apart, same_text}
 use Rattle.list_values.specs.declared.named.Named.{Named}
 use Rattle.list_values.specs.Laws.{ValuesAreFound}
-use Rattle.list_values.specs.Maps.{named, has_name, value_at, with_value}
+use Rattle.list_values.specs.Maps.{named_value, has_name, value_at, with_value}
 
 module _ {V : Type 0} where
   -- the value of the first entry, or what is found behind it
@@ -39,14 +39,14 @@ module _ {V : Type 0} where
       by false false is its = refl
 
   pub values_found : ValuesAreFound V
-  values_found [] name value other = at_first (named name value) [] other
+  values_found [] name value other = at_first (named_value name value) [] other
   values_found (first ∷ rest) name value other =
       by (bytes_below first.name name) (bytes_eq first.name name) refl refl (values_found rest name value other)
     where
       by : (b e : Bool) → bytes_below first.name name ≡ b → bytes_eq first.name name ≡ e
           → value_at (with_value rest name value) other ≡ (if bytes_eq name other then Some value else value_at rest other)
-          → value_at (if b then first ∷ with_value rest name value else if e then named first.name value ∷ rest
-          else named name value ∷ first ∷ rest) other
+          → value_at (if b then first ∷ with_value rest name value else if e then named_value first.name value ∷ rest
+          else named_value name value ∷ first ∷ rest) other
           ≡ (if bytes_eq name other then Some value else value_at (first ∷ rest) other)
       by true e below same later =
           at_first first (with_value rest name value) other
@@ -62,9 +62,9 @@ module _ {V : Type 0} where
             | true ↦ refl
             | false ↦ refl
           ] in
-          at_first (named first.name value) rest other
+          at_first (named_value first.name value) rest other
           ∙ behind (bytes_eq first.name other)
           ∙ ap (λ (n : List ℕ). if bytes_eq n other then Some value
           else (if bytes_eq first.name other then Some first.value else value_at rest other)) one
           ∙ ap (λ (o : Option V). if bytes_eq name other then Some value else o) (sym (at_first first rest other))
-      by false false below same later = at_first (named name value) (first ∷ rest) other
+      by false false below same later = at_first (named_value name value) (first ∷ rest) other

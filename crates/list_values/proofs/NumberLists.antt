@@ -4,7 +4,7 @@ use Rattle.std.specs.Prelude.{◌==◌, filter, ◌||◌, bit_or}
 use Rattle.std.specs.List.{range_with_len}
 use Rattle.std.proofs.lemmas.Bool.{eq-eqb, ne_eqb, cases_order}
 use Rattle.list_values.specs.Masks.{is_set, numbers_of}
-use Rattle.list_values.specs.NumberSets.{numbers_from, numbers_that, has_number, united}
+use Rattle.list_values.specs.NumberSets.{numbers_from, numbers_that, has_number, united_numbers}
 use Rattle.list_values.proofs.Bits.{set_either, set_none}
 
 -- the numbers from one on begin with it
@@ -106,7 +106,7 @@ unfolding numbers_from
 has_no_more p n le = not_above p 0 64 n (omega (arith, le))
 
 -- the numbers of both masks
-pub united_masks : (a b : ℕ) → numbers_of (bit_or a b) ≡ united (numbers_of a) (numbers_of b)
+pub united_masks : (a b : ℕ) → numbers_of (bit_or a b) ≡ united_numbers (numbers_of a) (numbers_of b)
 united_masks a b = same_numbers (is_set (bit_or a b)) (λ n. has_number (numbers_of a) n || has_number (numbers_of b) n)
     (λ n lt. set_either a b n
     ∙ ap (λ (t : Bool). t || is_set b n) (sym (has_those (is_set a) n lt))

@@ -7,7 +7,7 @@ use Rattle.std.specs.Option.{option_map}
 use Rattle.dir_values.specs.Digests.{bytes_below}
 use Rattle.list_values.specs.declared.named.Named.{Named}
 use Rattle.list_values.specs.declared.number_range.NumberRange.{NumberRange}
-use Rattle.list_values.specs.Maps.{named, has_name}
+use Rattle.list_values.specs.Maps.{named_value, has_name}
 use Rattle.list_values.specs.NumberSets.{numbers_that, in_ranges}
 use Rattle.list_values.specs.Params.{number_in}
 use Rattle.list_values.specs.Parts.{parts_of}
@@ -16,7 +16,7 @@ use Rattle.list_values.specs.Protocols.{all_of, range_of, ranges_in}
 module _ {V : Type 0} where
   -- the values by the names that are borrowed
   abbrev pub entries_in : List (Bor (List ℕ) × V) → List (Named V)
-  entries_in entries = map (λ entry. named entry.0.now entry.1) entries
+  entries_in entries = map (λ entry. named_value entry.0.now entry.1) entries
 
   -- how many values stand before the first whose name does not come before a name
   abbrev pub place_of : List (Named V) → List ℕ → ℕ

@@ -8,8 +8,8 @@ use Rattle.list_values.specs.declared.named.Named.{Named}
 
 module _ {V : Type 0} where
   -- a value with a name
-  abbrev pub named : List ℕ → V → Named V
-  named name value = record { name = name; value = value }
+  abbrev pub named_value : List ℕ → V → Named V
+  named_value name value = record { name = name; value = value }
 
   -- whether an entry has a name
   abbrev pub has_name : List ℕ → Named V → Bool
@@ -29,8 +29,8 @@ module _ {V : Type 0} where
 
   -- ascending values with one for a name, in its place; it takes the place of the one before
   abbrev pub with_value : List (Named V) → List ℕ → V → List (Named V)
-  with_value [] name value = named name value ∷ []
+  with_value [] name value = named_value name value ∷ []
   with_value (first ∷ rest) name value =
       if bytes_below first.name name then first ∷ with_value rest name value
-      else if bytes_eq first.name name then named first.name value ∷ rest
-      else named name value ∷ first ∷ rest
+      else if bytes_eq first.name name then named_value first.name value ∷ rest
+      else named_value name value ∷ first ∷ rest

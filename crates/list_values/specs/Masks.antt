@@ -2,7 +2,7 @@
 use Rattle.std.specs.Prelude.{ℕ, ◌==◌, Bool, List, map}
 use Rattle.std.specs.Int.{bit_at}
 use Rattle.list_values.specs.declared.named.Named.{Named}
-use Rattle.list_values.specs.Maps.{named}
+use Rattle.list_values.specs.Maps.{named_value}
 use Rattle.list_values.specs.NumberSets.{numbers_that}
 use Rattle.list_values.specs.Protocols.{protocol_text}
 
@@ -15,13 +15,13 @@ abbrev pub numbers_of : ℕ → List ℕ
 numbers_of mask = numbers_that (is_set mask)
 
 -- a protocol whose numbers are bits
-abbrev pub listed : Named ℕ → Named (List ℕ)
-listed protocol = named protocol.name (numbers_of protocol.value)
+abbrev pub listed_protocol : Named ℕ → Named (List ℕ)
+listed_protocol protocol = named_value protocol.name (numbers_of protocol.value)
 
 -- protocols whose numbers are bits
 abbrev pub all_listed : List (Named ℕ) → List (Named (List ℕ))
-all_listed protocols = map listed protocols
+all_listed protocols = map listed_protocol protocols
 
 -- the text of one
 abbrev pub listed_text : Named ℕ → List ℕ
-listed_text protocol = protocol_text (listed protocol)
+listed_text protocol = protocol_text (listed_protocol protocol)

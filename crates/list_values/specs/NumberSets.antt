@@ -18,8 +18,8 @@ abbrev pub has_number : List ℕ → ℕ → Bool
 has_number numbers number = list_any (λ other. other == number) numbers
 
 -- the numbers of both sets together
-abbrev pub united : List ℕ → List ℕ → List ℕ
-united one other = numbers_that (λ number. has_number one number || has_number other number)
+abbrev pub united_numbers : List ℕ → List ℕ → List ℕ
+united_numbers one other = numbers_that (λ number. has_number one number || has_number other number)
 
 -- ---- ranges
 

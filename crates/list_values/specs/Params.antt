@@ -4,7 +4,7 @@ use Rattle.std.specs.Fmt.{signed_decimal}
 use Rattle.std.specs.List.{fold, join_with_byte}
 use Rattle.item_terms.specs.Bytes.{space}
 use Rattle.item_terms.specs.Words.{words_of}
-use Rattle.dir_bytes.specs.Fields.{signed}
+use Rattle.dir_bytes.specs.Fields.{signed_number}
 use Rattle.dir_values.specs.Arguments.{Argument, arguments_at}
 use Rattle.dir_values.specs.FlagSets.{unless_wrong, wrong_flag}
 use Rattle.dir_values.specs.declared.refusal.ValueRefusal.{ValueRefusal}
@@ -14,7 +14,7 @@ use Rattle.list_values.specs.Maps.{with_value}
 
 -- the number of the param that a text spells
 abbrev pub number_in : List ℕ → Option ℤ
-number_in text = signed (right_side text)
+number_in text = signed_number (right_side text)
 
 -- the name of the param that a text spells, and no byte where it has no number
 abbrev pub name_in : List ℕ → List ℕ

@@ -15,7 +15,7 @@ use Rattle.list_values.specs.declared.named.Named.{Named}
 use Rattle.list_values.specs.declared.number_range.NumberRange.{NumberRange}
 use Rattle.list_values.specs.Equations.{equals, left_side, right_side}
 use Rattle.list_values.specs.Maps.{value_at, with_value}
-use Rattle.list_values.specs.NumberSets.{has_number, in_ranges, numbers_that, united, numbers_text}
+use Rattle.list_values.specs.NumberSets.{has_number, in_ranges, numbers_that, united_numbers, numbers_text}
 use Rattle.list_values.specs.Parts.{parts_of}
 
 -- ---- what a text spells
@@ -77,7 +77,7 @@ has_version protocols name number = has_number (numbers_at protocols name) numbe
 -- protocols with the numbers of a word: those of one name are united
 abbrev pub with_protocol : List (Named (List ℕ)) → List ℕ → List (Named (List ℕ))
 with_protocol protocols word =
-    with_value protocols (left_side word) (united (numbers_at protocols (left_side word)) (numbers_in word))
+    with_value protocols (left_side word) (united_numbers (numbers_at protocols (left_side word)) (numbers_in word))
 
 -- the protocols of some words, by name
 abbrev pub as_protocols : List (List ℕ) → List (Named (List ℕ))

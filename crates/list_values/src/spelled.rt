@@ -1,7 +1,7 @@
 // Values that have one text each, and lists of them.
 ghost use Rattle.std.specs.Prelude.{◌≡◌, ◌+◌, ◌≤◌, ◌++◌, ℕ, List, IsOk, OnOk, OnErr, length, map, vec_len, vec_capacity};
 ghost use Rattle.std.specs.List.{join_with_byte};
-ghost use Rattle.text_page.specs.Pages.{counted, with_text};
+ghost use Rattle.text_page.specs.Pages.{counted_length, with_text};
 ghost use Rattle.list_values.specs.Lending.{behind_each};
 
 use dir_bytes::{Memory, Text};
@@ -51,7 +51,7 @@ fn put_behind<T: Spelled>(page: &mut Page, values: &[T], separator: u8)
 /// How many bytes values have with a byte between each two. None where a machine has no such number.
 #[tactic(auto, using(text_page::proofs::Pages::whole))]
 fn count_joined<T: Spelled>(values: &[T], separator: u8) -> Option<usize>
-    ensures { result ≡ counted (join_with_byte separator (map T.text values.now)) }
+    ensures { result ≡ counted_length (join_with_byte separator (map T.text values.now)) }
 {
     let mut page = Page::counting();
     put_joined(&mut page, values, separator);

@@ -6,7 +6,7 @@ use Rattle.std.specs.Prelude.{map, option_map}
 use Rattle.item_terms.specs.declared.fault.DocFault.{DocFault}
 use Rattle.item_terms.specs.Lines.{Line, size}
 use Rattle.item_terms.specs.Steps.{Item, Open, Step, keyword_line, nothing, object_lines, step}
-use Rattle.grammar_laws.specs.Moved.{Reads, moved, moved_open, sizes, with_whole}
+use Rattle.grammar_laws.specs.Moved.{Reads, moved_item, moved_open, sizes, with_whole}
 use Rattle.grammar_laws.proofs.MovedLines.{step_moved}
 use Rattle.grammar_laws.proofs.SoundLines.{step_sound}
 use Rattle.maker_laws.proofs.SoundBack.{line_fits, IsOpened, opened, step_opened}
@@ -18,7 +18,7 @@ record IsBack (n : ℕ) (made : Step) (whole : Option Item) (next : Open) : Type
   was_whole : Option Item
   was_next : Open
   made_is : made ≡ record { whole = was_whole; next = Ok was_next }
-  whole_is : option_map (moved n) was_whole ≡ whole
+  whole_is : option_map (moved_item n) was_whole ≡ whole
   next_is : moved_open n was_next ≡ next
 
 abbrev made_step : Option Item → Open → Step
@@ -45,9 +45,9 @@ step_back limit limit' place n open_ line whole next is fits room =
     by (Ok was) e open_is =
         let made_is : made ≡ made_step made.whole was = λ i. record { whole = made.whole; next = e i } in
         let there : step limit (place + n) (moved_open n open_) line
-        ≡ made_step (option_map (moved n) made.whole) (moved_open n was) =
+        ≡ made_step (option_map (moved_item n) made.whole) (moved_open n was) =
         step_moved limit' limit place n open_ line made.whole was made_is room in
-        let same : made_step (option_map (moved n) made.whole) (moved_open n was) ≡ made_step whole next =
+        let same : made_step (option_map (moved_item n) made.whole) (moved_open n was) ≡ made_step whole next =
         sym there ∙ is in
         record {
           was_whole = made.whole;
@@ -63,10 +63,10 @@ step_back limit limit' place n open_ line whole next is fits room =
 pub record AreBack (limit place n : ℕ) (open_ : Open) (ls : List Line) (items : List Item) : Type 0 where
   pub was : List Item
   pub reads : Reads limit place open_ ls was nothing
-  pub are : map (moved n) was ≡ items
+  pub are : map (moved_item n) was ≡ items
 
 whole_map : (n : ℕ) (whole : Option Item) (others : List Item)
-    → map (moved n) (with_whole whole others) ≡ with_whole (option_map (moved n) whole) (map (moved n) others)
+    → map (moved_item n) (with_whole whole others) ≡ with_whole (option_map (moved_item n) whole) (map (moved_item n) others)
 whole_map n None others = refl
 whole_map n (Some item) others = refl
 
@@ -96,7 +96,7 @@ reads_back limit limit' place n open_ (line ∷ rest) items (whole, next, others
       was = with_whole back.was_whole later.was;
       reads = (back.was_whole, back.was_next, later.was, back.made_is, refl, later.reads);
       are = whole_map n back.was_whole later.was
-          ∙ ap (λ (o : Option Item). with_whole o (map (moved n) later.was)) back.whole_is
+          ∙ ap (λ (o : Option Item). with_whole o (map (moved_item n) later.was)) back.whole_is
           ∙ ap (λ (l : List Item). with_whole whole l) later.are
           ∙ sym come;
     }

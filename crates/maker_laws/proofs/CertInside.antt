@@ -15,7 +15,7 @@ use Rattle.document_laws.specs.Counts.{IsCount, RowsStand, times}
 use Rattle.document_laws.specs.Items.{IsItemOf}
 use Rattle.document_laws.proofs.Times.{once, times-first}
 use Rattle.document_laws.specs.Parts.{AreBetween, IsInside, IsPart}
-use Rattle.grammar_laws.specs.Moved.{moved}
+use Rattle.grammar_laws.specs.Moved.{moved_item}
 use Rattle.certificate_laws.specs.Lifted.{moved_taken}
 use Rattle.certificate_laws.proofs.Holding.{CertTaken, all_moved, row_there}
 use Rattle.station_input.specs.Tables.{station_tables}
@@ -35,7 +35,7 @@ record WereBetween (n : ℕ) (items : List Item) (taken : List StationTaken) : T
   none : NoStrangers items
 
 between_back : (n : ℕ) (items : List Item) (taken : List StationTaken) (before after : Across)
-    → AreBetween station_tables its.Certificate before (map (moved n) items) taken after → WereBetween n items taken
+    → AreBetween station_tables its.Certificate before (map (moved_item n) items) taken after → WereBetween n items taken
 between_back n [] taken before after is = record { alone = []; are = sym is.0; between = (refl, refl); none = tt }
 between_back n (item ∷ items) taken before after (inl is) =
     let passed = passed_both n item is.0 in
@@ -93,8 +93,8 @@ record IsFirst (n : ℕ) (items : List Item) (first : Item) (rest : List Item) :
   one : Item
   others : List Item
   parts : items ≡ one ∷ others
-  one_is : moved n one ≡ first
-  others_are : map (moved n) others ≡ rest
+  one_is : moved_item n one ≡ first
+  others_are : map (moved_item n) others ≡ rest
 
 abbrev first_or : Item → List Item → Item
 first_or other [] = other
@@ -104,7 +104,7 @@ abbrev items_behind : List Item → List Item
 items_behind [] = []
 items_behind (item ∷ items) = items
 
-first_of_moved : (n : ℕ) (items : List Item) (first : Item) (rest : List Item) → map (moved n) items ≡ first ∷ rest
+first_of_moved : (n : ℕ) (items : List Item) (first : Item) (rest : List Item) → map (moved_item n) items ≡ first ∷ rest
     → IsFirst n items first rest
 first_of_moved n [] first rest is = absurd (cc (is))
 first_of_moved n (one ∷ others) first rest is = record {
@@ -119,10 +119,10 @@ record AreTwo (n : ℕ) (items front back : List Item) : Type 0 where
   first : List Item
   second : List Item
   parts : items ≡ first ++ second
-  first_are : map (moved n) first ≡ front
-  second_are : map (moved n) second ≡ back
+  first_are : map (moved_item n) first ≡ front
+  second_are : map (moved_item n) second ≡ back
 
-two_of_moved : (n : ℕ) (items front back : List Item) → map (moved n) items ≡ front ++ back → AreTwo n items front back
+two_of_moved : (n : ℕ) (items front back : List Item) → map (moved_item n) items ≡ front ++ back → AreTwo n items front back
 two_of_moved n items [] back is =
     record { first = []; second = items; parts = refl; first_are = refl; second_are = is }
 two_of_moved n items (item ∷ front) back is =
@@ -132,7 +132,7 @@ two_of_moved n items (item ∷ front) back is =
       first = one.one ∷ later.first;
       second = later.second;
       parts = one.parts ∙ ap (λ (l : List Item). one.one ∷ l) later.parts;
-      first_are = ap (λ (i : Item). i ∷ map (moved n) later.first) one.one_is
+      first_are = ap (λ (i : Item). i ∷ map (moved_item n) later.first) one.one_is
           ∙ ap (λ (l : List Item). item ∷ l) later.first_are;
       second_are = later.second_are;
     }
@@ -162,7 +162,7 @@ opens_inside keyword name e = by (same the.DirKeyCertificateVersion keyword) ref
     by false is found = absurd (cc (found))
 
 pub inside_back : (n : ℕ) (items : List Item) (one : StationTaken) (taken : List StationTaken) (before after : Across)
-    → IsInside station_tables before its.Station (map (moved n) items) one (group its.Certificate taken) after
+    → IsInside station_tables before its.Station (map (moved_item n) items) one (group its.Certificate taken) after
     → WasInside n items (group its.Certificate taken)
 inside_back n items one taken before after is =
     let opens = (opens_inside one.keyword its.Certificate is.opens).1 in
@@ -233,7 +233,7 @@ inside_back n items one taken before after is =
       );
     }
   where
-    no_more : (n : ℕ) (items : List Item) → map (moved n) items ≡ [] → items ≡ []
+    no_more : (n : ℕ) (items : List Item) → map (moved_item n) items ≡ [] → items ≡ []
     no_more n [] e = refl
     no_more n (item ∷ items) e = absurd (cc (e))
 

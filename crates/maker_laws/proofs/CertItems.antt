@@ -27,7 +27,7 @@ use Rattle.document_laws.specs.Passing.{IsPassedIn}
 use Rattle.document_laws.proofs.Openers.{row_of-one, row_of-same}
 use Rattle.frame_laws.proofs.KnownWords.{same-through}
 use Rattle.std.proofs.lemmas.Bool.{false≢true}
-use Rattle.grammar_laws.specs.Moved.{moved}
+use Rattle.grammar_laws.specs.Moved.{moved_item}
 use Rattle.certificate_laws.specs.Given.{IsNoStranger}
 use Rattle.certificate_laws.specs.Lifted.{moved_taken}
 use Rattle.certificate_laws.proofs.Holding.{CertTaken, Said, alone_rows, row_inside, row_there}
@@ -103,14 +103,14 @@ pub record WasTaken (n : ℕ) (item : Item) (one : StationTaken) : Type 0 where
 -- by a row that is one of a certificate's
 taken_back : (n : ℕ) (item : Item) (one : StationTaken) (keyword : Keyword) (alone : Row CertKind)
     (v : Value StationValue) → word_of item.keyword ≡ Some keyword → row_of alone_rows keyword ≡ Some alone
-    → cert_value {V = StationValue} alone.kind (moved n item) ≡ Ok v → one ≡ taken_of alone.keyword (moved n item) v
+    → cert_value {V = StationValue} alone.kind (moved_item n item) ≡ Ok v → one ≡ taken_of alone.keyword (moved_item n item) v
     → WasTaken n item one
 taken_back n item one keyword alone v known there says stands =
     let was = said_back n alone.kind item v says in
     record {
       alone = taken_of alone.keyword item was.said;
       is = sym (taken_of_moved n alone.keyword item was.said)
-          ∙ ap (λ (w : Value StationValue). taken_of alone.keyword (moved n item) w) was.lifts
+          ∙ ap (λ (w : Value StationValue). taken_of alone.keyword (moved_item n item) w) was.lifts
           ∙ sym stands;
       of = record {
         keyword = keyword;
@@ -125,15 +125,15 @@ taken_back n item one keyword alone v known there says stands =
 
 -- an item of the certificate's section
 pub of_back : (n : ℕ) (item : Item) (one : StationTaken) (remembered : Across)
-    → IsItemOf station_tables remembered its.Certificate (moved n item) one → WasTaken n item one
+    → IsItemOf station_tables remembered its.Certificate (moved_item n item) one → WasTaken n item one
 of_back n item one remembered of =
     let found = row_back of.keyword of.row of.has_row in
-    let says : station_tables.value_of remembered (in_station found.alone).kind (moved n item) ≡ Ok of.value =
-    ap (λ (r : Row StationKind). station_tables.value_of remembered r.kind (moved n item)) found.is ∙ of.says in
-    let read : cert_value {V = StationValue} found.alone.kind (moved n item) ≡ Ok of.value =
-    placed (cert_value found.alone.kind (moved n item)) of.value says in
+    let says : station_tables.value_of remembered (in_station found.alone).kind (moved_item n item) ≡ Ok of.value =
+    ap (λ (r : Row StationKind). station_tables.value_of remembered r.kind (moved_item n item)) found.is ∙ of.says in
+    let read : cert_value {V = StationValue} found.alone.kind (moved_item n item) ≡ Ok of.value =
+    placed (cert_value found.alone.kind (moved_item n item)) of.value says in
     taken_back n item one of.keyword found.alone of.value of.known found.there read
-    (of.stands ∙ ap (λ (r : Row StationKind). taken_of r.keyword (moved n item) of.value) (sym found.is))
+    (of.stands ∙ ap (λ (r : Row StationKind). taken_of r.keyword (moved_item n item) of.value) (sym found.is))
 
 abbrev station_rows : List (Row StationKind)
 station_rows = station_tables.rows its.Station
@@ -148,7 +148,7 @@ opens_alone = refl
 
 -- the first item, which is one of the station's section
 pub first_back : (n : ℕ) (item : Item) (one : StationTaken) (remembered : Across)
-    → IsItemOf station_tables remembered its.Station (moved n item) one
+    → IsItemOf station_tables remembered its.Station (moved_item n item) one
     → same the.DirKeyCertificateVersion one.keyword ≡ true → WasTaken n item one
 first_back n item one remembered of opens =
     let k = of.keyword in
@@ -162,12 +162,12 @@ first_back n item one remembered of opens =
     let row_is : in_station opening_row ≡ of.row = ap (row_or of.row) both in
     let there : row_of alone_rows k ≡ Some opening_row =
     sym (row_of-one alone_rows the.DirKeyCertificateVersion k opens_k) ∙ opens_alone in
-    let says : station_tables.value_of remembered (in_station opening_row).kind (moved n item) ≡ Ok of.value =
-    ap (λ (r : Row StationKind). station_tables.value_of remembered r.kind (moved n item)) row_is ∙ of.says in
-    let read : cert_value {V = StationValue} cert.Version (moved n item) ≡ Ok of.value =
-    placed (cert_value cert.Version (moved n item)) of.value says in
+    let says : station_tables.value_of remembered (in_station opening_row).kind (moved_item n item) ≡ Ok of.value =
+    ap (λ (r : Row StationKind). station_tables.value_of remembered r.kind (moved_item n item)) row_is ∙ of.says in
+    let read : cert_value {V = StationValue} cert.Version (moved_item n item) ≡ Ok of.value =
+    placed (cert_value cert.Version (moved_item n item)) of.value says in
     taken_back n item one k opening_row of.value of.known there read
-    (of.stands ∙ ap (λ (r : Row StationKind). taken_of r.keyword (moved n item) of.value) (sym row_is))
+    (of.stands ∙ ap (λ (r : Row StationKind). taken_of r.keyword (moved_item n item) of.value) (sym row_is))
 
 -- ---- strangers
 
@@ -222,7 +222,7 @@ known_to_neither keyword is =
 abbrev Unknown : Option Keyword → Type 0
 Unknown word = IfSome word (λ k. is_strange station_tables its.Certificate k ≡ false)
 
-pub passed_both : (n : ℕ) (item : Item) → IsPassedIn station_tables its.Certificate (moved n item) → IsPassedBoth item
+pub passed_both : (n : ℕ) (item : Item) → IsPassedIn station_tables its.Certificate (moved_item n item) → IsPassedBoth item
 passed_both n item (inl unknown) = by (word_of item.keyword) refl unknown
   where
     unknown_alone : (word : Option Keyword) → Unknown word → IfSome word (λ k. is_strange cert_tables tt k ≡ false)

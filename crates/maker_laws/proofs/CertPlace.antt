@@ -17,7 +17,7 @@ use Rattle.authority_certs.specs.Reading.{max_cert}
 use Rattle.authority_certs.specs.Tables.{cert_tables}
 use Rattle.frame_laws.proofs.KnownWords.{same-sym}
 use Rattle.document_laws.specs.Parts.{EndsWithin, IsInside, IsPart}
-use Rattle.grammar_laws.specs.Moved.{Reads, moved, sizes}
+use Rattle.grammar_laws.specs.Moved.{Reads, moved_item, sizes}
 use Rattle.grammar_laws.proofs.LastLines.{cut_lines, sizes_both}
 use Rattle.grammar_laws.proofs.LinesTogether.{AllEnded}
 use Rattle.grammar_laws.proofs.FirstPlace.{first_at}
@@ -98,9 +98,9 @@ cut_inside input one before inside back taken its_opener remembered after come i
     (inside_is ∙ sym back_.are) is) in
     let contents : items_of max_cert text.own ≡ record { items = items; fault = None } =
     ap (λ (l : List Line). contents_of max_cert 0 nothing l) text.own_lines ∙ hold 65536 0 middle items back_.reads in
-    let last_moved : moved n was.last ≡ last =
+    let last_moved : moved_item n was.last ≡ last =
     last_same n was.before was.last (is.first_item ∷ is.items_between) last
-    (ap (map (moved n)) (sym was.ends) ∙ back_.are) in
+    (ap (map (moved_item n)) (sym was.ends) ∙ back_.are) in
     let size : length text.own ≡ was.last.after =
     let there : was.last.after + n ≡ last.after = ap (λ (i : Item). i.after) last_moved in
     omega (arith, there, cut.ends, both, text.own_size) in
@@ -142,7 +142,7 @@ cut_inside input one before inside back taken its_opener remembered after come i
         behind (item ∷ items) all = behind items all.1
 
     last_same : (n : ℕ) (a : List Item) (x : Item) (b : List Item) (y : Item)
-        → map (moved n) (a ++ x ∷ []) ≡ b ++ y ∷ [] → moved n x ≡ y
+        → map (moved_item n) (a ++ x ∷ []) ≡ b ++ y ∷ [] → moved_item n x ≡ y
     last_same n [] x [] y e = ap (first_or y) e
     last_same n [] x (z ∷ []) y e = absurd (cc (ap items_behind e))
     last_same n [] x (z ∷ w ∷ b) y e = absurd (cc (ap items_behind e))

@@ -43,7 +43,7 @@ use Rattle.vote_maker.specs.Entries.{micros_of, opinion_of, version_of_platform}
 use Rattle.vote_maker.specs.Entries.{version_of_words}
 use Rattle.vote_maker.specs.Listings.{JudgedRelay, entry_of_judged, judged_relays}
 use Rattle.vote_maker.specs.Relays.{is_of, known_of, known_relays, most_kilobytes}
-use Rattle.vote_maker.specs.Relays.{unmeasured}
+use Rattle.vote_maker.specs.Relays.{unmeasured_relay}
 use Rattle.range_laws.proofs.EntryTexts.{HasRests}
 use Rattle.range_laws.proofs.ReadNames.{IsName, each_of_set}
 use Rattle.maker_laws.proofs.MicroLines.{IsFine, relay_micros}
@@ -60,7 +60,7 @@ record IsKnownInRange (known : RelayFacts) : Type 0 where
   measured : IfSome known.measured.kb Is32
 
 abbrev MeasuredIn : Option MeasuredRelay → Type 0
-MeasuredIn found = IfSome (unwrap_or (option_map (λ (relay : MeasuredRelay). relay.measured) found) unmeasured).kb Is32
+MeasuredIn found = IfSome (unwrap_or (option_map (λ (relay : MeasuredRelay). relay.measured) found) unmeasured_relay).kb Is32
 
 measured_ranged : (relays : List MeasuredRelay) (identity : Fingerprint) → All IsMeasuredInRange relays
     → MeasuredIn (find (is_of identity) relays)

@@ -9,7 +9,7 @@ use Rattle.std.proofs.lemmas.List.{length-drop, length-take}
 use Rattle.std.proofs.lemmas.List.Sums.{prefix_len-le-length}
 use Rattle.item_terms.specs.declared.fault.DocFault.{DocFault}
 use Rattle.item_terms.specs.declared.fault.DocReason.TheVariants.{DocumentTooLong, LineTooLong, Unterminated}
-use Rattle.item_terms.specs.Faults.{at, line_fault, max_line, nul_fault, or_else, too_long, unterminated}
+use Rattle.item_terms.specs.Faults.{at, line_fault, max_line, nul_fault, or_else, too_long, unterminated_fault}
 use Rattle.item_terms.specs.Items.{Contents, Item, items_from}
 use Rattle.item_terms.specs.Lines.{Line, lines, size}
 use Rattle.item_terms.specs.Words.{after_keyword, arguments, ends_or_blank, first_is, is_blank, is_keyword_line}
@@ -76,9 +76,9 @@ passed false fault e = absurd (cc e)
 
 line_size : (limit place : ℕ) (line : Line) → line_fault limit place line ≡ None → length line.text + 1 ≤ max_line
 line_size limit place line sound =
-    let rest = or_else (unterminated place line) (nul_fault place (nul_in line.text)) in
+    let rest = or_else (unterminated_fault place line) (nul_fault place (nul_in line.text)) in
     let first = both_none (too_long limit place (size line)) rest sound in
-    let second = both_none (unterminated place line) (nul_fault place (nul_in line.text)) first.1 in
+    let second = both_none (unterminated_fault place line) (nul_fault place (nul_in line.text)) first.1 in
     let fits =
     leb-true (size line) (min (limit - place) max_line)
     (passed (nat_le (size line) (min (limit - place) max_line))

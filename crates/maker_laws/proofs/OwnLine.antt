@@ -81,9 +81,9 @@ line_fits nickname host source fits = leb-true (length (source_line nickname hos
 abbrev IsNamed : List ℕ → List ℕ → List ℕ → DirSource → Type 0
 IsNamed bytes name host source = (part bytes source.nickname ≡ name) × (part bytes source.address ≡ host)
 
-there : (text : List ℕ) → is_nickname text ≡ true → is_there text ≡ true
-there [] is = absurd (false≢true is)
-there (b ∷ text) is = refl
+nickname_is_there : (text : List ℕ) → is_nickname text ≡ true → is_there text ≡ true
+nickname_is_there [] is = absurd (false≢true is)
+nickname_is_there (b ∷ text) is = refl
 
 abbrev source_made : Span → Fingerprint → Span → ℕ → ℕ → ℕ → Result DirSource ℕ
 source_made nickname digest host ip dir_port or_port = Ok (record {
@@ -129,7 +129,7 @@ named_reads bytes item sound =
     let Any : ℕ → Type 0 = λ n. Unit {0} in
     next_reads (λ (n : Span). part bytes n ≡ t0.text) Named f0 m0
     (span_reads (λ (n : Span). part bytes n ≡ t0.text) t0 (is_nickname t0.text)
-    (λ is. (front_found bytes item.place a0 found0 (there t0.text is)).part)) (λ n is_n.
+    (λ is. (front_found bytes item.place a0 found0 (nickname_is_there t0.text is)).part)) (λ n is_n.
     next_reads (λ (k : Fingerprint). Unit {0}) Named f1 (m1 n) (any_reads f1) (λ k is_k.
     next_reads (λ (h : Span). part bytes h ≡ t2.text) Named f2 (m2 n k)
     (span_reads (λ (h : Span). part bytes h ≡ t2.text) t2 (is_there t2.text)

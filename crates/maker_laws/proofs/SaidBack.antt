@@ -16,8 +16,8 @@ use Rattle.frame_values.specs.declared.values.Value.TheVariants as value
 use Rattle.authority_certs.specs.Tables.{cert_value}
 use Rattle.authority_certs.specs.declared.frame.CertKind.{CertKind}
 use Rattle.authority_certs.specs.declared.frame.CertKind.TheVariants as kind
-use Rattle.grammar_laws.specs.Moved.{moved, moved_object}
-use Rattle.certificate_laws.specs.Lifted.{lifted, moved_argument}
+use Rattle.grammar_laws.specs.Moved.{moved_item, moved_object}
+use Rattle.certificate_laws.specs.Lifted.{lifted_value, moved_argument}
 use Rattle.certificate_laws.proofs.MovedValues.{arguments_moved, first_of, object_said, second_of, value_moved, wanted_if}
 
 -- ---- arguments
@@ -32,12 +32,12 @@ others_moved : (n : ℕ) (list : List Argument)
 others_moved n [] = refl
 others_moved n (argument ∷ rest) = refl
 
-first_moved : (n : ℕ) (item : Item) → first_of (moved n item) ≡ moved_argument n (first_of item)
+first_moved : (n : ℕ) (item : Item) → first_of (moved_item n item) ≡ moved_argument n (first_of item)
 first_moved n item =
     ap (λ (l : List Argument). front (item.place + n) l) (arguments_moved n item.start item.arguments)
     ∙ front_moved n item.place (arguments_of item)
 
-second_moved : (n : ℕ) (item : Item) → second_of (moved n item) ≡ moved_argument n (second_of item)
+second_moved : (n : ℕ) (item : Item) → second_of (moved_item n item) ≡ moved_argument n (second_of item)
 second_moved n item =
     ap (λ (l : List Argument). front (item.place + n) (others l)) (arguments_moved n item.start item.arguments)
     ∙ ap (λ (l : List Argument). front (item.place + n) l) (others_moved n (arguments_of item))
@@ -101,7 +101,7 @@ module _ (W : Type 0) where
   lines_said n place false (Some object) is = absurd is
   lines_said n place true (Some object) is = tt
 
-  value_said : (n : ℕ) (of : CertKind) (item : Item) → IsRead (cert_value {V = W} of (moved n item))
+  value_said : (n : ℕ) (of : CertKind) (item : Item) → IsRead (cert_value {V = W} of (moved_item n item))
       → IsRead (cert_value {V = Unit {0}} of item)
   value_said n kind.Version item is =
       let first = first_of item in
@@ -123,8 +123,8 @@ module _ (W : Type 0) where
       (subst (λ (b : Argument). IsRead (moment_if {W =
       W} (date first.text) (time_of_day b.text) (moved_argument n first) b))
       (second_moved n item)
-      (subst (λ (a : Argument). IsRead (moment_if {W = W} (date a.text) (time_of_day (second_of (moved n item)).text) a
-      (second_of (moved n item)))) (first_moved n item) is))
+      (subst (λ (a : Argument). IsRead (moment_if {W = W} (date a.text) (time_of_day (second_of (moved_item n item)).text) a
+      (second_of (moved_item n item)))) (first_moved n item) is))
   value_said n kind.Key item is =
       let words = codes "RSA PUBLIC KEY" in
       lines_said n item.place (has_words item.object words) item.object
@@ -149,14 +149,14 @@ module _ (W : Type 0) where
 pub record WasSaid {W : Type 0} (n : ℕ) (of : CertKind) (item : Item) (v : Value W) : Type 0 where
   pub said : Value (Unit {0})
   pub is : cert_value of item ≡ Ok said
-  pub lifts : lifted n said ≡ v
+  pub lifts : lifted_value n said ≡ v
 
 abbrev value_or : {W : Type 0} → Value W → Result (Value W) ℕ → Value W
 value_or other (Ok v) = v
 value_or other (Err place) = other
 
 pub said_back : {W : Type 0} (n : ℕ) (of : CertKind) (item : Item) (v : Value W)
-    → cert_value {V = W} of (moved n item) ≡ Ok v → WasSaid n of item v
+    → cert_value {V = W} of (moved_item n item) ≡ Ok v → WasSaid n of item v
 said_back {W} n of item v is =
     by (cert_value of item) refl
     (value_said W n of item (subst (λ (r : Result (Value W) ℕ). IsRead r) (sym is) tt))

@@ -13,7 +13,7 @@ use Rattle.dir_values.specs.FlagSets.{set_text}
 use Rattle.dir_values.specs.Numbers.{numbers_text}
 use Rattle.frame_terms.specs.declared.keyword.Keyword.{Keyword}
 use Rattle.frame_terms.specs.declared.keyword.Keyword.TheVariants as the
-use Rattle.frame_values.specs.Items.{bare, item_if, timed}
+use Rattle.frame_values.specs.Items.{bare, item_if, moment_item}
 use Rattle.frame_values.specs.Parts.{moment_of}
 use Rattle.flag_rules.specs.declared.ruling.Ruling.{Ruling}
 use Rattle.vote_terms.specs.declared.facts.VoteFacts.{VoteFacts}
@@ -48,7 +48,7 @@ module _ (its : Basis) (rulings : List Ruling) (signature : List ℕ) where
       & one_line the.ConsensusMethods (numbers_text (made_methods its.station.newest))
       (omega (arith, methods_short its.station.newest space))
 
-  one_time : (keyword : Keyword) (moment : ℕ) → AreShortLines (timed keyword moment ∷ [])
+  one_time : (keyword : Keyword) (moment : ℕ) → AreShortLines (moment_item keyword moment ∷ [])
   one_time keyword moment =
       one_line keyword (moment_text (moment_of moment)) (omega (arith, length-moment_text (moment_of moment)))
 

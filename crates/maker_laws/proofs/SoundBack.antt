@@ -8,13 +8,13 @@ use Rattle.item_terms.specs.declared.fault.DocReason.TheVariants.{Keyword, Objec
 use Rattle.item_terms.specs.declared.fault.DocReason.TheVariants.{Unterminated}
 use Rattle.item_terms.specs.Base64Text.{is_body}
 use Rattle.item_terms.specs.Faults.{at, line_fault, max_line, max_object, nul_fault, object_line_fault, or_else}
-use Rattle.item_terms.specs.Faults.{too_long, unterminated}
+use Rattle.item_terms.specs.Faults.{too_long, unterminated_fault}
 use Rattle.item_terms.specs.Lines.{Line, size}
 use Rattle.item_terms.specs.Words.{begin_words, is_blank_line, is_end_line, is_keyword_line, nul_in}
 use Rattle.item_terms.specs.Steps.{Item, Object, Open, begun_object, first_object_line, item_unless, keyword_item}
 use Rattle.item_terms.specs.Steps.{keyword_line, line_item, nothing, object_lines, object_step, open_item, open_unless}
 use Rattle.item_terms.specs.Steps.{read_line, starts_dash, step, step_unless}
-use Rattle.grammar_laws.specs.Moved.{moved, moved_object, moved_open}
+use Rattle.grammar_laws.specs.Moved.{moved_item, moved_object, moved_open}
 use Rattle.grammar_laws.proofs.MovedFaults.{none_of, short}
 use Rattle.grammar_laws.proofs.MovedLines.{after_line, object_made}
 
@@ -26,7 +26,7 @@ not_long limit place size_ fits =
     (if nat_le (limit - place) max_line then at limit DocumentTooLong else at (place + max_line) LineTooLong))
     (le-leb size_ (min (limit - place) max_line) fits)
 
-ended_too : (place other : ℕ) (line : Line) → unterminated place line ≡ None → unterminated other line ≡ None
+ended_too : (place other : ℕ) (line : Line) → unterminated_fault place line ≡ None → unterminated_fault other line ≡ None
 ended_too place other line is = by line.ended is
   where
     by : (t : Bool) → (if t then None else Some (at (place + length line.text) Unterminated)) ≡ None
@@ -43,20 +43,20 @@ pub line_fits : (limit place : ℕ) (line : Line) → line_fault limit place lin
     → size line ≤ min (limit - place) max_line
 line_fits limit place line is =
     short limit place (size line)
-    (none_of (too_long limit place (size line)) (or_else (unterminated place line) (nul_fault place
+    (none_of (too_long limit place (size line)) (or_else (unterminated_fault place line) (nul_fault place
     (nul_in line.text))) is).0
 
 sound_back : (limit limit' place n : ℕ) (line : Line) → line_fault limit (place + n) line ≡ None
     → place + size line ≤ limit' → line_fault limit' place line ≡ None
 sound_back limit limit' place n line is fits =
     let long = too_long limit (place + n) (size line) in
-    let others = or_else (unterminated (place + n) line) (nul_fault (place + n) (nul_in line.text)) in
+    let others = or_else (unterminated_fault (place + n) line) (nul_fault (place + n) (nul_in line.text)) in
     let p = none_of long others is in
-    let q = none_of (unterminated (place + n) line) (nul_fault (place + n) (nul_in line.text)) p.1 in
+    let q = none_of (unterminated_fault (place + n) line) (nul_fault (place + n) (nul_in line.text)) p.1 in
     let s = short limit (place + n) (size line) p.0 in
     let m : size line ≤ min (limit' - place) 1048576 = omega (arith, s, fits) in
     ap (λ (f : Option DocFault). or_else f
-    (or_else (unterminated place line) (nul_fault place (nul_in line.text))))
+    (or_else (unterminated_fault place line) (nul_fault place (nul_in line.text))))
     (not_long limit' place (size line) m)
     ∙ ap (λ (f : Option DocFault). or_else f (nul_fault place (nul_in line.text)))
     (ended_too (place + n) place line q.0)
@@ -164,13 +164,13 @@ begun_opened limit limit' place n item other line words is fits = by (line_fault
         (sym (sound_back limit limit' place n line e fits)) (words_opened place n item other line words is)
 
 object_opened : (place n : ℕ) (item : Item) (begin : ℕ) (object : Object) (line : Line)
-    → IsOpened (object_step (moved n item) (begin + n) (moved_object n object) (place + n) line).next
+    → IsOpened (object_step (moved_item n item) (begin + n) (moved_object n object) (place + n) line).next
     → IsOpened (object_step item begin object place line).next
 object_opened place n item begin object line is =
     by (starts_dash line) (is_end_line object.words line.text) (is_body object.text) is
   where
     by : (dash end_ body : Bool)
-        → IsOpened (object_made line (place + n) (moved n item) (begin + n)
+        → IsOpened (object_made line (place + n) (moved_item n item) (begin + n)
         (moved_object n object) dash end_ body).next
         → IsOpened (object_made line place item begin object dash end_ body).next
     by true true true is = tt
@@ -180,7 +180,7 @@ object_opened place n item begin object line is =
 
 object_line_opened : (limit limit' place n : ℕ) (item : Item) (begin : ℕ) (object : Object) (line : Line)
     → IsOpened (step_unless (object_line_fault limit (begin + n) (place + n) line)
-    (object_step (moved n item) (begin + n) (moved_object n object) (place + n) line)).next
+    (object_step (moved_item n item) (begin + n) (moved_object n object) (place + n) line)).next
     → place + size line ≤ limit'
     → IsOpened (step_unless (object_line_fault limit' begin place line)
     (object_step item begin object place line)).next
@@ -188,7 +188,7 @@ object_line_opened limit limit' place n item begin object line is fits =
     by (object_line_fault limit (begin + n) (place + n) line) refl is
   where
     by : (f : Option DocFault) → object_line_fault limit (begin + n) (place + n) line ≡ f
-        → IsOpened (step_unless f (object_step (moved n item) (begin + n) (moved_object n object)
+        → IsOpened (step_unless f (object_step (moved_item n item) (begin + n) (moved_object n object)
         (place + n) line)).next
         → IsOpened (step_unless (object_line_fault limit' begin place line)
         (object_step item begin object place line)).next
@@ -209,11 +209,11 @@ step_opened limit limit' place n (keyword_line item) line is fits = by (starts_d
 
     by : (dash : Bool)
         → IsOpened (after_line dash (open_unless (line_fault limit (place + n) line)
-        (first_object_line (place + n) (moved n item) line words)) (moved n item)
+        (first_object_line (place + n) (moved_item n item) line words)) (moved_item n item)
         (open_item (read_line limit (place + n) line))).next
         → IsOpened (after_line dash (open_unless (line_fault limit' place line)
         (first_object_line place item line words)) item (open_item (read_line limit' place line))).next
-    by true is = begun_opened limit limit' place n item (moved n item) line words is fits
+    by true is = begun_opened limit limit' place n item (moved_item n item) line words is fits
     by false is = read_opened limit limit' place n line is fits
 step_opened limit limit' place n (object_lines item begin object) line is fits =
     object_line_opened limit limit' place n item begin object line is fits

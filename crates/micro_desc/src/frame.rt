@@ -1,6 +1,6 @@
 // The frame of a microdescriptor: the table of its items.
 ghost use Rattle.std.specs.Prelude.{◌≡◌};
-ghost use Rattle.dirdoc_grammar.specs.Seen.{seen, IsInside};
+ghost use Rattle.dirdoc_grammar.specs.Seen.{seen_item, IsInside};
 ghost use Rattle.micro_desc.specs.Lines as lines;
 ghost use Rattle.micro_desc.specs.Tables as tables;
 
@@ -44,7 +44,7 @@ const ROWS: [Row<MicroKind>; 7] = [
 /// The place of what is wrong.
 fn value_of(kind: MicroKind, item: &Item<'_>) -> Result<Value<MicroValue>, u64>
     requires { IsInside item.now }
-    ensures { result ≡ lines.value_at kind (seen item.now) }
+    ensures { result ≡ lines.value_at kind (seen_item item.now) }
 {
     match kind {
         MicroKind::OnionKey => Ok(Value::Own(MicroValue::OnionKey(onion_key_of(item)))),

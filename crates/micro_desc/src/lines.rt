@@ -1,6 +1,6 @@
 // What the items of a microdescriptor say.
 ghost use Rattle.std.specs.Prelude.{◌≡◌};
-ghost use Rattle.dirdoc_grammar.specs.Seen.{seen, IsInside};
+ghost use Rattle.dirdoc_grammar.specs.Seen.{seen_item, IsInside};
 ghost use Rattle.micro_desc.specs.Lines as lines;
 
 use crate::said::MicroId;
@@ -12,7 +12,7 @@ use relay_entries::identity;
 /// Where the lines of the item's object stand, where it has one.
 pub(crate) fn onion_key_of(item: &Item<'_>) -> Option<Span>
     requires { IsInside item.now }
-    ensures { result ≡ lines.onion_key_of (seen item.now) }
+    ensures { result ≡ lines.onion_key_of (seen_item item.now) }
 {
     object_of(true, item).ok()
 }
@@ -20,7 +20,7 @@ pub(crate) fn onion_key_of(item: &Item<'_>) -> Option<Span>
 /// Whose microdescriptor it is.
 pub(crate) fn id_of(item: &Item<'_>) -> Result<MicroId, u64>
     requires { IsInside item.now }
-    ensures { result ≡ lines.id_of (seen item.now) }
+    ensures { result ≡ lines.id_of (seen_item item.now) }
 {
     let mut arguments = arguments_of(item);
     let kind = take_argument(&mut arguments, item.place);

@@ -67,10 +67,10 @@ between m limit place line le =
     (read_by m (line_fault limit place line) (line_item place line)
     (kinds (is_blank_line line.text) (is_keyword_line line.text) m (keyword_item place line) (at place Keyword) le))
 
-begins : (m place : ℕ) (item : Item) (line : Line) (words : Option (List ℕ)) → m ≤ item.place
+first_object_line_is_from : (m place : ℕ) (item : Item) (line : Line) (words : Option (List ℕ)) → m ≤ item.place
     → NextFrom m (first_object_line place item line words)
-begins m place item line None le = tt
-begins m place item line (Some words) le = by (nat_lt max_object (size line))
+first_object_line_is_from m place item line None le = tt
+first_object_line_is_from m place item line (Some words) le = by (nat_lt max_object (size line))
   where
     by : (long : Bool) → NextFrom m (if long then Err (at place ObjectTooLong)
         else Ok (object_lines item place (begun_object place line words)))
@@ -111,7 +111,7 @@ step_from m limit place (keyword_line item) line le h =
     (open_unless (line_fault limit place line) (first_object_line place item line (begin_words line.text)))
     (open_item (read_line limit place line)) h
     (unless m (line_fault limit place line) (first_object_line place item line (begin_words line.text))
-    (begins m place item line (begin_words line.text) h))
+    (first_object_line_is_from m place item line (begin_words line.text) h))
     (between m limit place line le)
 step_from m limit place (object_lines item begin object) line le h =
     step_by m (object_line_fault limit begin place line) (object_step item begin object place line)

@@ -14,7 +14,7 @@ use Rattle.std.specs.declared.cmp.Ordering.{Ordering}
 use Rattle.std.specs.declared.cmp.Ordering.TheVariants.{Less, Equal, Greater}
 use Rattle.sha2.specs.Sha256.{sha256}
 use Rattle.mirror_core.specs.Laws.{AreRowsOf, HasDigest, HaveDigests}
-use Rattle.mirror_core.specs.Rows.{Rows, micro_of, row_of, rows_after, rows_by, rows_of, taken_by, taking, text_in, with_row, with_rows}
+use Rattle.mirror_core.specs.Rows.{Rows, micro_of, row_of, rows_after, rows_by, rows_of, taken_by, taking_outcome, text_in, with_row, with_rows}
 use Rattle.mirror_core.specs.Wanting.{is_among}
 use Rattle.mirror_core.specs.declared.taken.Taken.{Taken}
 use Rattle.mirror_core.specs.declared.taken.Taken.TheVariants as taken
@@ -140,7 +140,7 @@ rows_have before digests held = have_more before [] digests held (All-nil HasDig
 
 -- the rows have their digests after it too
 pub taken_have : (rows : Rows) (text : List ℕ) → HaveDigests rows → HaveDigests (rows_after rows text)
-taken_have rows text have = by (taking rows text)
+taken_have rows text have = by (taking_outcome rows text)
   where
     by : (answer : Taken) → HaveDigests (rows_by rows text answer)
     by taken.Kept = has_more rows (sha256 text) (Some text) have refl
@@ -160,9 +160,9 @@ still false b text old found is = is
 pub taken_are : (digests : List (List ℕ)) (rows : Rows) (text : List ℕ) → AreRowsOf digests rows
     → AreRowsOf digests (rows_after rows text)
 taken_are digests rows text are query =
-    by (taking rows text) refl
+    by (taking_outcome rows text) refl
   where
-    by : (answer : Taken) → taking rows text ≡ answer → is_some (row_of (rows_by rows text answer) query) ≡ is_among digests query
+    by : (answer : Taken) → taking_outcome rows text ≡ answer → is_some (row_of (rows_by rows text answer) query) ≡ is_among digests query
     by taken.Kept is =
         ap (λ (o : Option (Option (List ℕ))). is_some o) (row_more query (sha256 text) (Some text) rows)
         ∙ still (finds query (sha256 text)) (is_among digests query) (Some text) (row_of rows query)

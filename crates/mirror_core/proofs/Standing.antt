@@ -24,9 +24,9 @@ some_left bytes place begin is = by (nat_lt place (length bytes)) refl
         absurd (cc left)
 
 -- one document more, and at least one byte
-pub one_more : {X : Type 0} (xs ys : List X) (x : X) (place next : ℕ) → ys ≡ xs ++ x ∷ [] → length xs ≤ place → place < next
+pub one_more_document_at_most : {X : Type 0} (xs ys : List X) (x : X) (place next : ℕ) → ys ≡ xs ++ x ∷ [] → length xs ≤ place → place < next
     → length ys ≤ next
-one_more xs ys x place next is few further = rw is (grind (arith, common_steps))
+one_more_document_at_most xs ys x place next is few further = rw is (grind (arith, common_steps))
 
 module _ {X : Type 0} (document_of : List ℕ → Result (X × ℕ) ReadRefusal) where
   -- one more behind those that stand

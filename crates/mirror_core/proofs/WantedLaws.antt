@@ -9,7 +9,7 @@ use Rattle.std.specs.Str.{bytes_eq}
 use Rattle.std.specs.Prelude.{All, AllPairs, ◌||◌, is_some, if◌then◌else◌}
 use Rattle.mirror_core.specs.Laws.{AreWanted, Differ, IsHeld, IsMissing}
 use Rattle.mirror_core.specs.Rows.{Rows, micro_of}
-use Rattle.mirror_core.specs.Wanting.{is_among, is_passed, missing, missing_after, most_wanted, wanted}
+use Rattle.mirror_core.specs.Wanting.{is_among, is_passed, missing_digests, missing_after, most_wanted, first_missing}
 use Rattle.mirror_core.proofs.Missing.{stands_first}
 
 -- where all are held, none is added
@@ -22,7 +22,7 @@ all_passed rows before (digest ∷ digests) held =
     ∙ all_passed rows before digests (All-tail (IsHeld rows) digest digests held)
 
 -- where none is missing none is wanted
-pub none_wanted : (rows : Rows) (digests : List (List ℕ)) → All (IsHeld rows) digests → wanted rows digests ≡ []
+pub none_wanted : (rows : Rows) (digests : List (List ℕ)) → All (IsHeld rows) digests → first_missing rows digests ≡ []
 none_wanted rows digests held = ap (λ (l : List (List ℕ)). take most_wanted l) (all_passed rows [] digests held)
 
 some_first : (digest : List ℕ) (all rest : List (List ℕ)) → all ≡ (digest ∷ []) ++ rest → take most_wanted all ≡ [] → ⊥
@@ -31,12 +31,12 @@ some_first digest all rest is none =
     cc first
 
 -- and where none is wanted none is missing
-pub all_held : (rows : Rows) (digests : List (List ℕ)) → wanted rows digests ≡ [] → All (IsHeld rows) digests
+pub all_held : (rows : Rows) (digests : List (List ℕ)) → first_missing rows digests ≡ [] → All (IsHeld rows) digests
 all_held rows [] none = All-nil (IsHeld rows)
 all_held rows (digest ∷ digests) none =
     by (λ later. all_held rows digests later) (is_some (micro_of rows digest)) refl none
   where
-    by : (wanted rows digests ≡ [] → All (IsHeld rows) digests) → (b : Bool) → is_some (micro_of rows digest) ≡ b
+    by : (first_missing rows digests ≡ [] → All (IsHeld rows) digests) → (b : Bool) → is_some (micro_of rows digest) ≡ b
         → take most_wanted (if b || false then missing_after rows [] digests else missing_after rows (digest ∷ []) digests) ≡ []
         → All (IsHeld rows) (digest ∷ digests)
     by later true is none = All-cons (IsHeld rows) digest digests is (later none)
@@ -105,18 +105,18 @@ none_twice : AllPairs Differ []
 none_twice i j d lt in_list = absurd (omega arith)
 
 -- so of all that are missing
-pub missing_once : (rows : Rows) (digests : List (List ℕ)) → AllPairs Differ (missing rows digests)
+pub missing_once : (rows : Rows) (digests : List (List ℕ)) → AllPairs Differ (missing_digests rows digests)
 missing_once rows digests = each_once rows [] digests none_twice
 
 few_taken : (n : ℕ) (all : List (List ℕ)) → length (take n all) ≤ n
 few_taken n all = grind (arith, common_steps)
 
 -- all that is wanted
-pub wanted_are : (rows : Rows) (digests : List (List ℕ)) → AreWanted rows digests (wanted rows digests)
+pub wanted_are : (rows : Rows) (digests : List (List ℕ)) → AreWanted rows digests (first_missing rows digests)
 wanted_are rows digests = record {
-  missing = All-take (IsMissing rows digests) most_wanted (missing rows digests)
+  missing = All-take (IsMissing rows digests) most_wanted (missing_digests rows digests)
       (each_missing rows (IsMissing rows digests) [] digests (All-nil (IsMissing rows digests)) (λ digest is. is));
-  few = few_taken most_wanted (missing rows digests);
+  few = few_taken most_wanted (missing_digests rows digests);
   none = none_wanted rows digests;
   only = all_held rows digests;
 }

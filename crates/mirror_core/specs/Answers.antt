@@ -20,7 +20,7 @@ use Rattle.detached_sigs.specs.declared.key.SignerKey.{SignerKey}
 use Rattle.micro_desc.specs.Reading.{micro_of}
 use Rattle.micro_desc.specs.declared.micro.Micro.{Micro}
 use Rattle.mirror_core.specs.Rows as shelf
-use Rattle.mirror_core.specs.Rows.{Rows, rows_of, rows_after, taking}
+use Rattle.mirror_core.specs.Rows.{Rows, rows_of, rows_after, taking_outcome}
 use Rattle.mirror_core.specs.Wanting as wanting
 use Rattle.mirror_core.specs.declared.taken.Taken.{Taken}
 use Rattle.mirror_core.specs.declared.taken.Taken.TheVariants as taken
@@ -122,7 +122,7 @@ CertsRefused bytes refusal.VerifierFault = (certs : List (Cert × List ℕ)) × 
 CertsRefused bytes refusal.Memory = Unit {0}
 CertsRefused bytes refusal.WrongFlavour = ⊥
 CertsRefused bytes (refusal.Older held) = ⊥
-CertsRefused bytes (refusal.TooFewSigners counted roster) = ⊥
+CertsRefused bytes (refusal.TooFewSigners counted_report roster) = ⊥
 
 -- what taking certificates answers
 abbrev pub AnswersCerts : Rules → ℕ → Mirrored → List ℕ → Result CertReport MirrorRefusal → Mirrored → Type 0
@@ -177,13 +177,13 @@ pub record TakesConsensus (rules : Rules) (before : Mirrored) (bytes : List ℕ)
   pub after_is : after ≡ with_consensus before (record { bytes = bytes; consensus = consensus; signers = signers })
 
 -- It was not: these signed it, who are no more than half.
-pub record IsSignedByFew (rules : Rules) (before : Mirrored) (bytes : List ℕ) (counted roster : ℕ) : Type 0 where
+pub record IsSignedByFew (rules : Rules) (before : Mirrored) (bytes : List ℕ) (counted_report roster : ℕ) : Type 0 where
   pub consensus : SignedConsensus
   pub signers : List SignerKey
   pub signed : IsSignedBy rules before bytes consensus signers
-  pub counted_is : counted ≡ length signers
+  pub counted_is : counted_report ≡ length signers
   pub roster_is : roster ≡ length before.roster
-  pub few : over counted roster ≡ false
+  pub few : over counted_report roster ≡ false
 
 -- why no consensus was taken; each but want of memory only where those before it do not apply
 abbrev pub ConsensusRefused : Rules → Mirrored → List ℕ → MirrorRefusal → Type 0
@@ -195,8 +195,8 @@ ConsensusRefused rules before bytes (refusal.Older held) =
     × (consensus.facts.valid_after ≤ held)
 ConsensusRefused rules before bytes refusal.VerifierFault =
     (consensus : SignedConsensus) × IsMicrodesc bytes consensus × (is_newer (held_from before.held) consensus ≡ true)
-ConsensusRefused rules before bytes (refusal.TooFewSigners counted roster) =
-    IsSignedByFew rules before bytes counted roster
+ConsensusRefused rules before bytes (refusal.TooFewSigners counted_report roster) =
+    IsSignedByFew rules before bytes counted_report roster
 ConsensusRefused rules before bytes refusal.Memory = Unit {0}
 
 -- what taking a consensus answers
@@ -220,16 +220,16 @@ pub record MicroTally : Type 0 where
   pub report : MicroReport
 
 -- a report with one more
-abbrev pub counted : MicroReport → Taken → MicroReport
-counted report taken.Kept = record report { kept = report.kept + 1 }
-counted report taken.Had = record report { had = report.had + 1 }
-counted report taken.Unwanted = record report { unwanted = report.unwanted + 1 }
+abbrev pub counted_report : MicroReport → Taken → MicroReport
+counted_report report taken.Kept = record report { kept = report.kept + 1 }
+counted_report report taken.Had = record report { had = report.had + 1 }
+counted_report report taken.Unwanted = record report { unwanted = report.unwanted + 1 }
 
 -- after one microdescriptor
 abbrev pub with_micro : MicroTally → List ℕ → MicroTally
 with_micro tally text = record {
   rows = rows_after tally.rows text;
-  report = counted tally.report (taking tally.rows text);
+  report = counted_report tally.report (taking_outcome tally.rows text);
 }
 
 -- after microdescriptors, one after the other
@@ -255,7 +255,7 @@ MicrosRefused bytes refusal.Memory = Unit {0}
 MicrosRefused bytes refusal.WrongFlavour = ⊥
 MicrosRefused bytes (refusal.Older held) = ⊥
 MicrosRefused bytes refusal.VerifierFault = ⊥
-MicrosRefused bytes (refusal.TooFewSigners counted roster) = ⊥
+MicrosRefused bytes (refusal.TooFewSigners counted_report roster) = ⊥
 
 -- what taking microdescriptors answers
 abbrev pub AnswersMicros : Mirrored → List ℕ → Result MicroReport MirrorRefusal → Mirrored → Type 0
@@ -267,5 +267,5 @@ abbrev pub micro_with : Mirrored → List ℕ → Option (List ℕ)
 micro_with mirror digest = shelf.micro_of mirror.rows digest
 
 -- the first 92 digests, in the consensus's order, that it names and whose microdescriptor is not held
-abbrev pub wanted : Mirrored → List (List ℕ)
-wanted mirror = wanting.wanted mirror.rows (named_by mirror.held)
+abbrev pub wanted_digests : Mirrored → List (List ℕ)
+wanted_digests mirror = wanting.first_missing mirror.rows (named_by mirror.held)

@@ -49,8 +49,8 @@ taken_by (Some None) = taken.Kept
 taken_by (Some (Some held)) = taken.Had
 
 -- what comes of it
-abbrev pub taking : Rows → List ℕ → Taken
-taking rows text = taken_by (row_of rows (sha256 text))
+abbrev pub taking_outcome : Rows → List ℕ → Taken
+taking_outcome rows text = taken_by (row_of rows (sha256 text))
 
 -- the rows after that: where it is kept, its row has it
 abbrev pub rows_by : Rows → List ℕ → Taken → Rows
@@ -60,4 +60,4 @@ rows_by rows text taken.Unwanted = rows
 
 -- the rows after it was handed over
 abbrev pub rows_after : Rows → List ℕ → Rows
-rows_after rows text = rows_by rows text (taking rows text)
+rows_after rows text = rows_by rows text (taking_outcome rows text)

@@ -24,9 +24,9 @@ missing_after rows before (digest ∷ digests) =
     else missing_after rows (before ++ digest ∷ []) digests
 
 -- the digests whose microdescriptor is not held, in their order, each once
-abbrev pub missing : Rows → List (List ℕ) → List (List ℕ)
-missing rows digests = missing_after rows [] digests
+abbrev pub missing_digests : Rows → List (List ℕ) → List (List ℕ)
+missing_digests rows digests = missing_after rows [] digests
 
 -- the first 92 of these
-abbrev pub wanted : Rows → List (List ℕ) → List (List ℕ)
-wanted rows digests = take most_wanted (missing rows digests)
+abbrev pub first_missing : Rows → List (List ℕ) → List (List ℕ)
+first_missing rows digests = take most_wanted (missing_digests rows digests)

@@ -2,12 +2,12 @@
 ghost use Rattle.std.specs.Prelude.{ℕ, List, AllPairs};
 ghost use Rattle.mirror_core.specs.Laws.{AreRowsOf, AreWanted, Differ, HaveDigests};
 ghost use Rattle.mirror_core.specs.Rows.{Rows, rows_after, rows_of};
-ghost use Rattle.mirror_core.specs.Wanting.{missing, wanted};
+ghost use Rattle.mirror_core.specs.Wanting.{missing_digests, first_missing};
 
 /// What is wanted is named and not held, each digest once; nothing is wanted exactly where each that is named is held.
 pub fn what_is_wanted()
-    ensures are { (rows : Rows) (digests : List (List ℕ)) → AreWanted rows digests (wanted rows digests) }
-    ensures once { (rows : Rows) (digests : List (List ℕ)) → AllPairs Differ (missing rows digests) }
+    ensures are { (rows : Rows) (digests : List (List ℕ)) → AreWanted rows digests (first_missing rows digests) }
+    ensures once { (rows : Rows) (digests : List (List ℕ)) → AllPairs Differ (missing_digests rows digests) }
 {}
 
 /// Exactly the digests that are named have rows, and what a row has has its digest.

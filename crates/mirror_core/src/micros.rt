@@ -13,7 +13,7 @@ use std::collections::VecDeque;
 /// A report with one more.
 fn counted(report: MicroReport, taken: Taken) -> MicroReport
     requires { total report < 2 ^ 32 - 1 }
-    ensures { result ≡ answers.counted report taken }
+    ensures { result ≡ answers.counted_report report taken }
 {
     let MicroReport {
         kept,

@@ -214,7 +214,7 @@ impl<V: Verifier> Mirror<V> {
     /// # Errors
     /// `Memory` is want of memory.
     pub fn wanted(&self) -> Result<Vec<Digest2>, Memory>
-        ensures { IfOk result (λ digests. map (λ digest. digest.0) digests.items ≡ answers.wanted self.now) }
+        ensures { IfOk result (λ digests. map (λ digest. digest.0) digests.items ≡ answers.wanted_digests self.now) }
     {
         let found = match &self.held {
             Some(held) => wanted(self.alloc, &self.shelf, &held.digests)?,

@@ -112,7 +112,7 @@ impl Shelf {
 
     /// Keeps a microdescriptor, where its digest has a row that has none. Takes no memory.
     pub fn take(&mut self, text: Bytes) -> Taken
-        ensures taken { result ≡ rows.taking self.old text }
+        ensures taken { result ≡ rows.taking_outcome self.old text }
         ensures rows { self.new ≡ rows.rows_after self.old text }
     {
         let digest: [u8; 32] = Sha256::digest(&text);

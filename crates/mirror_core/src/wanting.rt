@@ -38,7 +38,7 @@ fn add(shelf: &Shelf, found: &mut Vec<[u8; 32]>, digest: &[u8; 32]) -> Result<()
 /// # Errors
 /// `Memory` is want of memory.
 pub fn wanted(alloc: Global, shelf: &Shelf, digests: &[[u8; 32]]) -> Result<Vec<[u8; 32]>, Memory>
-    ensures { IfOk result (λ found. found.items ≡ wanting.wanted shelf.now digests.now) }
+    ensures { IfOk result (λ found. found.items ≡ wanting.first_missing shelf.now digests.now) }
 {
     let mut found = Vec::new(alloc);
     'digests: for digest in digests {

@@ -9,7 +9,7 @@ use Rattle.std.specs.Ordering.{is_eq, match_ordering, nat_cmp}
 use Rattle.std.specs.declared.cmp.Ordering.{Ordering}
 use Rattle.std.specs.declared.cmp.Ordering.TheVariants.{Less, Equal, Greater}
 use Rattle.sha2.specs.Sha256.{sha256}
-use Rattle.mirror_core.specs.Rows.{Rows, row_of, taken_by, taking, with_row}
+use Rattle.mirror_core.specs.Rows.{Rows, row_of, taken_by, taking_outcome, with_row}
 use Rattle.mirror_core.specs.declared.taken.Taken.TheVariants as taken
 use Rattle.mirror_core.proofs.RowLaws.{row_more}
 use Rattle.mirror_daemon.specs.Lacking.{has_no_text, is_lacking, rows_lacking, rows_where}
@@ -90,7 +90,7 @@ some_row None is = absurd (cc is)
 some_row (Some row) is = refl
 
 -- fewer are lacking once one is kept
-pub kept_fewer : (rows : Rows) (text : List ℕ) → taking rows text ≡ taken.Kept
+pub kept_fewer : (rows : Rows) (text : List ℕ) → taking_outcome rows text ≡ taken.Kept
     → rows_lacking (with_row rows (sha256 text) (Some text)) < rows_lacking rows
 kept_fewer rows text is =
     let digest : List ℕ = sha256 text in

@@ -23,5 +23,5 @@ abbrev pub rows_lacking : Rows → ℕ
 rows_lacking rows = rows_where (is_lacking rows) rows
 
 -- how many of the microdescriptors that the held consensus names a mirror lacks
-abbrev pub lacking : Mirrored → ℕ
-lacking mirror = rows_lacking mirror.rows
+abbrev pub lacking_count : Mirrored → ℕ
+lacking_count mirror = rows_lacking mirror.rows

@@ -13,10 +13,10 @@ abbrev pub behind_hyphens : List Digest2 → List ℕ
 behind_hyphens digests = flat_map behind_hyphen digests
 
 -- digests with one hyphen between them
-abbrev pub hyphenated : List Digest2 → List ℕ
-hyphenated [] = []
-hyphenated (first ∷ others) = digest2_text first ++ behind_hyphens others
+abbrev pub hyphenated_digests : List Digest2 → List ℕ
+hyphenated_digests [] = []
+hyphenated_digests (first ∷ others) = digest2_text first ++ behind_hyphens others
 
 -- the path of the microdescriptors of some digests
 abbrev pub micros_path : List Digest2 → List ℕ
-micros_path digests = codes "/tor/micro/d/" ++ hyphenated digests
+micros_path digests = codes "/tor/micro/d/" ++ hyphenated_digests digests

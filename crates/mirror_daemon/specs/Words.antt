@@ -27,14 +27,14 @@ abbrev pub address : List ℕ → Option (List ℕ)
 address text = if is_address text then Some text else None
 
 -- what a mirror is run with, where all was read
-abbrev pub telling : Option (List Fingerprint) → Option (List (List ℕ)) → Option (List ℕ) → Option MirrorWords
-telling (Some members) (Some addresses) (Some place) =
+abbrev pub words_to_run : Option (List Fingerprint) → Option (List (List ℕ)) → Option (List ℕ) → Option MirrorWords
+words_to_run (Some members) (Some addresses) (Some place) =
     Some (record { roster = members; peers = addresses; listen = place })
-telling _ _ _ = None
+words_to_run _ _ _ = None
 
 -- what the texts of the three options tell
 abbrev pub words_of : List ℕ → List ℕ → List ℕ → Option MirrorWords
-words_of authorities others place = telling (roster authorities) (peers others) (address place)
+words_of authorities others place = words_to_run (roster authorities) (peers others) (address place)
 
 -- the same, where all three options stand there
 abbrev pub words_with : Option (List ℕ) → Option (List ℕ) → Option (List ℕ) → Option MirrorWords

@@ -4,7 +4,7 @@ ghost use Rattle.key_port.specs.Answers.{rules};
 ghost use Rattle.mirror_core.specs.States.{Mirrored};
 ghost use Rattle.mirror_daemon.specs.Asking.{IsWithin};
 ghost use Rattle.mirror_daemon.specs.Keeping.{ComesOf};
-ghost use Rattle.mirror_daemon.specs.Lacking.{lacking};
+ghost use Rattle.mirror_daemon.specs.Lacking.{lacking_count};
 
 use crate::asking::{Given, ask};
 use crate::paths::{CERTS_PATH, CONSENSUS_PATH, micros_path};
@@ -106,7 +106,7 @@ fn fetch_batch<V: Verifier, L: Link>(
     link: &mut L,
 ) -> bool
     ensures came { (before : Mirrored) → ComesOf (rules V.may_accept V.may_refuse) before mirror.old → ComesOf (rules V.may_accept V.may_refuse) before mirror.new }
-    ensures fewer { result ≡ true → lacking mirror.new < lacking mirror.old }
+    ensures fewer { result ≡ true → lacking_count mirror.new < lacking_count mirror.old }
     ensures link { L.faults link.old ≤ L.faults link.new }
 {
     let Given::Document(body) = wanted_of(alloc, mirror, address, link) else {

@@ -8,10 +8,10 @@ use Rattle.mirror_core.specs.States.{Mirrored}
 use Rattle.mirror_serve.specs.Given.{bytes_if, micros_with}
 
 -- the microdescriptors that are held of so many digests, and that of the next
-pub one_more : (mirror : Mirrored) (digests : List (List ℕ)) (i : ℕ) (d : List ℕ) (out : List ℕ) → i < length digests
+pub one_more_digest_given : (mirror : Mirrored) (digests : List (List ℕ)) (i : ℕ) (d : List ℕ) (out : List ℕ) → i < length digests
     → out ≡ micros_with mirror (take i digests)
     → out ++ bytes_if (micro_with mirror (get_or digests i d)) ≡ micros_with mirror (take (i + 1) digests)
-one_more mirror digests i d out lt is =
+one_more_digest_given mirror digests i d out lt is =
     let given = λ (digest : List ℕ). bytes_if (micro_with mirror digest) in
     let next = get_or digests i d in
     ap (λ (text : List ℕ). text ++ given next) is

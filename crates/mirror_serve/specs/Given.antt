@@ -30,11 +30,11 @@ micros_given mirror (Some digests) = unless_empty (micros_with mirror digests)
 
 -- the document that is asked for by a path, where a mirror has it: the microdesc consensus, all certificates,
 -- microdescriptors
-abbrev pub given : Mirrored → Asked → List ℕ → Option (List ℕ)
-given mirror (asked.Current form.Microdesc) path = consensus_text mirror
-given mirror asked.AllKeys path = unless_empty (certs_text mirror)
-given mirror (asked.Micros place) path = micros_given mirror (digest_list (drop place path))
-given mirror other path = None
+abbrev pub given_document : Mirrored → Asked → List ℕ → Option (List ℕ)
+given_document mirror (asked.Current form.Microdesc) path = consensus_text mirror
+given_document mirror asked.AllKeys path = unless_empty (certs_text mirror)
+given_document mirror (asked.Micros place) path = micros_given mirror (digest_list (drop place path))
+given_document mirror other path = None
 
 -- the answer where no document is given
 abbrev pub without : Asked → Reply
@@ -48,4 +48,4 @@ found_or None answer = Replied answer
 
 -- what comes of what is asked for by a path
 abbrev pub outcome_of : Mirrored → Asked → List ℕ → Outcome
-outcome_of mirror what path = found_or (given mirror what path) (without what)
+outcome_of mirror what path = found_or (given_document mirror what path) (without what)

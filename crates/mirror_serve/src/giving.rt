@@ -88,7 +88,7 @@ fn document<V: Verifier>(
     asked: Asked,
     path: &[u8],
 ) -> Result<Option<Text>, Memory>
-    ensures { IfOk result (λ found. found ≡ given.given mirror.now asked path.now) }
+    ensures { IfOk result (λ found. found ≡ given.given_document mirror.now asked path.now) }
 {
     match asked {
         Asked::Current(Form::Microdesc) => consensus(alloc, mirror),

@@ -10,7 +10,7 @@ use Rattle.dir_values.specs.Digests.{same_identity}
 use Rattle.dir_values.specs.Rosters.{has_member}
 use Rattle.dir_values.proofs.Orders.{apart}
 use Rattle.vote_terms.specs.Votes.{ReadVote}
-use Rattle.vote_terms.specs.Held.{placed}
+use Rattle.vote_terms.specs.Held.{votes_with}
 use Rattle.vote_terms.proofs.Orders.{Below, same_one}
 use Rattle.vote_terms.proofs.HeldLaw.{In, in_to, at_index, Ascends, only}
 use Rattle.vote_terms.proofs.HeldOrder.{to_pairs, from_pairs, placed_ascends}
@@ -54,17 +54,17 @@ pub none_held : (roster : List Fingerprint) → AreHeld roster []
 none_held roster = record { ascend = to_pairs [] tt; members = all_known roster [] (λ x i. absurd i) }
 
 known_more : (roster : List Fingerprint) (ws : List ReadVote) (v : ReadVote) → IsKnown roster v → AreKnown roster ws
-    → AreKnown roster (placed ws v)
+    → AreKnown roster (votes_with ws v)
 known_more roster ws v m a x i =
     ⊎_elim (λ (j : In x ws). a x j) (λ (e : x ≡ v). subst (λ (y : ReadVote). IsKnown roster y) (sym e) m)
     (only ws v x i)
 
 -- with one more vote of a member they are so still
 pub held_placed : (roster : List Fingerprint) (ws : List ReadVote) (v : ReadVote) → IsKnown roster v → AreHeld roster ws
-    → AreHeld roster (placed ws v)
+    → AreHeld roster (votes_with ws v)
 held_placed roster ws v m a = record {
   ascend = placed_ascends ws v a.ascend;
-  members = all_known roster (placed ws v) (known_more roster ws v m (known roster ws a));
+  members = all_known roster (votes_with ws v) (known_more roster ws v m (known roster ws a));
 }
 
 -- ---- whose key it is

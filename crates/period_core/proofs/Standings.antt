@@ -12,7 +12,7 @@ use Rattle.consensus_terms.specs.declared.consensus.Consensus.{Consensus}
 use Rattle.consensus_terms.specs.declared.signature.SignatureLine.{SignatureLine}
 use Rattle.vote_terms.specs.declared.rank.Rank.{Rank}
 use Rattle.vote_terms.specs.Votes.{ReadVote, rank_of}
-use Rattle.vote_terms.specs.Held.{placed}
+use Rattle.vote_terms.specs.Held.{votes_with}
 use Rattle.period_terms.specs.declared.change.Change.{Change}
 use Rattle.period_terms.specs.declared.stage.Stage.{Stage}
 use Rattle.period_terms.specs.declared.stage.Stage.TheVariants.{Voting, Frozen, Computed, Signed, Ended}
@@ -80,7 +80,7 @@ told_vote held one other rank identity published digest i a p b d r =
 -- a vote of a member is held, which outranks that of its authority
 pub with_vote_stands : (s : State) (vote : ReadVote) (one : Change) → one ≡ vote_change vote → Beats s.votes vote
     → IsStanding s → has_member s.roster vote.says.identity ≡ true → s.vote_changes < most_vote_changes
-    → IsStanding (with_change one (record s { votes = placed s.votes vote; vote_changes = s.vote_changes + 1 }))
+    → IsStanding (with_change one (record s { votes = votes_with s.votes vote; vote_changes = s.vote_changes + 1 }))
 with_vote_stands s vote one e beats i m l = record {
   members = i.members;
   own = i.own;
@@ -92,7 +92,7 @@ with_vote_stands s vote one e beats i m l = record {
   micro = i.micro;
   logged = omega (arith, length_push s.changes one, i.logged);
   agrees = from_parts _ (subst (λ (c : Change). TellsAt
-      (with_change c (record s { votes = placed s.votes vote; vote_changes = s.vote_changes + 1 })))
+      (with_change c (record s { votes = votes_with s.votes vote; vote_changes = s.vote_changes + 1 })))
       (sym e) (vote_tells s vote beats (to_parts s i.agrees)));
   base = i.base;
 }

@@ -11,27 +11,27 @@ use Rattle.period_terms.specs.declared.answer.Offer.TheVariants.{Replaced}
 use Rattle.period_terms.specs.declared.event.Via.{Via}
 use Rattle.period_terms.specs.declared.state.State.{State}
 use Rattle.period_terms.specs.Schedules.{cutoff_of}
-use Rattle.period_terms.specs.States.{Outcome, unchanged, is_voting, vote_of}
+use Rattle.period_terms.specs.States.{Outcome, unchanged_outcome, is_voting, vote_of}
 use Rattle.period_terms.specs.Offers.{most_vote_changes, is_late, with_vote}
 use Rattle.period_core.specs.declared.judging.Judged.{Judged}
 use Rattle.period_core.specs.declared.judging.Judged.TheVariants.{Refused, New, Better}
 
 -- what is told of a rank, beside that of the held vote of its authority
-abbrev pub compared : Option Rank → Rank → Bool → Judged
-compared None rank full = if full then Refused Full else New
-compared (Some held) rank full =
+abbrev pub judged_rank : Option Rank → Rank → Bool → Judged
+judged_rank None rank full = if full then Refused Full else New
+judged_rank (Some held) rank full =
     if is_above held rank then Refused (Older held)
     else if is_above rank held then (if full then Refused Full else Better held)
     else Refused (Have held)
 
 -- what is told of a vote that comes this way at this moment
-abbrev pub judged : State → ReadVote → Via → ℕ → Judged
-judged state vote via now =
+abbrev pub judged_vote : State → ReadVote → Via → ℕ → Judged
+judged_vote state vote via now =
     if not (vote.says.valid_after == state.valid_after) then Refused (OtherPeriod state.valid_after)
     else if not (has_member state.roster vote.says.identity) then Refused (Stranger vote.says.identity)
     else if is_late state via now
     then Refused (Late now (cutoff_of via state.schedule state.valid_after) (not (is_voting state.stage)))
-    else compared (option_map rank_of (vote_of state.votes vote.says.identity)) (rank_of vote)
+    else judged_rank (option_map rank_of (vote_of state.votes vote.says.identity)) (rank_of vote)
     (nat_le most_vote_changes state.vote_changes)
 
 -- a vote outranks that of its authority which is held, where one is
@@ -39,7 +39,7 @@ abbrev pub Beats : List ReadVote → ReadVote → Type 0
 Beats votes vote = (held : ReadVote) → vote_of votes vote.says.identity ≡ Some held → outranks vote held ≡ true
 
 -- the outcome of what is told
-abbrev pub settled : State → ReadVote → Judged → Outcome Offer
-settled state vote (Refused answer) = unchanged state answer
-settled state vote New = record { answer = Kept (state.front + 1); after = with_vote vote state }
-settled state vote (Better old) = record { answer = Replaced (state.front + 1) old; after = with_vote vote state }
+abbrev pub settled_vote : State → ReadVote → Judged → Outcome Offer
+settled_vote state vote (Refused answer) = unchanged_outcome state answer
+settled_vote state vote New = record { answer = Kept (state.front + 1); after = with_vote vote state }
+settled_vote state vote (Better old) = record { answer = Replaced (state.front + 1) old; after = with_vote vote state }

@@ -11,7 +11,7 @@ use Rattle.period_terms.specs.declared.state.State.{State}
 use Rattle.consensus_terms.specs.declared.signature.SignatureLine.{SignatureLine}
 use Rattle.period_terms.specs.declared.change.ChangeKind.TheVariants as kind
 use Rattle.period_terms.specs.SignIns.{keep_signature, with_line}
-use Rattle.period_terms.specs.States.{Outcome, unchanged, is_ended, has_key, digest_of, lines_of, has_line, change}
+use Rattle.period_terms.specs.States.{Outcome, unchanged_outcome, is_ended, has_key, digest_of, lines_of, has_line, change}
 use Rattle.period_terms.specs.States.{with_change}
 use Rattle.period_core.specs.declared.weighing.Weighed.{Weighed}
 use Rattle.period_core.specs.declared.weighing.Weighed.TheVariants.{Refused, Fits}
@@ -32,8 +32,8 @@ weighed_over state signature (Some ours) =
     else Fits
 
 -- what is told of a signature
-abbrev pub weighed : State → OfferedSignature → Weighed
-weighed state signature =
+abbrev pub weighed_signature : State → OfferedSignature → Weighed
+weighed_signature state signature =
     if not (signature.valid_after == state.valid_after) then Refused (OtherPeriod state.valid_after)
     else weighed_over state signature (option_map (digest_of signature.flavour) state.computed)
 
@@ -43,6 +43,6 @@ with_signed flavour line digest state =
     with_change (change kind.Signature (Some line.identity) state.valid_after digest) (with_line flavour line state)
 
 -- the outcome of what is told
-abbrev pub settled : State → OfferedSignature → Weighed → Outcome SignIn
-settled state signature (Refused answer) = unchanged state answer
-settled state signature Fits = keep_signature state signature
+abbrev pub settled_signature : State → OfferedSignature → Weighed → Outcome SignIn
+settled_signature state signature (Refused answer) = unchanged_outcome state answer
+settled_signature state signature Fits = keep_signature state signature

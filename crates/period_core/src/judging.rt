@@ -30,7 +30,7 @@ fn is_above(a: &Rank, b: &Rank) -> bool
 
 /// What is told of a vote of this rank, beside the held one of its authority.
 fn compare(held: Option<Rank>, rank: Rank, full: bool) -> Judged
-    ensures { result ≡ judging.compared held rank full }
+    ensures { result ≡ judging.judged_rank held rank full }
 {
     match held {
         None => {
@@ -59,7 +59,7 @@ fn compare(held: Option<Rank>, rank: Rank, full: bool) -> Judged
 impl<V: Verifier> Station<V> {
     /// What is told of a vote that comes this way at a moment.
     pub(crate) fn judge(&self, held: &HeldVote, via: Via, now: u64) -> Judged
-        ensures { result ≡ judging.judged self.now held.now via now }
+        ensures { result ≡ judging.judged_vote self.now held.now via now }
     {
         let vote = held.vote();
         let valid_after = self.valid_after();

@@ -56,7 +56,7 @@ impl<V: Verifier> Station<V> {
 
     /// What is told of a signature.
     pub(crate) fn weigh(&self, sig: &CheckedSig<V>) -> Weighed
-        ensures { result ≡ weighing.weighed self.now sig.now }
+        ensures { result ≡ weighing.weighed_signature self.now sig.now }
     {
         let valid_after = self.valid_after();
         if sig.valid_after() != valid_after {

@@ -6,7 +6,7 @@ use Rattle.count_terms.specs.declared.newest.Newest.{Newest}
 use Rattle.dir_values.specs.declared.digest.Fingerprint.{Fingerprint}
 use Rattle.dir_values.specs.Rosters.{has_member}
 use Rattle.vote_terms.specs.Votes.{ReadVote}
-use Rattle.vote_terms.specs.Held.{held, outranks, placed}
+use Rattle.vote_terms.specs.Held.{held, outranks, votes_with}
 use Rattle.consensus_terms.specs.declared.consensus.Consensus.{Consensus}
 use Rattle.consensus_terms.specs.declared.flavour.Flavour.{Flavour}
 use Rattle.consensus_terms.specs.declared.flavour.Flavour.TheVariants.{Ns, Microdesc}
@@ -101,12 +101,12 @@ had_stands newest roster acc s v h p m f o k =
 kept_stands : (newest : Newest) (roster : List Fingerprint) (acc : List ReadVote) (s : State) (v : ReadVote)
     → v.says.valid_after ≡ s.valid_after → has_member s.roster v.says.identity ≡ true
     → is_voting s.stage ≡ true → StandsAt newest roster acc s
-    → Stands newest roster (acc ++ v ∷ []) s.newest s.roster (placed s.votes v)
+    → Stands newest roster (acc ++ v ∷ []) s.newest s.roster (votes_with s.votes v)
     s.valid_after s.stage s.computed
 kept_stands newest roster acc s v p m voting k = record {
   newest_is = k.newest_is;
   roster_is = k.roster_is;
-  votes_is = ap (λ (l : List ReadVote). placed l v) k.votes_is ∙ sym (held_push acc v);
+  votes_is = ap (λ (l : List ReadVote). votes_with l v) k.votes_is ∙ sym (held_push acc v);
   wanted = wanted_more roster acc s.valid_after v p (in_roster s roster v.says.identity k.roster_is m) k.wanted;
   unset = k.unset;
   texts = λ c e. absurd (none_is c s.computed (k.unset (voting_is s.stage voting)) e);

@@ -33,7 +33,7 @@ use Rattle.period_laws.proofs.Rows.{begins}
 use Rattle.period_laws.proofs.Digests.{among_more}
 use Rattle.period_laws.proofs.Soundness.{Lined, SoundAt}
 use Rattle.period_laws.proofs.Soundness.{quiet}
-use Rattle.period_laws.proofs.StationSteps.{both}
+use Rattle.period_laws.proofs.StationSteps.{signed_is_own}
 
 -- ---- what a station signs
 
@@ -57,7 +57,7 @@ new_at s given o row x i = elim row [
   | signs c vote ns microdesc at is f g e ↦
       let there : In x (signs_both s.own s.valid_after s.computed) =
       subst (λ (y : Outcome Advance). In x (signs_at s y.answer)) e i in
-      let b = both s.own s.valid_after c x (subst (λ (y : Option Consensus). In x (signs_both s.own s.valid_after y))
+      let b = signed_is_own s.own s.valid_after c x (subst (λ (y : Option Consensus). In x (signs_both s.own s.valid_after y))
       is there) in
       record { own = b.0; period = b.1; stage = at; c = c; is = is; digest = b.2 }
   | publishes c at is h e ↦ absurd (none x (subst (λ (y : Outcome Advance). In x (signs_at s y.answer)) e i))

@@ -31,7 +31,7 @@ use Rattle.period_terms.specs.Histories.{IsStart, IsHistory, run, after}
 use Rattle.period_terms.specs.Keys.{signer_key}
 use Rattle.period_laws.specs.Periods.{IsAccepted}
 use Rattle.period_laws.specs.Checked.{IsChecked, AreChecked, anything, events_of}
-use Rattle.period_laws.specs.Publications.{of_flavour, PublishNone, moved, MayPublish, WasPublished}
+use Rattle.period_laws.specs.Publications.{of_flavour, PublishNone, advance_entry, MayPublish, WasPublished}
 use Rattle.period_laws.specs.Publications.{CurrentsWerePublished}
 use Rattle.period_laws.specs.Publications as publications
 use Rattle.period_laws.proofs.Accepted.{of_accepted, roster_stays}
@@ -49,7 +49,7 @@ record Found (s : State) (story : List Entry) (flavour : Flavour) (text : List �
   ns : Bool
   microdesc : Bool
   later : List Entry
-  is : story ≡ before ++ moved now given (moments.Published ns microdesc) ∷ later
+  is : story ≡ before ++ advance_entry now given (moments.Published ns microdesc) ∷ later
   of_it : of_flavour flavour ns microdesc ≡ true
   last : PublishNone flavour later
   c : Consensus
@@ -85,7 +85,7 @@ found_more s entry story flavour text f = record {
 -- an entry that publishes is the last one, where none later does
 found_here : (s : State) (now : ℕ) (given : Signing) (answer : Advance) (story : List Entry) (flavour : Flavour)
     (text : List ℕ) → answer ≡ (advance s now given).answer → Publishes s flavour text (advance s now given).answer
-    → PublishNone flavour story → Found s (moved now given answer ∷ story) flavour text
+    → PublishNone flavour story → Found s (advance_entry now given answer ∷ story) flavour text
 found_here s now given answer story flavour text is p none = record {
   before = [];
   now = now;
@@ -93,7 +93,7 @@ found_here s now given answer story flavour text is p none = record {
   ns = p.ns;
   microdesc = p.microdesc;
   later = story;
-  is = ap (λ (a : Advance). moved now given a ∷ story) (is ∙ p.answered);
+  is = ap (λ (a : Advance). advance_entry now given a ∷ story) (is ∙ p.answered);
   of_it = p.of_it;
   last = none;
   c = p.c;
@@ -107,27 +107,27 @@ found_here s now given answer story flavour text is p none = record {
 abbrev entry_with : Event → Answer → Entry
 entry_with event answer = record { event = event; answer = answer }
 
-one_more : (s : State) (event : Event) (answer : Answer) (story : List Entry) (flavour : Flavour) (text : List ℕ)
+published_or_current_before : (s : State) (event : Event) (answer : Answer) (story : List Entry) (flavour : Flavour) (text : List ℕ)
     → answer ≡ (step s event).answer → current_of flavour (step s event).after ≡ Some text
     → PublishNone flavour story → FoundOr s (entry_with event answer ∷ story) flavour text
-one_more s (Offered vote via now) answer story flavour text is h none =
+published_or_current_before s (Offered vote via now) answer story flavour text is h none =
     inr (
       sym (vote_leaves flavour s vote (offer s vote via now) (offering s vote via now)) ∙ h,
       (ap (λ (a : Answer). publications.publishes flavour a) is, none),
     )
-one_more s (Advanced now given) answer story flavour text is h none =
+published_or_current_before s (Advanced now given) answer story flavour text is h none =
     subst (λ (a : Answer). FoundOr s (entry_with (Advanced now given) a ∷ story) flavour text) (sym is)
     (⊎_elim
     (λ (p : Publishes s flavour text (advance s now given).answer).
     inl (found_here s now given (advance s now given).answer story flavour text refl p none))
     (λ q. inr (q.1, (q.0, none)))
     (of_moment flavour s text given (advance s now given) (advancing s now given) h))
-one_more s (SignedIn x) answer story flavour text is h none =
+published_or_current_before s (SignedIn x) answer story flavour text is h none =
     inr (
       sym (signature_leaves flavour s x (sign_in s x) (signing_in s x)) ∙ h,
       (ap (λ (a : Answer). publications.publishes flavour a) is, none),
     )
-one_more s Read answer story flavour text is h none =
+published_or_current_before s Read answer story flavour text is h none =
     inr (h, (ap (λ (a : Answer). publications.publishes flavour a) is, none))
 
 find_last : (story : List Entry) (s : State) (flavour : Flavour) (text : List ℕ) → IsHistory s story
@@ -135,7 +135,7 @@ find_last : (story : List Entry) (s : State) (flavour : Flavour) (text : List �
 find_last [] s flavour text k h = inr (h, tt)
 find_last (entry ∷ story) s flavour text k h =
     ⊎_elim (λ (f : Found (step s entry.event).after story flavour text). inl (found_more s entry story flavour text f))
-    (λ r. one_more s entry.event entry.answer story flavour text k.0 r.0 r.1)
+    (λ r. published_or_current_before s entry.event entry.answer story flavour text k.0 r.0 r.1)
     (find_last story (step s entry.event).after flavour text k.2 h)
 
 none_is : (text : List ℕ) (x : Option (List ℕ)) → x ≡ None → x ≡ Some text → ⊥
@@ -199,7 +199,7 @@ was_published rules start story begin checked flavour text f =
       };
       may = may_publish rules start f.before begin
           (front_checked rules start story f.before
-          (moved f.now f.given (moments.Published f.ns f.microdesc) ∷ f.later) f.is checked) flavour f.c f.computed;
+          (advance_entry f.now f.given (moments.Published f.ns f.microdesc) ∷ f.later) f.is checked) flavour f.c f.computed;
     }
 
 pub were_published : CurrentsWerePublished

@@ -73,7 +73,7 @@ both_now s a b m n f =
 
 moved_holds : (world : World) (member : Fingerprint) (s : State) (event : Event) → world.stations member ≡ Some s
     → may_come world.signed event ≡ true
-    → Holds world → Holds (w.moved world member s (step s event))
+    → Holds world → Holds (w.moved_world world member s (step s event))
 moved_holds world member s event at h k =
     let added = signs_in s (step s event).answer in
     let here = k.each member s at in
@@ -111,7 +111,7 @@ moved_holds world member s event at h k =
 
 came_by : (b : Bool) (world : World) (member : Fingerprint) (s : State) (event : Event) → world.stations member ≡ Some
     s → may_come world.signed event ≡ b
-    → Holds world → Holds (cond b (w.moved world member s (step s event)) world)
+    → Holds world → Holds (cond b (w.moved_world world member s (step s event)) world)
 came_by true world member s event at h k = moved_holds world member s event at h k
 came_by false world member s event at h k = k
 

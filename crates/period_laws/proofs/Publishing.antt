@@ -16,7 +16,7 @@ use Rattle.period_terms.specs.declared.signature.OfferedSignature.{OfferedSignat
 use Rattle.period_terms.specs.declared.stage.Stage.{Stage}
 use Rattle.period_terms.specs.declared.stage.Stage.TheVariants.{Voting, Frozen, Computed, Signed, Ended}
 use Rattle.period_terms.specs.declared.state.State.{State}
-use Rattle.period_terms.specs.States.{Outcome, unchanged, is_signed, signed_text}
+use Rattle.period_terms.specs.States.{Outcome, unchanged_outcome, is_signed, signed_text}
 use Rattle.period_terms.specs.Advances.{advance, advance_at, with_consensus, publish, publish_these}
 use Rattle.period_terms.specs.SignIns.{line_of, with_line}
 use Rattle.period_terms.specs.Steps.{moment_changes}
@@ -116,7 +116,7 @@ pub of_moment : (flavour : Flavour) (s : State) (text : List ℕ) (given : Signi
     → Advancing s given o → Stood s flavour text o
 of_moment flavour s text given o row = elim row [
   | stays answer e q ↦ subst (Stood s flavour text) (sym e)
-      (as_it_was flavour s text (unchanged s answer) refl (quiet flavour answer q))
+      (as_it_was flavour s text (unchanged_outcome s answer) refl (quiet flavour answer q))
   | freezes at e ↦ subst (Stood s flavour text) (sym e)
       (as_it_was flavour s text _ (currents flavour s _ refl refl) refl)
   | computes at n e ↦ subst (Stood s flavour text) (sym e)
@@ -163,7 +163,7 @@ signature_leaves flavour s x o row =
 -- the period had begun where something is published
 begun_by : (b : Bool) (s : State) (now : ℕ) (o : Outcome Advance) (ns microdesc : Bool)
     → nat_lt now s.valid_after ≡ b
-    → (cond b (unchanged s moments.Nothing) o).answer ≡ moments.Published ns microdesc → s.valid_after ≤ now
+    → (cond b (unchanged_outcome s moments.Nothing) o).answer ≡ moments.Published ns microdesc → s.valid_after ≤ now
 begun_by true s now o ns microdesc e h = absurd cc
 begun_by false s now o ns microdesc e h = omega (arith, ltb-false now s.valid_after e)
 

@@ -25,9 +25,9 @@ use Rattle.period_terms.specs.declared.stage.Stage.TheVariants.{Voting, Frozen, 
 use Rattle.period_terms.specs.declared.state.State.{State}
 use Rattle.vote_schedule.specs.Moments as schedule_moments
 use Rattle.period_terms.specs.Schedules.{cutoff_of, next_valid_after}
-use Rattle.period_terms.specs.States.{Outcome, unchanged, is_voting, is_ended, vote_of, has_key, consensus_of}
+use Rattle.period_terms.specs.States.{Outcome, unchanged_outcome, is_voting, is_ended, vote_of, has_key, consensus_of}
 use Rattle.period_terms.specs.States.{digest_of, lines_of, has_line, is_signed}
-use Rattle.period_terms.specs.Offers.{offer, keeping, compared, is_late, with_vote, most_vote_changes}
+use Rattle.period_terms.specs.Offers.{offer, kept_vote, compared_vote, is_late, with_vote, most_vote_changes}
 use Rattle.period_terms.specs.Advances as advances
 use Rattle.period_terms.specs.SignIns as sign_ins
 use Rattle.period_terms.specs.Steps.{offer_changes, moment_changes, sign_in_changes}
@@ -41,11 +41,11 @@ Beats s v = (held : ReadVote) → vote_of s.votes v.says.identity ≡ Some held 
 
 -- what may come of a vote
 pub data Offering (s : State) (v : ReadVote) (result : Outcome Offer) : Type 0 where
-  refused : (answer : Offer) → result ≡ unchanged s answer → offer_changes answer ≡ false → accepts answer ≡ false
+  refused : (answer : Offer) → result ≡ unchanged_outcome s answer → offer_changes answer ≡ false → accepts answer ≡ false
       → Offering s v result
   had : (answer : Offer) → (held : ReadVote) → v.says.valid_after ≡ s.valid_after → has_member s.roster
       v.says.identity ≡ true → vote_of s.votes v.says.identity ≡ Some held → outranks v held ≡ false
-      → result ≡ unchanged s answer → offer_changes answer ≡ false → accepts answer ≡ true → Offering s v result
+      → result ≡ unchanged_outcome s answer → offer_changes answer ≡ false → accepts answer ≡ true → Offering s v result
   kept : (answer : Offer) → v.says.valid_after ≡ s.valid_after → has_member s.roster v.says.identity ≡ true
       → is_voting s.stage ≡ true
       → nat_le most_vote_changes s.vote_changes ≡ false → Beats s v
@@ -60,7 +60,7 @@ record Open (s : State) (v : ReadVote) : Type 0 where
 
 keeping_by : (b : Bool) (s : State) (v : ReadVote) (answer : Offer) → Open s v → Beats s v → offer_changes answer ≡
     true → accepts answer ≡ true
-    → nat_le most_vote_changes s.vote_changes ≡ b → Offering s v (keeping s v answer)
+    → nat_le most_vote_changes s.vote_changes ≡ b → Offering s v (kept_vote s v answer)
 keeping_by true s v answer is beats c a e = refused offers.Full (rw e refl) refl refl
 keeping_by false s v answer is beats c a e = kept answer is.period is.member is.voting e beats (rw e refl) c a
 
@@ -76,12 +76,12 @@ none_held : (a : ReadVote) (found : Option ReadVote) → found ≡ None → foun
 none_held a found e f = absurd cc
 
 compared_by : (b c : Bool) (s : State) (v held : ReadVote) → Open s v → vote_of s.votes v.says.identity ≡ Some held
-    → outranks held v ≡ b → outranks v held ≡ c → Offering s v (compared s v (Some held))
+    → outranks held v ≡ b → outranks v held ≡ c → Offering s v (compared_vote s v (Some held))
 compared_by true c s v held is f e g = had (offers.Older (rank_of held)) held is.period is.member f
     (not_both held v e) (rw e refl) refl refl
 compared_by false true s v held is f e g =
     let P : Outcome Offer → Type 0 = λ o. Offering s v o in
-    let same : keeping s v (offers.Replaced (s.front + 1) (rank_of held)) ≡ compared s v (Some held) = rw (e, g) refl in
+    let same : kept_vote s v (offers.Replaced (s.front + 1) (rank_of held)) ≡ compared_vote s v (Some held) = rw (e, g) refl in
     subst P same (keeping_by _ s v (offers.Replaced (s.front + 1) (rank_of held)) is
     (λ other h. subst (λ (x : ReadVote). outranks v x ≡ true)
     (same_vote held other (vote_of s.votes v.says.identity) f h) g) refl refl refl)
@@ -89,7 +89,7 @@ compared_by false false s v held is f e g = had (offers.Have (rank_of held)) hel
     (rw (e, g) refl) refl refl
 
 with_held : (s : State) (v : ReadVote) (held : Option ReadVote) → vote_of s.votes v.says.identity ≡ held → Open s v
-    → Offering s v (compared s v held)
+    → Offering s v (compared_vote s v held)
 with_held s v None f is = keeping_by _ s v (offers.Kept (s.front + 1)) is
     (λ other h. absurd (none_held other (vote_of s.votes v.says.identity) f h)) refl refl refl
 with_held s v (Some held) f is = compared_by _ _ s v held is f refl refl
@@ -98,8 +98,8 @@ with_held s v (Some held) f is = compared_by _ _ s v held is f refl refl
 late_by : (c : Bool) (s : State) (v : ReadVote) (via : Via) (now : ℕ) → v.says.valid_after ≡ s.valid_after
     → has_member s.roster v.says.identity ≡ true
     → is_late s via now ≡ c
-    → Offering s v (cond (is_late s via now) (unchanged s (offers.Late now (cutoff_of via s.schedule s.valid_after)
-    (not (is_voting s.stage)))) (compared s v (vote_of s.votes v.says.identity)))
+    → Offering s v (cond (is_late s via now) (unchanged_outcome s (offers.Late now (cutoff_of via s.schedule s.valid_after)
+    (not (is_voting s.stage)))) (compared_vote s v (vote_of s.votes v.says.identity)))
 late_by true s v via now p m e = refused (offers.Late now (cutoff_of via s.schedule s.valid_after)
     (not (is_voting s.stage))) (rw e refl) refl refl
 late_by false s v via now p m e =
@@ -130,7 +130,7 @@ offering s v via now = offering_by _ _ s v via now refl refl
 
 -- what may come of a moment
 pub data Advancing (s : State) (given : Signing) (result : Outcome Advance) : Type 0 where
-  stays : (answer : Advance) → result ≡ unchanged s answer → moment_changes answer ≡ false → Advancing s given result
+  stays : (answer : Advance) → result ≡ unchanged_outcome s answer → moment_changes answer ≡ false → Advancing s given result
   freezes : s.stage ≡ Voting → result ≡ advances.freeze s → Advancing s given result
   computes : s.stage ≡ Frozen → over (length s.votes) (length s.roster) ≡ true → result ≡ advances.compute s
       (consensus_of s) → Advancing s given result
@@ -215,7 +215,7 @@ advancing s now given = advancing_at s.stage s now given refl
 
 -- what may come of a signature
 pub data SigningIn (s : State) (signature : OfferedSignature) (result : Outcome SignIn) : Type 0 where
-  refuses : (answer : SignIn) → result ≡ unchanged s answer → sign_in_changes answer ≡ false → SigningIn s signature
+  refuses : (answer : SignIn) → result ≡ unchanged_outcome s answer → sign_in_changes answer ≡ false → SigningIn s signature
       result
   keeps : (c : Consensus) → signature.valid_after ≡ s.valid_after → s.computed ≡ Some c
       → signature.digest ≡ digest_of signature.flavour c → has_key s.votes signature.authority signature.key ≡ true

@@ -194,11 +194,11 @@ of_moment may_give rules Told own s given o row may k =
 
 -- ---- a signature
 
-one_more : (Told : Telling) (s : State) (flavour : Flavour) (lines : List SignatureLine) (one : SignatureLine)
+one_more_line_is_good : (Told : Telling) (s : State) (flavour : Flavour) (lines : List SignatureLine) (one : SignatureLine)
     → Good Told s.votes s.computed flavour one
     → ((line : SignatureLine) → In line lines → Good Told s.votes s.computed flavour line)
     → (line : SignatureLine) → In line (lines ++ one ∷ []) → Good Told s.votes s.computed flavour line
-one_more Told s flavour lines one good k line i =
+one_more_line_is_good Told s flavour lines one good k line i =
     ⊎_elim (λ (j : In line lines). k line j)
     (λ j. ⊎_elim (λ (e : line ≡ one). subst (λ (x : SignatureLine). Good Told s.votes s.computed flavour x)
     (sym e) good) (λ n. absurd n) j)
@@ -209,13 +209,13 @@ line_good : (Told : Telling) (s : State) (flavour : Flavour) (line : SignatureLi
     → SoundAt Told s → SoundAt Told (with_line flavour line s)
 line_good Told s Ns line good k = record {
   unset = k.unset;
-  ns_lines = one_more Told s Ns s.ns_lines line good k.ns_lines;
+  ns_lines = one_more_line_is_good Told s Ns s.ns_lines line good k.ns_lines;
   micro_lines = k.micro_lines;
 }
 line_good Told s Microdesc line good k = record {
   unset = k.unset;
   ns_lines = k.ns_lines;
-  micro_lines = one_more Told s Microdesc s.micro_lines line good k.micro_lines;
+  micro_lines = one_more_line_is_good Told s Microdesc s.micro_lines line good k.micro_lines;
 }
 
 pub of_signature : (Told : Telling) (s : State) (x : OfferedSignature) (o : Outcome SignIn) → SigningIn s x o

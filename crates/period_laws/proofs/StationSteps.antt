@@ -39,9 +39,9 @@ use Rattle.period_laws.proofs.Soundness.{has_signed, Lined, Sound, SoundAt, line
 use Rattle.period_laws.proofs.Soundness.{nothing_more, no_claim, goes_on, Keeps, quiet, computes_it, begins_it}
 
 -- both digests are signed
-pub both : (own : Fingerprint) (v : ℕ) (c : Consensus) (x : SignedDigest) → In x (signs_both own v (Some c))
+pub signed_is_own : (own : Fingerprint) (v : ℕ) (c : Consensus) (x : SignedDigest) → In x (signs_both own v (Some c))
     → (x.authority ≡ own) × (x.period ≡ v) × (x.digest ≡ digest_of x.flavour c)
-both own v c x i =
+signed_is_own own v c x i =
     ⊎_elim
     (λ (e : x ≡ signed_by own Ns v (digest_of Ns c)). rw e (refl, refl, refl))
     (λ j. ⊎_elim (λ (e : x ≡ signed_by own Microdesc v (digest_of Microdesc c)). rw e (refl, refl, refl))
@@ -86,7 +86,7 @@ signs_it roster signed member s c key ns microdesc at is k =
       unset = λ e. absurd (false≢true (sym e));
       claims = λ x i e. ⊎_elim
           (λ (j : In x signed). inl (no_claim s.stage s.valid_after s.computed x (ap has_signed at) (k.claims x j e)))
-          (λ (j : In x (signs_both s.own s.valid_after (Some c))). let b = both s.own s.valid_after c x j in inr
+          (λ (j : In x (signs_both s.own s.valid_after (Some c))). let b = signed_is_own s.own s.valid_after c x j in inr
           (record { period = b.1; signed = refl; c = c; is = is; digest = b.2 }))
           (in_either signed more x i);
       ns_lines = with_own signed more s.valid_after s.computed c Ns s.ns_lines (own_line Ns s.own key ns) is

@@ -62,8 +62,8 @@ PublishNone flavour [] = Unit {0}
 PublishNone flavour (entry ∷ entries) = (publishes flavour entry.answer ≡ false) × PublishNone flavour entries
 
 -- an advance of a station and its answer
-abbrev pub moved : ℕ → Signing → Advance → Entry
-moved now given answer = record { event = Advanced now given; answer = answers.Moment answer }
+abbrev pub advance_entry : ℕ → Signing → Advance → Entry
+advance_entry now given answer = record { event = Advanced now given; answer = answers.Moment answer }
 
 -- The text of a flavour is that of the last publication in a history.
 pub record IsLastPublished (start : State) (story : List Entry) (flavour : Flavour) (text : List ℕ) : Type 0 where
@@ -74,7 +74,7 @@ pub record IsLastPublished (start : State) (story : List Entry) (flavour : Flavo
   pub microdesc : Bool
   pub later : List Entry
   -- the history has it, and later ones not of this flavour
-  pub is : story ≡ before ++ moved now given (moments.Published ns microdesc) ∷ later
+  pub is : story ≡ before ++ advance_entry now given (moments.Published ns microdesc) ∷ later
   pub of_it : of_flavour flavour ns microdesc ≡ true
   pub last : PublishNone flavour later
   -- what was computed then, and the signatures that were held then

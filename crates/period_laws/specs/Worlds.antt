@@ -158,8 +158,8 @@ abbrev pub with_station : (Fingerprint → Option State) → Fingerprint → Sta
 with_station stations member state other = if same_identity other member then Some state else stations other
 
 -- the world after an outcome at a member's station
-abbrev pub moved : World → Fingerprint → State → Outcome Answer → World
-moved world member state outcome = record {
+abbrev pub moved_world : World → Fingerprint → State → Outcome Answer → World
+moved_world world member state outcome = record {
   roster = world.roster;
   stations = with_station world.stations member outcome.after;
   signed = world.signed ++ signs_in state outcome.answer;
@@ -170,7 +170,7 @@ moved world member state outcome = record {
 abbrev pub came : World → Fingerprint → Event → Option State → World
 came world member event None = world
 came world member event (Some state) =
-    if may_come world.signed event then moved world member state (step state event) else world
+    if may_come world.signed event then moved_world world member state (step state event) else world
 
 -- the world after something was signed by a member, unless that has a station
 abbrev pub signed_elsewhere : World → SignedDigest → World

@@ -8,7 +8,7 @@ use Rattle.atomic_table.specs.Table.{Me}
 use Rattle.period_lock.specs.declared.rule.View.{View}
 use Rattle.period_lock.specs.declared.rule.Part.{Part}
 use Rattle.period_lock.specs.Turns.{Lock, Knowledge, AreDealt, newcomer}
-use Rattle.period_lock.specs.Kept.{IsFree, fresh_part, fresh_parts, gathered, without_first, first_of}
+use Rattle.period_lock.specs.Kept.{IsFree, fresh_part, fresh_parts, gathered_view, without_first, first_of}
 
 module _ {A : Type 0} where
   get_front : (xs : List A) (x : A) (k : ℕ) (y : A) → slice_get xs k ≡ Some y → slice_get (xs ++ x ∷ []) k ≡ Some y
@@ -46,23 +46,23 @@ module _ {S X : Type 0} (lock : Lock S) where
 module _ {T S X : Type 0} (start : S) where
   -- the seat that was split off
   pub given_away : (own : Part X) (from left rest : ℕ) (me given : Me T (View S X))
-      → me ≡ (gathered start own (fresh_parts from left), []) → left ≡ suc rest → given ≡ (first_of me.0, [])
+      → me ≡ (gathered_view start own (fresh_parts from left), []) → left ≡ suc rest → given ≡ (first_of me.0, [])
       → IsFree start (fresh_part from) given
   given_away own from left rest me given is more part =
       part ∙ ap (λ (m : Me T (View S X)). (first_of m.0, []))
-      (is ∙ ap (λ (n : ℕ). (gathered start own (fresh_parts from n), [])) more)
+      (is ∙ ap (λ (n : ℕ). (gathered_view start own (fresh_parts from n), [])) more)
 
   -- the seat that it was split from
   pub left_over : (own : Part X) (from left next rest : ℕ) (me after : Me T (View S X))
-      → me ≡ (gathered start own (fresh_parts from left), []) → left ≡ suc rest → suc from ≡ next
+      → me ≡ (gathered_view start own (fresh_parts from left), []) → left ≡ suc rest → suc from ≡ next
       → after ≡ (without_first me.0, me.1)
-      → after ≡ (gathered start own (fresh_parts next rest), [])
+      → after ≡ (gathered_view start own (fresh_parts next rest), [])
   left_over own from left next rest me after is more one part =
       part ∙ ap (λ (m : Me T (View S X)). (without_first m.0, m.1))
-      (is ∙ ap (λ (n : ℕ). (gathered start own (fresh_parts from n), [])) more)
-      ∙ ap (λ (n : ℕ). (gathered start own (fresh_parts n rest), [])) one
+      (is ∙ ap (λ (n : ℕ). (gathered_view start own (fresh_parts from n), [])) more)
+      ∙ ap (λ (n : ℕ). (gathered_view start own (fresh_parts n rest), [])) one
 
   -- the seat when all parts but its own are given away
   pub last_one : (own : Part X) (from left : ℕ) (me : Me T (View S X))
-      → me ≡ (gathered start own (fresh_parts from left), []) → left ≡ 0 → IsFree start own me
-  last_one own from left me is none_left = is ∙ ap (λ (n : ℕ). (gathered start own (fresh_parts from n), [])) none_left
+      → me ≡ (gathered_view start own (fresh_parts from left), []) → left ≡ 0 → IsFree start own me
+  last_one own from left me is none_left = is ∙ ap (λ (n : ℕ). (gathered_view start own (fresh_parts from n), [])) none_left

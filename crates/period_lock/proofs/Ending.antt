@@ -17,7 +17,7 @@ use Rattle.atomic_table.specs.Table.{State, Seen, Final}
 use Rattle.period_lock.specs.declared.rule.View.{View}
 use Rattle.period_lock.specs.declared.rule.Part.{Part}
 use Rattle.period_lock.specs.Turns.{Lock, Knowledge, EndsIn, entries_by}
-use Rattle.period_lock.specs.Kept.{IsPartOf, Kept, IsHome, IsOut, gathered, parts_of, parts_from, part_of, times}
+use Rattle.period_lock.specs.Kept.{IsPartOf, Kept, IsHome, IsOut, gathered_view, parts_of, parts_from, part_of, times}
 use Rattle.period_lock.proofs.Sums.{two_at_most_sum, sum_at_one}
 use Rattle.period_lock.proofs.Entries.{one_if_same, one_if_apart, count_of, count_cons}
 use Rattle.period_lock.proofs.Views.{not_both}
@@ -101,13 +101,13 @@ module _ {T S X : Type 0} (stands : T → S → List X → Type 0) (front : ℕ)
 
   -- the turn is free where one seat without it has all parts
   is_home : (by : ℕ) (own : Part X) (others : List (Part X)) (s : State (Option T) (View S X))
-      (k : Kept stands front lock.start lock.passes s) → get_elem? s.views by ≡ some (gathered lock.start own others)
+      (k : Kept stands front lock.start lock.passes s) → get_elem? s.views by ≡ some (gathered_view lock.start own others)
       → lock.passes ≤ length (own ∷ others) → IsHome stands lock.start k.log s
   is_home by own others s k at most =
       ⊎_elim
       (λ (home : IsHome stands lock.start k.log s). home)
       (λ (out : IsOut k.log s).
-      let v : View S X = gathered lock.start own others in
+      let v : View S X = gathered_view lock.start own others in
       let apart : out.holder ≢ by = λ same. not_both false refl
       (ap (λ (u : View S X). u.holds)
       (some-injective v out.view (sym at ∙ subst (λ (n : ℕ). get_elem? s.views n ≡ some out.view) same out.there))
@@ -126,25 +126,25 @@ module _ {T S X : Type 0} (stands : T → S → List X → Type 0) (front : ℕ)
 
   -- each number below the count stands in one of its parts
   each_once : (by : ℕ) (own : Part X) (others : List (Part X)) (s : State (Option T) (View S X))
-      (k : Kept stands front lock.start lock.passes s) → get_elem? s.views by ≡ some (gathered lock.start own others)
+      (k : Kept stands front lock.start lock.passes s) → get_elem? s.views by ≡ some (gathered_view lock.start own others)
       → lock.passes ≤ length (own ∷ others) → (n : ℕ) → n < lock.passes → count_of n (own ∷ others) ≡ 1
   each_once by own others s k at most n below =
-      sym (sum_at_one size (times n) (λ u. none_counted n (parts_of u)) s.views by (gathered lock.start own others) at
+      sym (sum_at_one size (times n) (λ u. none_counted n (parts_of u)) s.views by (gathered_view lock.start own others) at
       (omega (arith, k.total, most))) ∙ k.once n below
 
   -- what the slot has when the table is closed, and the list that it stands for
-  pub ends : (by : ℕ) (own : Part X) (others : List (Part X)) (passes : List (Knowledge S X)) (words : List ℕ)
+  pub closed_slot_ends_in_value : (by : ℕ) (own : Part X) (others : List (Part X)) (passes : List (Knowledge S X)) (words : List ℕ)
       (slots : List (Option T)) (found : Option T)
-      → Final (Seen (Kept stands front lock.start lock.passes) by (gathered lock.start own others)) words slots
+      → Final (Seen (Kept stands front lock.start lock.passes) by (gathered_view lock.start own others)) words slots
       → own ∷ others ≡ map part_of passes → lock.passes ≤ length (own ∷ others) → get_elem? slots 0 ≡ some found
       → (value : T) × (found ≡ Some value) × EndsIn stands lock passes value
-  ends by own others passes words slots found final is most there =
+  closed_slot_ends_in_value by own others passes words slots found final is most there =
       let s = final.0 in
       let k : Kept stands front lock.start lock.passes s = final.1.0 in
       let home : IsHome stands lock.start k.log s = is_home by own others s k final.1.1 most in
       let fits : AllByRecursion (IsPartOf k.log lock.passes) (map part_of passes) =
       subst (λ (l : List (Part X)). AllByRecursion (IsPartOf k.log lock.passes) l) is
-      (k.fits by (gathered lock.start own others) final.1.1).parts in
+      (k.fits by (gathered_view lock.start own others) final.1.1).parts in
       let once : (n : ℕ) → n < lock.passes → count_of n (map part_of passes) ≡ 1 =
       λ n below. ap (λ (l : List (Part X)). count_of n l) (sym is)
       ∙ each_once by own others s k final.1.1 most n below in
@@ -166,7 +166,7 @@ module _ {T S X : Type 0} (stands : T → S → List X → Type 0) (front : ℕ)
   pub ends_with : (by : ℕ) (all first : View S X) (left passes : List (Knowledge S X)) (pass : Knowledge S X)
       (words : List ℕ) (slots : List (Option T)) (found : Option T)
       → Final (Seen (Kept stands front lock.start lock.passes) by all) words slots
-      → all ≡ gathered lock.start all.own all.others → all.own ∷ all.others ≡ map part_of
+      → all ≡ gathered_view lock.start all.own all.others → all.own ∷ all.others ≡ map part_of
       left ++ first.own ∷ first.others
       → first.own ≡ part_of pass → first.others ≡ [] → passes ≡ left ++ pass ∷ [] → lock.passes ≤ length passes
       → get_elem? slots 0 ≡ some found
@@ -175,7 +175,7 @@ module _ {T S X : Type 0} (stands : T → S → List X → Type 0) (front : ℕ)
       let whole_list : all.own ∷ all.others ≡ map part_of passes =
       parts ∙ (λ i. map part_of left ++ own i ∷ alone i) ∙ parts_shift passes left pass [] is
       ∙ append-nil (map part_of passes) in
-      ends by all.own all.others passes words slots found
+      closed_slot_ends_in_value by all.own all.others passes words slots found
       (subst (λ (v : View S X). Final (Seen (Kept stands front lock.start lock.passes) by v) words slots) seat
       final) whole_list
       (omega (arith, most, ap length whole_list, length-map passes part_of)) there

@@ -12,7 +12,7 @@ use mathlib.Core.Logic.{dite}
 use native.Mathlib.Decide.{ℕ_discrete}
 use Rattle.period_lock.specs.declared.rule.Part.{Part}
 use Rattle.period_lock.specs.Turns.{entries, entries_by, entry_by}
-use Rattle.period_lock.specs.Kept.{IsPartOf, grown}
+use Rattle.period_lock.specs.Kept.{IsPartOf, grown_part}
 
 -- 1 where the numbers are the same
 abbrev pub one_if : ℕ → ℕ → ℕ
@@ -70,7 +70,7 @@ module _ {X : Type 0} where
 
   -- the part that adds an entry, where it has seen all
   pub part_grown : (count : ℕ) (log : List (ℕ × X)) (e : Option X) (part : Part X) → part.seen ≡ log
-      → IsPartOf log count part → IsPartOf (log ++ entry_by part.number e) count (grown e part)
+      → IsPartOf log count part → IsPartOf (log ++ entry_by part.number e) count (grown_part e part)
   part_grown count log e part all fits = record {
     number = fits.number;
     seen = (

@@ -8,7 +8,7 @@ use Rattle.atomic_table.specs.Table.{Me}
 use Rattle.period_lock.specs.declared.rule.View.{View}
 use Rattle.period_lock.specs.declared.rule.Part.{Part}
 use Rattle.period_lock.specs.Turns.{Knowledge}
-use Rattle.period_lock.specs.Kept.{IsFree, IsIdle, gathered, joined, part_of}
+use Rattle.period_lock.specs.Kept.{IsFree, IsIdle, gathered_view, joined_view, part_of}
 
 module _ {S X : Type 0} where
   -- what is said of each pass is said of the last one and of the others
@@ -31,6 +31,6 @@ module _ {T S X : Type 0} (start : S) where
 
   -- a free seat that got the parts of another
   pub joined_is : (own first : Part X) (more : List (Part X)) (me all after : Me T (View S X)) → IsFree start own me
-      → all ≡ (gathered start first more, []) → after ≡ (joined me.0 all.0, me.1)
-      → after ≡ (gathered start own (first ∷ more), [])
-  joined_is own first more me all after free others is = is ∙ (λ i. (joined (free i).0 (others i).0, (free i).1))
+      → all ≡ (gathered_view start first more, []) → after ≡ (joined_view me.0 all.0, me.1)
+      → after ≡ (gathered_view start own (first ∷ more), [])
+  joined_is own first more me all after free others is = is ∙ (λ i. (joined_view (free i).0 (others i).0, (free i).1))

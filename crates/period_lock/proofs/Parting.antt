@@ -13,8 +13,8 @@ use Rattle.atomic_table.specs.Table.{opening, Splits, Joins}
 use Rattle.atomic_table.proofs.Lists.{set_else}
 use Rattle.period_lock.specs.declared.rule.View.{View}
 use Rattle.period_lock.specs.declared.rule.Part.{Part}
-use Rattle.period_lock.specs.Kept.{IsPartOf, Fits, Kept, fresh_part, fresh_parts, first_view, gathered, seated, spent}
-use Rattle.period_lock.specs.Kept.{joined, without_first, first_of, parts_of, times}
+use Rattle.period_lock.specs.Kept.{IsPartOf, Fits, Kept, fresh_part, fresh_parts, first_view, gathered_view, seated_view, spent}
+use Rattle.period_lock.specs.Kept.{joined_view, without_first, first_of, parts_of, times}
 use Rattle.period_lock.proofs.Sums.{sum_set}
 use Rattle.period_lock.proofs.Entries.{one_if, one_if_same, one_if_apart, count_of, count_cons}
 use Rattle.period_lock.proofs.TurnWords.{some_is}
@@ -112,9 +112,9 @@ module _ (X : Type 0) where
           )
 
 module _ {T S X : Type 0} (stands : T → S → List X → Type 0) (front : ℕ) (start : S) (count : ℕ) where
-  pub begins : (value : T) (n : ℕ) → 0 < count → n ≡ front → stands value start []
+  pub opening_is_kept : (value : T) (n : ℕ) → 0 < count → n ≡ front → stands value start []
       → Kept stands front start count (opening (n ∷ 0 ∷ []) (Some value ∷ []) (first_view start count))
-  begins value n any is meets = record {
+  opening_is_kept value n any is meets = record {
     log = [];
     words = refl;
     counted = omega (arith, is);
@@ -143,12 +143,12 @@ module _ {T S X : Type 0} (stands : T → S → List X → Type 0) (front : ℕ)
 
   -- the first of the parts beside a seat's own goes to a new seat
   pub parts_split : (by : ℕ) (own first : Part X) (others : List (Part X))
-      → Splits (Kept stands front start count) by (gathered start own (first ∷ others)) (gathered start own others)
-      (seated start false first)
+      → Splits (Kept stands front start count) by (gathered_view start own (first ∷ others)) (gathered_view start own others)
+      (seated_view start false first)
   parts_split by own first others s k at =
-      let v : View S X = gathered start own (first ∷ others) in
-      let left : View S X = gathered start own others in
-      let right : View S X = seated start false first in
+      let v : View S X = gathered_view start own (first ∷ others) in
+      let left : View S X = gathered_view start own others in
+      let right : View S X = seated_view start false first in
       let fit = (k.fits by v at).parts in
       let size : View S X → ℕ = λ u. length (parts_of u) in
       record {
@@ -178,12 +178,12 @@ module _ {T S X : Type 0} (stands : T → S → List X → Type 0) (front : ℕ)
 
   -- a seat gets all parts of another
   pub parts_join : (by : ℕ) (own : Part X) (others : List (Part X)) (other : ℕ) (first : Part X) (more : List (Part X))
-      → Joins (Kept stands front start count) by (gathered start own others) other (gathered start first more)
-      (gathered start own (others ++ first ∷ more)) spent
+      → Joins (Kept stands front start count) by (gathered_view start own others) other (gathered_view start first more)
+      (gathered_view start own (others ++ first ∷ more)) spent
   parts_join by own others other first more s k at apart there =
-      let v : View S X = gathered start own others in
-      let w : View S X = gathered start first more in
-      let both : View S X = gathered start own (others ++ first ∷ more) in
+      let v : View S X = gathered_view start own others in
+      let w : View S X = gathered_view start first more in
+      let both : View S X = gathered_view start own (others ++ first ∷ more) in
       let was : get_elem? s.views other ≡ some w = sym (set_else s.views by other both apart) ∙ there in
       let mine = (k.fits by v at).parts in
       let theirs = (k.fits other w was).parts in
@@ -227,7 +227,7 @@ module _ {T S X : Type 0} (stands : T → S → List X → Type 0) (front : ℕ)
 
   -- a seat that has the fresh parts from a number on gives the first of them away
   pub split_allowed : (by : ℕ) (v : View S X) (own : Part X) (from left : ℕ)
-      → v ≡ gathered start own (fresh_parts from left) → 0 < left
+      → v ≡ gathered_view start own (fresh_parts from left) → 0 < left
       → Splits (Kept stands front start count) by v (without_first v) (first_of v)
   split_allowed by v own from zero is any = absurd (omega (arith, any))
   split_allowed by v own from (suc left) is any =
@@ -235,8 +235,8 @@ module _ {T S X : Type 0} (stands : T → S → List X → Type 0) (front : ℕ)
       (parts_split by own (fresh_part from) (fresh_parts (suc from) left))
 
   pub join_allowed : (by : ℕ) (v : View S X) (own : Part X) (other : ℕ) (w : View S X) (first : Part X)
-      (more : List (Part X)) → v ≡ seated start false own → w ≡ gathered start first more
-      → Joins (Kept stands front start count) by v other w (joined v w) spent
+      (more : List (Part X)) → v ≡ seated_view start false own → w ≡ gathered_view start first more
+      → Joins (Kept stands front start count) by v other w (joined_view v w) spent
   join_allowed by v own other w first more is was =
-      subst (λ (x : View S X × View S X). Joins (Kept stands front start count) by x.0 other x.1 (joined x.0 x.1)
+      subst (λ (x : View S X × View S X). Joins (Kept stands front start count) by x.0 other x.1 (joined_view x.0 x.1)
       spent) (λ i. (sym is i, sym was i)) (parts_join by own [] other first more)

@@ -8,7 +8,7 @@ use lib.ListN.{get_elem?}
 use Rattle.period_lock.specs.declared.rule.View.{View}
 use Rattle.period_lock.specs.declared.rule.Part.{Part}
 use Rattle.period_lock.specs.Turns.{entry_by}
-use Rattle.period_lock.specs.Kept.{IsPartOf, Fits, seated, parts_of, times}
+use Rattle.period_lock.specs.Kept.{IsPartOf, Fits, seated_view, parts_of, times}
 use Rattle.period_lock.proofs.Entries.{parts_apart}
 
 pub some_is : {S : Type 0} (a b : S) → Some a ≡ Some b → a ≡ b
@@ -47,7 +47,7 @@ small_word n m same below = mod-eq_of_lt (omega (arith, same, below)) ∙ same
 
 module _ {S X : Type 0} (start : S) where
   pub fits_seated : (log : List (ℕ × X)) (count : ℕ) (holds : Bool) (own : Part X) → IsPartOf log count own
-      → Fits start log count (seated start holds own)
+      → Fits start log count (seated_view start holds own)
   fits_seated log count holds own part = record
       { start_is = λ s e. sym (some_is start s e); parts = (part, tt); live = λ _. refl }
 

@@ -14,7 +14,7 @@ use Rattle.period_lock.specs.declared.rule.View.{View}
 use Rattle.period_lock.specs.declared.rule.Part.{Part}
 use Rattle.period_lock.specs.Turns.{entries, entry_by}
 use Rattle.period_lock.specs.Kept.{IsPartOf, Fits, IsHome, IsOut, Kept, Takes, Tries, Counts, Gives, IsFree}
-use Rattle.period_lock.specs.Kept.{IsHolding, seated, grown, parts_of, times}
+use Rattle.period_lock.specs.Kept.{IsHolding, seated_view, grown_part, parts_of, times}
 use Rattle.period_lock.proofs.Sums.{sum_same, two_at_most_sum}
 use Rattle.period_lock.proofs.Entries.{length-entry_by, numbered_after, part_grown}
 use Rattle.period_lock.proofs.Views.{not_both, not_true, each_set}
@@ -24,13 +24,13 @@ use Rattle.period_lock.proofs.TurnWords.{second_again, small_word, fits_seated, 
 module _ {T S X : Type 0} (stands : T → S → List X → Type 0) (front : ℕ) (start : S) (count : ℕ) where
   -- the turn was free
   take_goes : (by : ℕ) (own : Part X) (s : State (Option T) (View S X)) (k : Kept stands front start count s)
-      → IsHome stands start k.log s → get_elem? s.views by ≡ some (seated start false own)
+      → IsHome stands start k.log s → get_elem? s.views by ≡ some (seated_view start false own)
       → (w : View S X) × (a : Act (Option T)) × Valid s.homes [] a × Kept stands front start count
-      (stepped s 1 1 by [] w a) × Takes stands (seated start false own, []) (w, carried_after [] a)
+      (stepped s 1 1 by [] w a) × Takes stands (seated_view start false own, []) (w, carried_after [] a)
   take_goes by own s k home at =
-      let v : View S X = seated start false own in
+      let v : View S X = seated_view start false own in
       let mine : IsPartOf k.log count own = (k.fits by v at).parts.0 in
-      let w : View S X = seated start true (record own { seen = k.log }) in
+      let w : View S X = seated_view start true (record own { seen = k.log }) in
       let fit : Fits start k.log count w = fits_seated start k.log count true (record own { seen = k.log }) record
       { number = mine.number; seen = ([], append-nil k.log); mine = mine.mine } in (
         w,
@@ -94,29 +94,29 @@ module _ {T S X : Type 0} (stands : T → S → List X → Type 0) (front : ℕ)
       (λ (m : Me (Option T) (View S X)). Allows (Kept stands front start count) 1 by m 1 (λ n. either (eqb n 0) 1 n)
       (Tries stands m)) (sym free) goes
     where
-      goes : Allows (Kept stands front start count) 1 by (seated start false own, []) 1 (λ n. either (eqb n 0) 1 n)
-          (Tries stands (seated start false own, []))
+      goes : Allows (Kept stands front start count) 1 by (seated_view start false own, []) 1 (λ n. either (eqb n 0) 1 n)
+          (Tries stands (seated_view start false own, []))
       goes s k one at fits =
           ⊎_elim
           (λ (home : IsHome stands start k.log s). let t = take_goes by own s k home at in rw home.word
           (t.0, t.1, t.2, t.3, t.4))
-          (λ (out : IsOut k.log s). let t = stay_goes by (seated start false own) s k out at in rw out.word
+          (λ (out : IsOut k.log s). let t = stay_goes by (seated_view start false own) s k out at in rw out.word
           (t.0, t.1, t.2, t.3, t.4))
           k.place
 
-  own_times : (n : ℕ) (own : Part X) (holds : Bool) → own.number ≡ n → times n (seated start holds own) ≡ 1
+  own_times : (n : ℕ) (own : Part X) (holds : Bool) → own.number ≡ n → times n (seated_view start holds own) ≡ 1
   own_times n own holds same = rw (eq-eqb own.number n same) refl
 
   count_goes : (by : ℕ) (own : Part X) (slot : Option T) (e : Option X) (changes : ℕ)
       (s : State (Option T) (View S X)) (k : Kept stands front start count s) → IsOut k.log s
-      → get_elem? s.views by ≡ some (seated start true own)
+      → get_elem? s.views by ≡ some (seated_view start true own)
       → changes ≡ length (option_to_list e) → front + length own.seen + changes < 2 ^ 64
       → Kept stands front start count
-      (stepped s 0 ((slice_index s.words 0 + changes) % 2 ^ 64) by ((0, slot) ∷ []) (seated start true (grown e own))
+      (stepped s 0 ((slice_index s.words 0 + changes) % 2 ^ 64) by ((0, slot) ∷ []) (seated_view start true (grown_part e own))
       keeps)
   count_goes by own slot e changes s k out at is room =
-      let v : View S X = seated start true own in
-      let w : View S X = seated start true (grown e own) in
+      let v : View S X = seated_view start true own in
+      let w : View S X = seated_view start true (grown_part e own) in
       let all : own.seen ≡ k.log = (out.knows by v at refl).1 in
       let here : by ≡ out.holder = (out.knows by v at refl).0 in
       let mine : IsPartOf k.log count own = (k.fits by v at).parts.0 in
@@ -126,7 +126,7 @@ module _ {T S X : Type 0} (stands : T → S → List X → Type 0) (front : ℕ)
       let now : slice_index s.words 0 + changes ≡ front + length log = omega (arith, k.counted, long) in
       let small : (slice_index s.words 0 + changes) % 2 ^ 64 ≡ front + length log = small_word
       (slice_index s.words 0 + changes) (front + length log) now (omega (arith, long, ap length all, room)) in
-      let fit : Fits start log count w = fits_seated start log count true (grown e own)
+      let fit : Fits start log count w = fits_seated start log count true (grown_part e own)
       (part_grown count k.log e own all mine) in
       record {
         log = log;
@@ -160,12 +160,12 @@ module _ {T S X : Type 0} (stands : T → S → List X → Type 0) (front : ℕ)
     where
       -- no other seat has a part of this number
       alone_with : (by : ℕ) (own : Part X) (s : State (Option T) (View S X)) (k : Kept stands front start count s)
-          → get_elem? s.views by ≡ some (seated start true own) → own.number < count
+          → get_elem? s.views by ≡ some (seated_view start true own) → own.number < count
           → (j : ℕ) (u : View S X) → j ≢ by → get_elem? s.views j ≡ some u → times own.number u ≡ 0
       alone_with by own s k at below j u apart there =
           omega (
             arith,
-            two_at_most_sum (times own.number) s.views j by u (seated start true own) apart there at,
+            two_at_most_sum (times own.number) s.views j by u (seated_view start true own) apart there at,
             own_times own.number own true refl,
             k.once own.number below,
           )
@@ -179,23 +179,23 @@ module _ {T S X : Type 0} (stands : T → S → List X → Type 0) (front : ℕ)
       (λ (m : Me (Option T) (View S X)). Allows (Kept stands front start count) 1 by m 0 (λ n. (n + changes) % 2 ^ 64)
       (λ found after. Counts e m after)) (sym holding) goes
     where
-      goes : Allows (Kept stands front start count) 1 by (seated start true own, (0, slot) ∷ []) 0
-          (λ n. (n + changes) % 2 ^ 64) (λ found after. Counts e (seated start true own, (0, slot) ∷ []) after)
+      goes : Allows (Kept stands front start count) 1 by (seated_view start true own, (0, slot) ∷ []) 0
+          (λ n. (n + changes) % 2 ^ 64) (λ found after. Counts e (seated_view start true own, (0, slot) ∷ []) after)
       goes s k one at fits =
           ⊎_elim
           (λ (home : IsHome stands start k.log s). absurd
-          (not_both true (home.nobody by (seated start true own) at) refl))
+          (not_both true (home.nobody by (seated_view start true own) at) refl))
           (λ (out : IsOut k.log s).
-          (seated start true (grown e own), keeps, tt, count_goes by own slot e changes s k out at is room, refl))
+          (seated_view start true (grown_part e own), keeps, tt, count_goes by own slot e changes s k out at is room, refl))
           k.place
 
   give_goes : (by : ℕ) (own : Part X) (value : T) (s : State (Option T) (View S X))
-      (k : Kept stands front start count s) → IsOut k.log s → get_elem? s.views by ≡ some (seated start true own)
+      (k : Kept stands front start count s) → IsOut k.log s → get_elem? s.views by ≡ some (seated_view start true own)
       → stands value start (entries own.seen)
-      → Kept stands front start count (stepped s 1 0 by ((0, Some value) ∷ []) (seated start false own) gives)
+      → Kept stands front start count (stepped s 1 0 by ((0, Some value) ∷ []) (seated_view start false own) gives)
   give_goes by own value s k out at meets =
-      let v : View S X = seated start true own in
-      let w : View S X = seated start false own in
+      let v : View S X = seated_view start true own in
+      let w : View S X = seated_view start false own in
       let all : own.seen ≡ k.log = (out.knows by v at refl).1 in
       let here : by ≡ out.holder = (out.knows by v at refl).0 in
       let fit : Fits start k.log count w = fits_seated start k.log count false own (k.fits by v at).parts.0 in
@@ -227,13 +227,13 @@ module _ {T S X : Type 0} (stands : T → S → List X → Type 0) (front : ℕ)
       (λ (m : Me (Option T) (View S X)). Allows (Kept stands front start count) 1 by m 1 (λ _. 0)
       (λ _ after. Gives m after)) (sym holding) goes
     where
-      goes : Allows (Kept stands front start count) 1 by (seated start true own, (0, Some value) ∷ []) 1 (λ _. 0)
-          (λ _ after. Gives (seated start true own, (0, Some value) ∷ []) after)
+      goes : Allows (Kept stands front start count) 1 by (seated_view start true own, (0, Some value) ∷ []) 1 (λ _. 0)
+          (λ _ after. Gives (seated_view start true own, (0, Some value) ∷ []) after)
       goes s k one at fits =
           ⊎_elim
           (λ (home : IsHome stands start k.log s). absurd
-          (not_both true (home.nobody by (seated start true own) at) refl))
-          (λ (out : IsOut k.log s). (seated start false own, gives, tt, give_goes by own value s k out at meets, refl))
+          (not_both true (home.nobody by (seated_view start true own) at) refl))
+          (λ (out : IsOut k.log s). (seated_view start false own, gives, tt, give_goes by own value s k out at meets, refl))
           k.place
 
   -- after a try that found the turn free

@@ -22,8 +22,8 @@ module _ {X : Type 0} where
   fresh_parts from (suc count) = fresh_part from ∷ fresh_parts (suc from) count
 
   -- a part with the entry that it adds, if there is one
-  abbrev pub grown : Option X → Part X → Part X
-  grown entry part = record part
+  abbrev pub grown_part : Option X → Part X → Part X
+  grown_part entry part = record part
       { seen = part.seen ++ entry_by part.number entry; mine = part.mine ++ entry_by part.number entry }
 
   -- the list begins with what the part has seen, and the part's own entries are all that the list has with its number
@@ -34,12 +34,12 @@ module _ {X : Type 0} where
 
 module _ {S X : Type 0} where
   -- a seat that has one part, and has the turn or not
-  abbrev pub seated : S → Bool → Part X → View S X
-  seated start holds own = record { start = Some start; holds = holds; own = own; others = [] }
+  abbrev pub seated_view : S → Bool → Part X → View S X
+  seated_view start holds own = record { start = Some start; holds = holds; own = own; others = [] }
 
   -- a seat that has several parts, and no turn
-  abbrev pub gathered : S → Part X → List (Part X) → View S X
-  gathered start own others = record { start = Some start; holds = false; own = own; others = others }
+  abbrev pub gathered_view : S → Part X → List (Part X) → View S X
+  gathered_view start own others = record { start = Some start; holds = false; own = own; others = others }
 
   -- a seat whose parts another has
   abbrev pub spent : View S X
@@ -47,7 +47,7 @@ module _ {S X : Type 0} where
 
   -- the first seat has the parts of all passes; its own is the last
   abbrev pub first_view : S → ℕ → View S X
-  first_view start count = gathered start (fresh_part (count - 1)) (fresh_parts 0 (count - 1))
+  first_view start count = gathered_view start (fresh_part (count - 1)) (fresh_parts 0 (count - 1))
 
   abbrev pub parts_from : Option S → List (Part X) → List (Part X)
   parts_from None parts = []
@@ -70,8 +70,8 @@ module _ {S X : Type 0} where
   first_of v = alone v.start v.others
 
   -- a seat with the parts of another behind its own
-  abbrev pub joined : View S X → View S X → View S X
-  joined v w = record v { others = v.others ++ parts_of w }
+  abbrev pub joined_view : View S X → View S X → View S X
+  joined_view v w = record v { others = v.others ++ parts_of w }
 
   -- how many parts of a seat have this number
   abbrev pub times : ℕ → View S X → ℕ
@@ -135,7 +135,7 @@ module _ {T S X : Type 0} (stands : T → S → List X → Type 0) where
 module _ {T S X : Type 0} where
   -- the entry was added to what the seat has seen and to its own
   abbrev pub Counts : Option X → Me T (View S X) → Me T (View S X) → Type 0
-  Counts entry before after = after ≡ (record before.0 { own = grown entry before.0.own }, before.1)
+  Counts entry before after = after ≡ (record before.0 { own = grown_part entry before.0.own }, before.1)
 
   -- the value went home, and the turn is free
   abbrev pub Gives : Me T (View S X) → Me T (View S X) → Type 0
@@ -143,7 +143,7 @@ module _ {T S X : Type 0} where
 
   -- the seat has one part, and neither turn nor slot
   abbrev pub IsFree : S → Part X → Me T (View S X) → Type 0
-  IsFree start own me = me ≡ (seated start false own, [])
+  IsFree start own me = me ≡ (seated_view start false own, [])
 
   -- the seat has one part, and neither turn nor slot, whatever its start
   abbrev pub IsIdle : Me T (View S X) → Type 0
@@ -151,7 +151,7 @@ module _ {T S X : Type 0} where
 
   -- the seat has one part, the turn, and the slot with this in it
   abbrev pub IsHolding : S → Part X → T → Me T (View S X) → Type 0
-  IsHolding start own slot me = me ≡ (seated start true own, (0, slot) ∷ [])
+  IsHolding start own slot me = me ≡ (seated_view start true own, (0, slot) ∷ [])
 
 -- the seat has taken the turn and the value, has seen the list that it stands for, and finds all its own entries there
 pub record HasTaken {T S X : Type 0} (stands : T → S → List X → Type 0) (start : S) (own : Part X)

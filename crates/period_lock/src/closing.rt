@@ -1,6 +1,6 @@
 // The meeting of all passes, and the value that they leave.
 ghost use Rattle.std.specs.Prelude.{◌≡◌, ◌<◌, ◌≤◌, ◌++◌, [], ◌∷◌, length, map};
-ghost use Rattle.period_lock.specs.Kept.{IsTurnTable, part_of, gathered};
+ghost use Rattle.period_lock.specs.Kept.{IsTurnTable, part_of, gathered_view};
 ghost use Rattle.period_lock.specs.Turns.{AreOf, EndsIn};
 
 use crate::moves::Meeting;
@@ -16,10 +16,10 @@ pub fn gather<T: Storied>(
 ) -> TurnSeat<T>
     requires table { IsTurnTable table.now.shared.table_id }
     requires fits { last.table_id ≡ table.now.shared.table_id }
-    requires last { last.me ≡ (gathered (T.start_of table.now.shared.key.begun.value) last.me.0.own last.me.0.others, []) }
+    requires last { last.me ≡ (gathered_view (T.start_of table.now.shared.key.begun.value) last.me.0.own last.me.0.others, []) }
     requires passes { AreOf (record { table = table.now.shared.table_id; start = T.start_of table.now.shared.key.begun.value; passes = table.now.shared.key.passes }) passes.items }
     ensures fits { result.table_id ≡ table.now.shared.table_id }
-    ensures seat { result.me ≡ (gathered (T.start_of table.now.shared.key.begun.value) result.me.0.own result.me.0.others, []) }
+    ensures seat { result.me ≡ (gathered_view (T.start_of table.now.shared.key.begun.value) result.me.0.own result.me.0.others, []) }
     ensures parts { result.me.0.own ∷ result.me.0.others ≡ map part_of passes.items ++ last.me.0.own ∷ last.me.0.others }
 {
     let mut all = last;

@@ -1,6 +1,6 @@
 // What the steps of a seat tell.
 ghost use Rattle.std.specs.Prelude.{Option, None};
-ghost use Rattle.period_lock.specs.Kept.{Tries, Gives, Counts, without_first, first_of, joined, spent};
+ghost use Rattle.period_lock.specs.Kept.{Tries, Gives, Counts, without_first, first_of, joined_view, spent};
 
 use crate::rule::View;
 use crate::storied::Storied;
@@ -56,7 +56,7 @@ impl<S, X> Split<View<S, X>> for Parting {
 pub struct Meeting;
 
 impl<S, X> Join<View<S, X>> for Meeting {
-    ghost both = { joined };
+    ghost both = { joined_view };
 
     ghost spent = { spent };
 }

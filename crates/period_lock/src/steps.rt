@@ -1,6 +1,6 @@
 // The steps of a turn.
 ghost use Rattle.std.specs.Prelude.{◌≡◌, ◌+◌, ◌<◌, ◌^◌, length, option_to_list, None, IfSome, IfNone};
-ghost use Rattle.period_lock.specs.Kept.{IsTurnTable, IsFree, IsHolding, HasTaken, grown};
+ghost use Rattle.period_lock.specs.Kept.{IsTurnTable, IsFree, IsHolding, HasTaken, grown_part};
 ghost use Rattle.period_lock.specs.Turns.{entries};
 
 use crate::moves::{Adding, Count, Give, Try};
@@ -78,7 +78,7 @@ pub fn count<T: Storied, E: Event<T>, N: Adding<T::Entry>>(
     requires changes { changes ≡ length (option_to_list (E.entry_of before.now.value reply.now event.now)) }
     requires room { T.front_of (T.start_of table.now.shared.key.begun.value) + length seat.old.me.0.own.seen + changes < 2 ^ 64 }
     ensures fits { seat.new.table_id ≡ seat.old.table_id }
-    ensures counted { IsHolding (T.start_of table.now.shared.key.begun.value) (grown (E.entry_of before.now.value reply.now event.now) seat.old.me.0.own) None seat.new.me }
+    ensures counted { IsHolding (T.start_of table.now.shared.key.begun.value) (grown_part (E.entry_of before.now.value reply.now event.now) seat.old.me.0.own) None seat.new.me }
 {
     table
         .shared

@@ -5,7 +5,7 @@ use Rattle.std.proofs.lemmas.Bool.{false≢true}
 use Rattle.dir_values.specs.declared.digest.Fingerprint.{Fingerprint}
 use Rattle.dir_values.specs.Digests.{identity_below, same_identity}
 use Rattle.vote_terms.specs.Votes.{ReadVote}
-use Rattle.vote_terms.specs.Held.{held, outranks, placed, same_authority, vote_of}
+use Rattle.vote_terms.specs.Held.{held, outranks, votes_with, same_authority, vote_of}
 use Rattle.vote_terms.proofs.HeldLaw.{In, Ascends}
 use Rattle.vote_terms.proofs.HeldOrder.{held_ascend, from_pairs}
 use Rattle.vote_terms.proofs.Orders.{Below, not_itself, same_one}
@@ -48,7 +48,7 @@ same_vote w h e = cc
 stays_by : (a b : Bool) (w : ReadVote) (ws : List ReadVote) (v h : ReadVote) → identity_below w.says.identity
     v.says.identity ≡ a → same_authority w v ≡ b
     → Ascends (w ∷ ws) → cond b (Some w) (vote_of ws v.says.identity) ≡ Some h → outranks v h ≡ false
-    → (vote_of ws v.says.identity ≡ Some h → placed ws v ≡ ws) → placed (w ∷ ws) v ≡ w ∷ ws
+    → (vote_of ws v.says.identity ≡ Some h → votes_with ws v ≡ ws) → votes_with (w ∷ ws) v ≡ w ∷ ws
 stays_by true true w ws v h e f up g o r = absurd (never_both w v e f)
 stays_by true false w ws v h e f up g o r = rw e (ap (λ (l : List ReadVote). w ∷ l) (r g))
 stays_by false true w ws v h e f up g o r =
@@ -60,7 +60,7 @@ stays_by false false w ws v h e f up g o r =
 
 -- the held votes stay
 pub placed_stays : (ws : List ReadVote) (v h : ReadVote) → Ascends ws → vote_of ws v.says.identity ≡ Some h
-    → outranks v h ≡ false → placed ws v ≡ ws
+    → outranks v h ≡ false → votes_with ws v ≡ ws
 placed_stays [] v h up g o = absurd cc
 placed_stays (w ∷ ws) v h up g o = stays_by _ _ w ws v h refl refl up g o (λ q. placed_stays ws v h up.1 q o)
 
@@ -73,7 +73,7 @@ Beats ws v = (h : ReadVote) → vote_of ws v.says.identity ≡ Some h → outran
 new_by : (a b : Bool) (w : ReadVote) (ws : List ReadVote) (v : ReadVote) → identity_below w.says.identity
     v.says.identity ≡ a → same_authority w v ≡ b
     → ((h : ReadVote) → cond b (Some w) (vote_of ws v.says.identity) ≡ Some h → outranks v h ≡ true)
-    → (Beats ws v → vote_of (placed ws v) v.says.identity ≡ Some v) → vote_of (placed (w ∷ ws) v) v.says.identity ≡
+    → (Beats ws v → vote_of (votes_with ws v) v.says.identity ≡ Some v) → vote_of (votes_with (w ∷ ws) v) v.says.identity ≡
     Some v
 new_by true true w ws v e f beats r = absurd (never_both w v e f)
 new_by true false w ws v e f beats r = rw (e, f) (r beats)
@@ -81,14 +81,14 @@ new_by false true w ws v e f beats r = rw (e, f, beats w refl, itself v.says.ide
 new_by false false w ws v e f beats r = rw (e, f, itself v.says.identity) refl
 
 -- that vote is found
-pub placed_new : (ws : List ReadVote) (v : ReadVote) → Beats ws v → vote_of (placed ws v) v.says.identity ≡ Some v
+pub placed_new : (ws : List ReadVote) (v : ReadVote) → Beats ws v → vote_of (votes_with ws v) v.says.identity ≡ Some v
 placed_new [] v beats = rw (itself v.says.identity) refl
 placed_new (w ∷ ws) v beats = new_by _ _ w ws v refl refl beats (λ q. placed_new ws v q)
 
 other_by : (a b c : Bool) (w : ReadVote) (ws : List ReadVote) (v : ReadVote) (x : Fingerprint)
     → identity_below w.says.identity v.says.identity ≡ a → same_authority w v ≡ b
-    → outranks v w ≡ c → same_identity v.says.identity x ≡ false → vote_of (placed ws v) x ≡ vote_of ws x
-    → vote_of (placed (w ∷ ws) v) x ≡ vote_of (w ∷ ws) x
+    → outranks v w ≡ c → same_identity v.says.identity x ≡ false → vote_of (votes_with ws v) x ≡ vote_of ws x
+    → vote_of (votes_with (w ∷ ws) v) x ≡ vote_of (w ∷ ws) x
 other_by true b c w ws v x e f o n r = rw e (ap (λ (h : Option ReadVote). cond (same_identity w.says.identity x)
     (Some w) h) r)
 other_by false true true w ws v x e f o n r =
@@ -100,7 +100,7 @@ other_by false false c w ws v x e f o n r = rw (e, f, n) refl
 
 -- those of the others are found as before
 pub placed_other : (ws : List ReadVote) (v : ReadVote) (x : Fingerprint) → same_identity v.says.identity x ≡ false
-    → vote_of (placed ws v) x ≡ vote_of ws x
+    → vote_of (votes_with ws v) x ≡ vote_of ws x
 placed_other [] v x n = rw n refl
 placed_other (w ∷ ws) v x n = other_by _ _ _ w ws v x refl refl refl n (placed_other ws v x n)
 
@@ -111,5 +111,5 @@ pub held_ascends : (list : List ReadVote) → Ascends (held list)
 held_ascends list = from_pairs (held list) (held_ascend list)
 
 -- one more is put among those that are held
-pub held_push : (list : List ReadVote) (v : ReadVote) → held (list ++ v ∷ []) ≡ placed (held list) v
-held_push list v = fold_push placed list [] v
+pub held_push : (list : List ReadVote) (v : ReadVote) → held (list ++ v ∷ []) ≡ votes_with (held list) v
+held_push list v = fold_push votes_with list [] v

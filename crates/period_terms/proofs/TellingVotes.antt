@@ -7,7 +7,7 @@ use Rattle.vote_terms.specs.Votes.{ReadVote, rank_of}
 use Rattle.consensus_terms.specs.declared.flavour.Flavour.TheVariants.{Ns, Microdesc}
 use Rattle.period_terms.specs.declared.change.ChangeKind.TheVariants as kind
 use Rattle.period_terms.specs.declared.state.State.{State}
-use Rattle.vote_terms.specs.Held.{placed}
+use Rattle.vote_terms.specs.Held.{votes_with}
 use Rattle.vote_terms.proofs.Orders.{same_one}
 use Rattle.period_terms.specs.States.{vote_of}
 use Rattle.period_terms.specs.Offers.{vote_change, with_vote}
@@ -18,10 +18,10 @@ use Rattle.period_terms.proofs.Telling.{TellsAt, signers_stay, rank_push, stage_
 ranks_by : (b : Bool) (s : State) (v : ReadVote) (a : Fingerprint) → same_identity v.says.identity a ≡ b
     → Beats s.votes v
     → TellsAt s
-    → option_map rank_of (vote_of (placed s.votes v) a) ≡ option_map rank_told (cond b (Some (vote_change v))
+    → option_map rank_of (vote_of (votes_with s.votes v) a) ≡ option_map rank_told (cond b (Some (vote_change v))
     (last_of (keeps_vote_of a) s.changes))
 ranks_by true s v a e beats k =
-    subst (λ (x : Fingerprint). option_map rank_of (vote_of (placed s.votes v) x) ≡ Some (rank_told (vote_change v)))
+    subst (λ (x : Fingerprint). option_map rank_of (vote_of (votes_with s.votes v) x) ≡ Some (rank_told (vote_change v)))
     (same_one v.says.identity a e)
     (ap (λ (x : Option ReadVote). option_map rank_of x) (placed_new s.votes v beats))
 ranks_by false s v a e beats k = ap (λ (x : Option ReadVote). option_map rank_of x) (placed_other s.votes v a e)

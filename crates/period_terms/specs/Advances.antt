@@ -23,7 +23,7 @@ use Rattle.period_terms.specs.declared.stage.Stage.TheVariants.{Voting, Frozen, 
 use Rattle.period_terms.specs.declared.state.State.{State}
 use Rattle.vote_schedule.specs.Moments as schedule_moments
 use Rattle.period_terms.specs.Schedules.{next_valid_after}
-use Rattle.period_terms.specs.States.{Outcome, unchanged, vote_of, consensus_of, digest_of, both_digests}
+use Rattle.period_terms.specs.States.{Outcome, unchanged_outcome, vote_of, consensus_of, digest_of, both_digests}
 use Rattle.period_terms.specs.States.{with_signature, signers, is_signed, signed_text, change, with_change}
 
 -- ---- the freeze and the consensus
@@ -87,9 +87,9 @@ pass_over state = record {
 -- the outcome of what the signer gave, where the own vote is held
 abbrev pub sign : State → Consensus → ReadVote → Signing → Outcome Advance
 sign state c vote (Given ns microdesc) = sign_with state c vote.says.certificate.signing_key ns microdesc
-sign state c vote SignerFails = unchanged state answer.SignerFault
-sign state c vote VerifierFails = unchanged state answer.VerifierFault
-sign state c vote (Refused digest) = unchanged state (answer.OwnSignatureRefused digest)
+sign state c vote SignerFails = unchanged_outcome state answer.SignerFault
+sign state c vote VerifierFails = unchanged_outcome state answer.VerifierFault
+sign state c vote (Refused digest) = unchanged_outcome state (answer.OwnSignatureRefused digest)
 
 -- the outcome where this is the own vote
 abbrev pub sign_or_pass : State → Consensus → Option ReadVote → Signing → Outcome Advance
@@ -138,7 +138,7 @@ publish state c =
 
 -- the next period begins, with nothing held but the texts that were published last
 abbrev pub begin : State → Option ℕ → Outcome Advance
-begin state None = unchanged state answer.EndOfTime
+begin state None = unchanged_outcome state answer.EndOfTime
 begin state (Some next) = record {
   answer = answer.Began next;
   after = record state {
@@ -159,12 +159,12 @@ begin state (Some next) = record {
 
 -- the outcome of a computed consensus, where there is one
 abbrev pub with_consensus : State → (Consensus → Outcome Advance) → Option Consensus → Outcome Advance
-with_consensus state outcome None = unchanged state answer.Nothing
+with_consensus state outcome None = unchanged_outcome state answer.Nothing
 with_consensus state outcome (Some c) = outcome c
 
 -- the outcome before a moment is nothing
 abbrev pub from : State → ℕ → ℕ → Outcome Advance → Outcome Advance
-from state moment now outcome = if nat_lt now moment then unchanged state answer.Nothing else outcome
+from state moment now outcome = if nat_lt now moment then unchanged_outcome state answer.Nothing else outcome
 
 -- the outcome at a stage
 abbrev pub advance_at : Stage → State → ℕ → Signing → Outcome Advance

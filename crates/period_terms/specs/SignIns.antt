@@ -12,7 +12,7 @@ use Rattle.period_terms.specs.declared.change.ChangeKind.TheVariants as kind
 use Rattle.period_terms.specs.declared.signature.OfferedSignature.{OfferedSignature}
 use Rattle.period_terms.specs.declared.state.State.{State}
 use Rattle.period_terms.specs.Advances.{algorithm_of}
-use Rattle.period_terms.specs.States.{Outcome, unchanged, is_ended, has_key, digest_of, lines_of, has_line, change}
+use Rattle.period_terms.specs.States.{Outcome, unchanged_outcome, is_ended, has_key, digest_of, lines_of, has_line, change}
 use Rattle.period_terms.specs.States.{with_change}
 
 -- an offered signature as it is held
@@ -39,18 +39,18 @@ keep_signature state signature = record {
 
 -- the outcome of a signature where this is computed
 abbrev pub sign_in_over : State → OfferedSignature → Option Consensus → Outcome SignIn
-sign_in_over state signature None = unchanged state NotComputed
+sign_in_over state signature None = unchanged_outcome state NotComputed
 sign_in_over state signature (Some c) =
     if not (bytes_eq signature.digest (digest_of signature.flavour c))
-    then unchanged state (OtherDigest (digest_of signature.flavour c))
+    then unchanged_outcome state (OtherDigest (digest_of signature.flavour c))
     else if not (has_key state.votes signature.authority signature.key)
-    then unchanged state (Stranger signature.authority)
-    else if has_line (lines_of signature.flavour state) signature.authority then unchanged state Have
-    else if is_ended state.stage then unchanged state Closed
+    then unchanged_outcome state (Stranger signature.authority)
+    else if has_line (lines_of signature.flavour state) signature.authority then unchanged_outcome state Have
+    else if is_ended state.stage then unchanged_outcome state Closed
     else keep_signature state signature
 
 -- the outcome of an offered signature
 unfoldable pub sign_in : State → OfferedSignature → Outcome SignIn
 sign_in state signature =
-    if not (signature.valid_after == state.valid_after) then unchanged state (OtherPeriod state.valid_after)
+    if not (signature.valid_after == state.valid_after) then unchanged_outcome state (OtherPeriod state.valid_after)
     else sign_in_over state signature state.computed

@@ -27,8 +27,8 @@ pub record Outcome (Answer : Type 0) : Type 0 where
   pub after : State
 
 -- an answer to what changes nothing
-abbrev pub unchanged : {Answer : Type 0} → State → Answer → Outcome Answer
-unchanged state answer = record { answer = answer; after = state }
+abbrev pub unchanged_outcome : {Answer : Type 0} → State → Answer → Outcome Answer
+unchanged_outcome state answer = record { answer = answer; after = state }
 
 -- ---- stages
 

@@ -4,7 +4,7 @@ ghost use Rattle.sha1.specs.Sha1.{sha1};
 ghost use Rattle.key_port.specs.declared.verifier.KeyKind.TheVariants as kind;
 ghost use Rattle.period_terms.specs.Advances.{algorithm_of};
 ghost use Rattle.period_terms.specs.SignIns.{line_of};
-ghost use Rattle.period_terms.specs.Offered.{offered};
+ghost use Rattle.period_terms.specs.Offered.{offered_signature};
 
 use crate::short_bytes::ShortBytes;
 use consensus_terms::{Flavour, SignatureLine};
@@ -65,7 +65,7 @@ impl<V: Verifier> CheckedSig<V> {
         requires algorithm { line.now.algorithm ≡ algorithm_of flavour }
         requires named { line.now.key_digest.0 ≡ sha1 key.now }
         requires accepted { V.may_accept kind.Signing key.now digest.now line.now.signature ≡ true }
-        ensures { IfOk result (λ sig. sig ≡ offered valid_after flavour digest.now key.now line.now) }
+        ensures { IfOk result (λ sig. sig ≡ offered_signature valid_after flavour digest.now key.now line.now) }
     {
         Ok(CheckedSig {
             line: line.copy(alloc)?,

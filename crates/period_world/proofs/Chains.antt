@@ -83,12 +83,12 @@ abbrev pub GoesOn : Relation → Rules → State → List Arrival → State → 
 GoesOn may_give rules start coming state left answers = (more : List Answer) (end : State)
     → TakesAll may_give rules state left more end → TakesAll may_give rules start coming (answers ++ more) end
 
-pub one_more : (may_give : Relation) (rules : Rules) (start old new : State) (coming left rest : List Arrival)
+pub one_more_arrival_taken : (may_give : Relation) (rules : Rules) (start old new : State) (coming left rest : List Arrival)
     (one : Arrival) (answer : Answer) (answers others : List Answer)
     → GoesOn may_give rules start coming old left answers → left ≡ one ∷ rest
     → TakesOne may_give rules old one answer new → others ≡ answers ++ answer ∷ []
     → GoesOn may_give rules start coming new rest others
-one_more may_give rules start old new coming left rest one answer answers others before is first added =
+one_more_arrival_taken may_give rules start old new coming left rest one answer answers others before is first added =
     λ (more : List Answer) (end : State) (all : TakesAll may_give rules new rest more end).
     let whole : TakesAll may_give rules start coming (answers ++ (answer ∷ more)) end =
     before (answer ∷ more) end (rw is (takes_first may_give rules old new end one answer rest more first all))

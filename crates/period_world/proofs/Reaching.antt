@@ -11,7 +11,7 @@ use Rattle.period_laws.specs.Worlds as w
 use Rattle.period_laws.specs.Worlds.{World, WorldEvent, At, Elsewhere, SignedDigest, may_come}
 use Rattle.period_world.specs.declared.coming.Coming.TheVariants as comings
 use Rattle.period_world.specs.Calls.{Arrival, IsEvent}
-use Rattle.period_world.specs.WorldCalls.{Call, Happening, Called, Alone, may_arrive, IsCall, called, LeadsTo}
+use Rattle.period_world.specs.WorldCalls.{Call, Happening, Called, Alone, may_arrive, IsCall, called_world, LeadsTo}
 use Rattle.period_world.specs.WorldCalls.{CallsAreWorlds}
 
 -- what may come may come as an event
@@ -24,20 +24,20 @@ comes signed (comings.Signature signature) event is may = rw is may
 -- an outcome is its answer and its state
 moved_so : (world : World) (member : Fingerprint) (s : State) (answer : Answer) (after : State) (o : Outcome Answer)
     → answer ≡ o.answer → after ≡ o.after
-    → w.moved world member s (record { answer = answer; after = after }) ≡ w.moved world member s o
+    → w.moved_world world member s (record { answer = answer; after = after }) ≡ w.moved_world world member s o
 moved_so world member s answer after o e f = rw (e, f) refl
 
 -- where something may come to a station, it is answered there
 comes_there : (world : World) (member : Fingerprint) (s : State) (event : Event) → world.stations member ≡ Some s
     → may_come world.signed event ≡ true
-    → w.moved world member s (step s event) ≡ w.happens world (At member event)
+    → w.moved_world world member s (step s event) ≡ w.happens world (At member event)
 comes_there world member s event at may =
-    sym (ap (λ (b : Bool). cond b (w.moved world member s (step s event)) world) may)
+    sym (ap (λ (b : Bool). cond b (w.moved_world world member s (step s event)) world) may)
     ∙ sym (ap (λ (o : Option State). w.came world member event o) at)
 
 -- a call is something that happens
 call_happens : (may_give : Relation) (rules : Rules) (world : World) (call : Call) (s : State)
-    (k : IsCall may_give rules world call s) → called world call s ≡ w.happens world (At call.member k.takes.event)
+    (k : IsCall may_give rules world call s) → called_world world call s ≡ w.happens world (At call.member k.takes.event)
 call_happens may_give rules world call s k =
     moved_so world call.member s call.answer call.after (step s k.takes.event) k.takes.answered k.takes.after
     ∙ comes_there world call.member s k.takes.event k.station

@@ -10,7 +10,7 @@ use Rattle.period_terms.specs.declared.answer.Answer.{Answer}
 use Rattle.period_terms.specs.declared.state.State.{State}
 use Rattle.period_laws.specs.Worlds.{World, SignedDigest}
 use Rattle.period_world.specs.Calls.{Arrival, TakesOne, TakesAll}
-use Rattle.period_world.proofs.Chains.{one_more}
+use Rattle.period_world.proofs.Chains.{one_more_arrival_taken}
 use Rattle.period_world.specs.WorldCalls.{Call, Happening, Called, Alone, IsCall, LeadsTo, Lead, arrivals_at}
 use Rattle.period_world.specs.WorldCalls.{answers_at, StationsTakeAll}
 
@@ -24,7 +24,7 @@ first_taken : (may_give : Relation) (rules : Rules) (old middle new : State) (on
     → TakesAll may_give rules middle others answers new
     → TakesAll may_give rules old (one ∷ others) (answer ∷ answers) new
 first_taken may_give rules old middle new one answer others answers first then =
-    one_more may_give rules old old middle (one ∷ others) (one ∷ others) others one answer [] (answer ∷ [])
+    one_more_arrival_taken may_give rules old old middle (one ∷ others) (one ∷ others) others one answer [] (answer ∷ [])
     (λ more end all. all) refl first refl answers new then
 
 -- who signs alone changes no station

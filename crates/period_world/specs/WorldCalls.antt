@@ -9,7 +9,7 @@ use Rattle.period_terms.specs.Histories.{IsStart}
 use Rattle.count_terms.specs.declared.newest.Newest.{Newest}
 use Rattle.vote_schedule.specs.Schedules.{Schedule}
 use Rattle.period_core.specs.Starting.{Starts}
-use Rattle.period_laws.specs.Worlds.{World, WorldEvent, SignedDigest, signed_by, is_among, moved, signed_elsewhere}
+use Rattle.period_laws.specs.Worlds.{World, WorldEvent, SignedDigest, signed_by, is_among, moved_world, signed_elsewhere}
 use Rattle.period_laws.specs.Worlds.{run_world, IsWorldStart}
 use Rattle.period_world.specs.declared.coming.Coming.TheVariants.{Vote, Moment, Signature}
 use Rattle.period_world.specs.Calls.{Arrival, TakesOne, TakesAll}
@@ -43,13 +43,13 @@ pub record IsCall (may_give : Relation) (rules : Rules) (world : World) (call : 
   pub takes : TakesOne may_give rules state call.coming call.answer call.after
 
 -- the world after a call at a station that was in this state
-abbrev pub called : World → Call → State → World
-called world call state = moved world call.member state (record { answer = call.answer; after = call.after })
+abbrev pub called_world : World → Call → State → World
+called_world world call state = moved_world world call.member state (record { answer = call.answer; after = call.after })
 
 -- What is told leads from a world to this one.
 abbrev pub LeadsTo : Relation → Rules → World → Happening → World → Type 0
 LeadsTo may_give rules world (Called call) next =
-    (state : State) × IsCall may_give rules world call state × (next ≡ called world call state)
+    (state : State) × IsCall may_give rules world call state × (next ≡ called_world world call state)
 LeadsTo may_give rules world (Alone one) next = next ≡ signed_elsewhere world one
 
 -- All that is told, one after the other, leads from a world to this one.
@@ -64,7 +64,7 @@ abbrev pub LeadsOn : Relation → Rules → State → Arrival → Answer → Sta
 LeadsOn may_give rules old coming answer new = (world : World) (member : Fingerprint)
     → world.stations member ≡ Some old → may_arrive world.signed coming ≡ true
     → let call : Call = record { member = member; coming = coming; answer = answer; after = new } in
-    LeadsTo may_give rules world (Called call) (called world call old)
+    LeadsTo may_give rules world (Called call) (called_world world call old)
 
 -- ---- the laws
 

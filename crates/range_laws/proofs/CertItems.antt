@@ -10,7 +10,7 @@ use Rattle.grammar_laws.proofs.LineRests.{rest_of_argument, rest_of_nothing}
 use Rattle.grammar_laws.specs.Written.{IsItem}
 use Rattle.frame_terms.specs.declared.keyword.Keyword.{Keyword}
 use Rattle.frame_terms.specs.declared.keyword.Keyword.TheVariants as the
-use Rattle.frame_values.specs.Items.{bare, item_if, timed, with_object}
+use Rattle.frame_values.specs.Items.{bare, item_if, moment_item, with_object}
 use Rattle.frame_laws.proofs.WordTexts.{word_of_identity}
 use Rattle.authority_certs.specs.Texts.{cert_items, holder_items, key_items, proof_items}
 use Rattle.authority_certs.specs.declared.cert.Cert.{Cert}
@@ -51,8 +51,8 @@ key_may keyword bytes are = object_may keyword [] (codes "RSA PUBLIC KEY") bytes
 keys_may : (cert : Cert) → HasBytes cert → MayWrite (key_items cert)
 keys_may cert has =
     let a = with_object the.DirIdentityKey [] (codes "RSA PUBLIC KEY") cert.identity_key in
-    let b = timed the.DirKeyPublished cert.published in
-    let c = timed the.DirKeyExpires cert.expires in
+    let b = moment_item the.DirKeyPublished cert.published in
+    let c = moment_item the.DirKeyExpires cert.expires in
     let d = with_object the.DirSigningKey [] (codes "RSA PUBLIC KEY") cert.signing_key in
     first_may a (b ∷ c ∷ d ∷ []) (key_may the.DirIdentityKey cert.identity_key has.identity_key)
     (first_may b (c ∷ d ∷ []) (timed_may the.DirKeyPublished cert.published)

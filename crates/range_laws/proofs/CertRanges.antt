@@ -88,9 +88,9 @@ module _ {S K W X : Type 0} (tables : Tables S K (Value W) X) (name : S) (kind_o
   apart : (keyword : Keyword) → same the.DirKeyCertificateVersion keyword ≡ false → IsNotInside tables name keyword
   apart keyword not around other named begins = apart_from other keyword (has.apart around other begins) named not
 
-  there : (keyword : Keyword) (own : Row K) → row_of (cert_rows kind_of) keyword ≡ Some own
+  own_row_found : (keyword : Keyword) (own : Row K) → row_of (cert_rows kind_of) keyword ≡ Some own
       → row_of (tables.rows name) keyword ≡ Some own
-  there keyword own is = ap (λ (rows : List (Row K)). row_of rows keyword) has.rows ∙ is
+  own_row_found keyword own is = ap (λ (rows : List (Row K)). row_of rows keyword) has.rows ∙ is
 
   -- what its items say is in range
   pub section_says : (bytes : List ℕ) → IsBytes bytes → (taken : List (Taken (Value W)))
@@ -101,11 +101,11 @@ module _ {S K W X : Type 0} (tables : Tables S K (Value W) X) (name : S) (kind_o
       let holder = row the.Fingerprint One (kind_of kind.Fingerprint) in
       record {
         address =
-            field_is tables bytes are name taken each the.DirAddress address (there the.DirAddress address refl)
+            field_is tables bytes are name taken each the.DirAddress address (own_row_found the.DirAddress address refl)
             (apart the.DirAddress refl) address_is (λ o. option_map (part bytes) (text_if o)) (λ o. IfSome o IsWord)
             (λ none. tt) (λ one span is. is);
         fingerprint =
-            field_is tables bytes are name taken each the.Fingerprint holder (there the.Fingerprint holder refl)
+            field_is tables bytes are name taken each the.Fingerprint holder (own_row_found the.Fingerprint holder refl)
             (apart the.Fingerprint refl) holder_is fingerprint_in (λ f. AreTwenty f.0) (λ none. twenty_zeros)
             (λ one f is. is);
         published = omega arith;

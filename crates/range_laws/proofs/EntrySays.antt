@@ -9,7 +9,7 @@ use Rattle.frame_values.specs.Lines.{flags_of}
 use Rattle.frame_values.specs.declared.found.Span.{Span}
 use Rattle.frame_values.specs.declared.values.Value.{Value}
 use Rattle.frame_values.specs.declared.values.Value.TheVariants as value
-use Rattle.relay_entries.specs.Lines.{address_of, bandwidths_of, ed_of, lifted, micro_of, relay_of}
+use Rattle.relay_entries.specs.Lines.{address_of, bandwidths_of, ed_of, lifted_entry_value, micro_of, relay_of}
 use Rattle.relay_entries.specs.declared.said.Bandwidths.{Bandwidths}
 use Rattle.relay_entries.specs.declared.said.EdOpinion.{EdOpinion}
 use Rattle.relay_entries.specs.declared.said.EntryKind.TheVariants as entry
@@ -58,8 +58,8 @@ OpinionIs _ = Unit {0}
 
 -- what an entry says is read as the same among what a vote says
 pub lifted_reads : {A : Type 0} (P : A → Type 0) (Q : Value VoteValue → Type 0) (read : Result A ℕ)
-    (of : A → Value EntryValue) → ReadAs P read → ((a : A) → P a → Q (lifted own.Entry (of a)))
-    → ReadAs Q (next (next read (λ a. Ok (of a))) (λ found. Ok (lifted own.Entry found)))
+    (of : A → Value EntryValue) → ReadAs P read → ((a : A) → P a → Q (lifted_entry_value own.Entry (of a)))
+    → ReadAs Q (next (next read (λ a. Ok (of a))) (λ found. Ok (lifted_entry_value own.Entry found)))
 lifted_reads P Q (Ok a) of reads is = is a reads
 lifted_reads P Q (Err place) of reads is = tt
 

@@ -229,11 +229,11 @@ module _ (bytes : List ℕ) where
   later head g left other (inr (inl is)) = absurd (other is)
   later head g left other (inr (inr has)) = inr has
 
-  pub one_more : IsBytes bytes → (name : VoteSection) (taken : List VoteTaken) (kept : Kept)
+  pub heads_with_one_group_kept : IsBytes bytes → (name : VoteSection) (taken : List VoteTaken) (kept : Kept)
       (left : List (Group VoteSection (Value VoteValue))) → EachVoteStands bytes name taken
       → BeginsWithOpener vote_tables name taken → KeptIs kept (group name taken ∷ left)
       → KeptIs (kept_with kept name taken) left
-  one_more are section.Preamble taken kept left each begins is = record {
+  heads_with_one_group_kept are section.Preamble taken kept left each begins is = record {
     head = record {
       preamble = preamble_is kept.head taken each;
       randoms = randoms_of_preamble are kept.head taken each;
@@ -243,7 +243,7 @@ module _ (bytes : List ℕ) where
     authority = later kept.head (group section.Preamble taken) left (λ e. absurd (cc (e))) is.authority;
     entries = is.entries;
   }
-  one_more are section.Authority taken kept left each begins is = record {
+  heads_with_one_group_kept are section.Authority taken kept left each begins is = record {
     head = record {
       preamble = is.head.preamble;
       randoms = randoms_of_authority are kept.head taken each is.head.randoms;
@@ -253,7 +253,7 @@ module _ (bytes : List ℕ) where
     authority = inl (authority_is kept.head taken each begins);
     entries = is.entries;
   }
-  one_more are section.Certificate taken kept left each begins is = record {
+  heads_with_one_group_kept are section.Certificate taken kept left each begins is = record {
     head = record {
       preamble = is.head.preamble;
       randoms = is.head.randoms;
@@ -263,12 +263,12 @@ module _ (bytes : List ℕ) where
     authority = later kept.head (group section.Certificate taken) left (λ e. absurd (cc (e))) is.authority;
     entries = is.entries;
   }
-  one_more are section.Entry taken kept left each begins is = record {
+  heads_with_one_group_kept are section.Entry taken kept left each begins is = record {
     head = is.head;
     authority = later kept.head (group section.Entry taken) left (λ e. absurd (cc (e))) is.authority;
     entries = kept_more bytes are kept.entries taken each begins is.entries;
   }
-  one_more are section.Footer taken kept left each begins is = record {
+  heads_with_one_group_kept are section.Footer taken kept left each begins is = record {
     head = record {
       preamble = is.head.preamble;
       randoms = is.head.randoms;

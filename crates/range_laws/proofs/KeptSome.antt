@@ -70,17 +70,17 @@ entry_more taken entries left is = by (is_after entries (entry_of taken).relay.i
           rest = others.rest;
         }
 
-one_more : (kept : Kept) (name : VoteSection) (taken : List VoteTaken) (left : List VoteGroup)
+some_with_one_group_kept : (kept : Kept) (name : VoteSection) (taken : List VoteTaken) (left : List VoteGroup)
     → AreSome kept.entries (group name taken ∷ left) → AreSome (kept_with kept name taken).entries left
-one_more kept section.Entry taken left is = entry_more taken kept.entries left is
-one_more kept section.Preamble taken left is = passed section.Preamble taken kept.entries left is
-one_more kept section.Authority taken left is = passed section.Authority taken kept.entries left is
-one_more kept section.Certificate taken left is = passed section.Certificate taken kept.entries left is
-one_more kept section.Footer taken left is = passed section.Footer taken kept.entries left is
+some_with_one_group_kept kept section.Entry taken left is = entry_more taken kept.entries left is
+some_with_one_group_kept kept section.Preamble taken left is = passed section.Preamble taken kept.entries left is
+some_with_one_group_kept kept section.Authority taken left is = passed section.Authority taken kept.entries left is
+some_with_one_group_kept kept section.Certificate taken left is = passed section.Certificate taken kept.entries left is
+some_with_one_group_kept kept section.Footer taken left is = passed section.Footer taken kept.entries left is
 
 -- all that follow
 pub some_kept : (kept : Kept) (groups : List VoteGroup) → AreSome kept.entries groups
     → AreSome (fold (λ k (g : VoteGroup). kept_with k g.section g.taken) kept groups).entries []
 some_kept kept [] is = is
 some_kept kept (g ∷ groups) is =
-    some_kept (kept_with kept g.section g.taken) groups (one_more kept g.section g.taken groups is)
+    some_kept (kept_with kept g.section g.taken) groups (some_with_one_group_kept kept g.section g.taken groups is)

@@ -11,7 +11,7 @@ use Rattle.grammar_laws.specs.Written.{IsItem}
 use Rattle.frame_terms.specs.Keywords.{text_of}
 use Rattle.frame_terms.specs.declared.keyword.Keyword.{Keyword}
 use Rattle.frame_terms.specs.declared.keyword.Keyword.TheVariants.{NetworkStatusVersion}
-use Rattle.frame_values.specs.Items.{bare, item_if, timed, with_object}
+use Rattle.frame_values.specs.Items.{bare, item_if, moment_item, with_object}
 use Rattle.frame_values.specs.Parts.{moment_of}
 use Rattle.frame_laws.proofs.WordTexts.{two_words, word_of_clock, word_of_date}
 use Rattle.value_laws.proofs.LineWords.{rest_of_words}
@@ -71,5 +71,5 @@ moment_rest moment =
     rest_of_words (date ∷ clock ∷ [])
     (two_words date clock (word_of_date (moment / 86400)) (word_of_clock (moment % 86400)))
 
-pub timed_may : (keyword : Keyword) (moment : ℕ) → IsItem (timed keyword moment)
+pub timed_may : (keyword : Keyword) (moment : ℕ) → IsItem (moment_item keyword moment)
 timed_may keyword moment = bare_may keyword (moment_text (moment_of moment)) (moment_rest (moment_of moment))

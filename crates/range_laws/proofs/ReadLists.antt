@@ -11,7 +11,7 @@ use Rattle.std.proofs.lemmas.Bool.{and_parts, false≢true}
 use Rattle.std.proofs.lemmas.List.Elements.{All-cons, All-head, All-nil, All-tail, All-weaker}
 use Rattle.std.proofs.lemmas.Int.{ints}
 use Rattle.std.proofs.lemmas.List.Sums.{AllPass-from_list_all}
-use Rattle.dir_bytes.specs.Fields.{number, signed}
+use Rattle.dir_bytes.specs.Fields.{number, signed_number}
 use Rattle.item_terms.specs.Words.{words_of}
 use Rattle.dir_values.specs.Arguments.{Argument, arguments_at, texts_of}
 use Rattle.dir_values.specs.Digests.{bytes_below}
@@ -20,8 +20,8 @@ use Rattle.dir_values.proofs.ArgumentWords.{arguments_words}
 use Rattle.dir_values.proofs.Orders.{AllPairs-cons, AllPairs-nil}
 use Rattle.list_values.specs.declared.named.Named.{Named}
 use Rattle.list_values.specs.Equations.{left_side, right_side}
-use Rattle.list_values.specs.Maps.{Ascend, named, with_value}
-use Rattle.list_values.specs.NumberSets.{numbers_from, numbers_that, united}
+use Rattle.list_values.specs.Maps.{Ascend, named_value, with_value}
+use Rattle.list_values.specs.NumberSets.{numbers_from, numbers_that, united_numbers}
 use Rattle.list_values.specs.Params as param
 use Rattle.list_values.specs.Params.{as_params, its_name, wrong_param}
 use Rattle.list_values.specs.Protocols as protocol
@@ -45,19 +45,19 @@ module _ {V : Type 0} (Is : V → Type 0) where
 
   each_value : (entries : List (Named V)) (name : List ℕ) (value : V) → All IsEntry entries → IsName name → Is value
       → All IsEntry (with_value entries name value)
-  each_value [] name value all is it = All-cons IsEntry (named name value) [] (is, it) all
+  each_value [] name value all is it = All-cons IsEntry (named_value name value) [] (is, it) all
   each_value (first ∷ rest) name value all is it =
       by (bytes_below first.name name) (bytes_eq first.name name)
       (each_value rest name value (All-tail IsEntry first rest all) is it)
     where
       by : (b e : Bool) → All IsEntry (with_value rest name value)
           → All IsEntry (if b then first ∷ with_value rest name value
-          else if e then named first.name value ∷ rest else named name value ∷ first ∷ rest)
+          else if e then named_value first.name value ∷ rest else named_value name value ∷ first ∷ rest)
       by true e more = All-cons IsEntry first (with_value rest name value) (All-head IsEntry first rest all) more
       by false true more =
-          All-cons IsEntry (named first.name value) rest ((All-head IsEntry first rest all).0, it)
+          All-cons IsEntry (named_value first.name value) rest ((All-head IsEntry first rest all).0, it)
           (All-tail IsEntry first rest all)
-      by false false more = All-cons IsEntry (named name value) (first ∷ rest) (is, it) all
+      by false false more = All-cons IsEntry (named_value name value) (first ∷ rest) (is, it) all
 
   count_value : (entries : List (Named V)) (name : List ℕ) (value : V)
       → length (with_value entries name value) ≤ suc (length entries)
@@ -67,7 +67,7 @@ module _ {V : Type 0} (Is : V → Type 0) where
     where
       by : (b e : Bool) → length (with_value rest name value) ≤ suc (length rest)
           → length (if b then first ∷ with_value rest name value
-          else if e then named first.name value ∷ rest else named name value ∷ first ∷ rest)
+          else if e then named_value first.name value ∷ rest else named_value name value ∷ first ∷ rest)
           ≤ suc (length (first ∷ rest))
       by true e more = omega (arith, more)
       by false true more = omega arith
@@ -113,8 +113,8 @@ positive : (n : ℕ) → n ≤ 2147483647 → FitsSigned w32 (pos n)
 positive n small = omega (arith, ints, small)
 
 -- a number with its sign has 32 bits
-signed_fits : (text : List ℕ) → FitsSigned w32 (unwrap_or (signed text) (pos 0))
-unfolding signed
+signed_fits : (text : List ℕ) → FitsSigned w32 (unwrap_or (signed_number text) (pos 0))
+unfolding signed_number
 signed_fits text =
     by (starts_with_minus text) (number 2147483648 (drop 1 text)) refl (number 2147483647 text) refl
   where
@@ -228,7 +228,7 @@ protocols_made : (text : List ℕ) → wrong_protocol (arguments_at 0 text) ≡ 
     → IsMade AreNumbersInRange (0 + length (words_of text)) (as_protocols (words_of text))
 protocols_made text right =
     made AreNumbersInRange
-    (λ list word. united (protocol.numbers_at list (left_side word)) (protocol.numbers_in word))
+    (λ list word. united_numbers (protocol.numbers_at list (left_side word)) (protocol.numbers_in word))
     (λ list word. numbers_ranged _) (words_of text) 0 [] (none_made AreNumbersInRange)
     (subst (λ (l : List (List ℕ)). All (λ word. IsName (left_side word)) l) (arguments_words 0 text)
     (protocol_names (arguments_at 0 text) right))

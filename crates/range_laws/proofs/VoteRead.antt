@@ -37,7 +37,7 @@ use Rattle.range_laws.proofs.CertRead.{items_writable}
 use Rattle.range_laws.proofs.EntryKeys.{keys_apart}
 use Rattle.range_laws.proofs.EntryRoom.{VoteGroup, few_entries}
 use Rattle.range_laws.proofs.KeptEntries.{AreKept, IsKept, count_map}
-use Rattle.range_laws.proofs.KeptHeads.{AuthorityOf, HasAuthority, KeptIs, nothing_kept, one_more}
+use Rattle.range_laws.proofs.KeptHeads.{AuthorityOf, HasAuthority, KeptIs, nothing_kept, heads_with_one_group_kept}
 use Rattle.range_laws.proofs.KeptSome.{AreSome, none_some, some_kept}
 use Rattle.range_laws.proofs.KeptFacts.{facts_ranged}
 
@@ -57,7 +57,7 @@ groups_kept bytes are items sound kept [] from begin is = is
 groups_kept bytes are items sound kept (g ∷ groups) from begin is =
     groups_kept bytes are items sound (kept_with kept g.section g.taken) groups
     (All-tail (AreFrom items) g groups from) (All-tail Begins g groups begin)
-    (one_more bytes are g.section g.taken kept groups
+    (heads_with_one_group_kept bytes are g.section g.taken kept groups
     (each_stands vote_tables bytes g.section items g.taken sound (All-head (AreFrom items) g groups from))
     (All-head Begins g groups begin) is)
 

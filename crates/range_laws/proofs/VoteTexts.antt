@@ -15,7 +15,7 @@ use Rattle.dir_values.specs.declared.algorithm.Algorithm.{Algorithm}
 use Rattle.dir_values.specs.declared.algorithm.Algorithm.TheVariants.{Sha1, Sha256}
 use Rattle.frame_terms.specs.declared.keyword.Keyword.{Keyword}
 use Rattle.frame_terms.specs.declared.keyword.Keyword.TheVariants as the
-use Rattle.frame_values.specs.Items.{bare, item_if, timed, with_object}
+use Rattle.frame_values.specs.Items.{bare, item_if, moment_item, with_object}
 use Rattle.frame_values.specs.Ranges.{AreTwenty}
 use Rattle.value_groups.specs.Values.{random_text}
 use Rattle.value_groups.specs.declared.value.SharedRandom.{SharedRandom}
@@ -124,11 +124,11 @@ time_may facts =
     let rest =
     rest_of_words (a ∷ b ∷ [])
     (two_words a b (word_of_number facts.vote_seconds) (word_of_number facts.dist_seconds)) in
-    let after_ = timed the.ValidAfter facts.valid_after in
-    let fresh = timed the.FreshUntil facts.fresh_until in
-    let until = timed the.ValidUntil facts.valid_until in
+    let after_ = moment_item the.ValidAfter facts.valid_after in
+    let fresh = moment_item the.FreshUntil facts.fresh_until in
+    let until = moment_item the.ValidUntil facts.valid_until in
     let delay = bare the.VotingDelay (delays_text facts) in
-    first_may (timed the.Published facts.published) (after_ ∷ fresh ∷ until ∷ delay ∷ [])
+    first_may (moment_item the.Published facts.published) (after_ ∷ fresh ∷ until ∷ delay ∷ [])
     (timed_may the.Published facts.published)
     (first_may after_ (fresh ∷ until ∷ delay ∷ []) (timed_may the.ValidAfter facts.valid_after)
     (first_may fresh (until ∷ delay ∷ []) (timed_may the.FreshUntil facts.fresh_until)

@@ -9,7 +9,7 @@ use Rattle.std.proofs.lemmas.List.Elements.{All-cons, All-head, All-nil, All-tai
 use Rattle.sha1.specs.Sha1.{sha1}
 use Rattle.dir_values.specs.Digests.{identity_below, same_identity}
 use Rattle.dir_values.specs.declared.digest.Fingerprint.{Fingerprint}
-use Rattle.vote_terms.specs.Held.{held, outranks, placed, same_authority}
+use Rattle.vote_terms.specs.Held.{held, outranks, votes_with, same_authority}
 use Rattle.vote_terms.specs.Votes.{ReadVote}
 use Rattle.vote_terms.proofs.HeldLaw.{In, stands}
 use Rattle.vote_doc.specs.Reading.{max_vote}
@@ -74,28 +74,28 @@ abbrev pub ArePairs : List ReadVote → Type 0
 ArePairs [] = Unit {0}
 ArePairs (v ∷ vs) = All (Apart v) vs × ArePairs vs
 
-all_placed : (P : ReadVote → Type 0) (ws : List ReadVote) (v : ReadVote) → All P ws → P v → All P (placed ws v)
+all_placed : (P : ReadVote → Type 0) (ws : List ReadVote) (v : ReadVote) → All P ws → P v → All P (votes_with ws v)
 all_placed P [] v all is = All-cons P v [] is all
 all_placed P (w ∷ ws) v all is =
     by (identity_below w.says.identity v.says.identity) (same_authority w v) (outranks v w)
     (all_placed P ws v (All-tail P w ws all) is)
   where
-    by : (below same above : Bool) → All P (placed ws v)
-        → All P (if below then w ∷ placed ws v else if same then (if above then v ∷ ws else w ∷ ws) else v ∷ w ∷ ws)
-    by true same above more = All-cons P w (placed ws v) (All-head P w ws all) more
+    by : (below same above : Bool) → All P (votes_with ws v)
+        → All P (if below then w ∷ votes_with ws v else if same then (if above then v ∷ ws else w ∷ ws) else v ∷ w ∷ ws)
+    by true same above more = All-cons P w (votes_with ws v) (All-head P w ws all) more
     by false true true more = All-cons P v ws is (All-tail P w ws all)
     by false true false more = all
     by false false above more = All-cons P v (w ∷ ws) is all
 
 count_placed : (ws : List ReadVote) (v : ReadVote) → All (λ w. Apart w v) ws
-    → length (placed ws v) ≡ suc (length ws)
+    → length (votes_with ws v) ≡ suc (length ws)
 count_placed [] v all = refl
 count_placed (w ∷ ws) v all =
     by (identity_below w.says.identity v.says.identity) (same_authority w v) (outranks v w)
     (All-head (λ x. Apart x v) w ws all) (count_placed ws v (All-tail (λ x. Apart x v) w ws all))
   where
-    by : (below same above : Bool) → same ≡ false → length (placed ws v) ≡ suc (length ws)
-        → length (if below then w ∷ placed ws v else if same then (if above then v ∷ ws else w ∷ ws) else v ∷ w ∷ ws)
+    by : (below same above : Bool) → same ≡ false → length (votes_with ws v) ≡ suc (length ws)
+        → length (if below then w ∷ votes_with ws v else if same then (if above then v ∷ ws else w ∷ ws) else v ∷ w ∷ ws)
         ≡ suc (suc (length ws))
     by true same above is more = ap suc more
     by false true above is more = absurd (false≢true (sym is))
@@ -107,7 +107,7 @@ Fresh ws [] = Unit {0}
 Fresh ws (v ∷ vs) = All (λ w. Apart w v) ws × Fresh ws vs
 
 fresh_more : (ws : List ReadVote) (v : ReadVote) (vs : List ReadVote) → Fresh ws vs → All (Apart v) vs
-    → Fresh (placed ws v) vs
+    → Fresh (votes_with ws v) vs
 fresh_more ws v [] fresh apart = tt
 fresh_more ws v (u ∷ vs) fresh apart = (
   all_placed (λ w. Apart w u) ws v fresh.0 (All-head (Apart v) u vs apart),
@@ -115,11 +115,11 @@ fresh_more ws v (u ∷ vs) fresh apart = (
 )
 
 pub count_held : (ws vs : List ReadVote) → Fresh ws vs → ArePairs vs
-    → length (fold placed ws vs) ≡ length ws + length vs
+    → length (fold votes_with ws vs) ≡ length ws + length vs
 count_held ws [] fresh pairs = omega arith
 count_held ws (v ∷ vs) fresh pairs =
     let first = count_placed ws v fresh.0 in
-    let rest = count_held (placed ws v) vs (fresh_more ws v vs fresh.1 pairs.0) pairs.1 in
+    let rest = count_held (votes_with ws v) vs (fresh_more ws v vs fresh.1 pairs.0) pairs.1 in
     omega (arith, first, rest)
 
 pub none_fresh : (vs : List ReadVote) → Fresh [] vs

@@ -23,7 +23,7 @@ use Rattle.frame_terms.specs.Sections.{row_of}
 use Rattle.frame_terms.specs.declared.keyword.Keyword.{Keyword}
 use Rattle.frame_terms.specs.declared.keyword.Keyword.TheVariants as the
 use Rattle.frame_terms.specs.declared.row.Row.{Row}
-use Rattle.frame_values.specs.Items.{bare, timed, with_object}
+use Rattle.frame_values.specs.Items.{bare, moment_item, with_object}
 use Rattle.frame_values.specs.Parts.{moment_of}
 use Rattle.authority_certs.specs.Reading.{cert_of, max_cert}
 use Rattle.authority_certs.specs.Tables.{cert_rows}
@@ -41,7 +41,7 @@ use Rattle.vote_rehearsal.specs.Authorities.{authority_of}
 use Rattle.vote_rehearsal.specs.Certificates.{certificate_bytes, certificate_expires, certificate_of}
 use Rattle.vote_rehearsal.specs.Certificates.{certificate_published, certification_of, covered_digest, covered_text}
 use Rattle.vote_rehearsal.specs.Certificates.{crosscert_of, holder_items, key_items}
-use Rattle.vote_rehearsal.specs.Relays.{seeded}
+use Rattle.vote_rehearsal.specs.Relays.{seeded_word}
 use Rattle.rehearsal_laws.specs.Types.{Authority}
 use Rattle.rehearsal_laws.proofs.Names.{seeded_bytes, seeded_short}
 use Rattle.rehearsal_laws.proofs.Sizes.{IsShort, all_short, bare_short, object_item_short, short_writable}
@@ -179,7 +179,7 @@ module _ (a : Authority) where
 
 -- ---- what it says
 
-timed_short : (keyword : Keyword) (moment : ℕ) → IsShort (timed keyword moment)
+timed_short : (keyword : Keyword) (moment : ℕ) → IsShort (moment_item keyword moment)
 timed_short keyword moment =
     bare_short keyword (moment_text (moment_of moment)) (omega (arith, length-moment_text (moment_of moment)))
 
@@ -194,7 +194,7 @@ module _ (seed n : ℕ) (small : seed < 2 ^ 64) (few : n ≤ 33) where
   unfolding certificate_of
   cert_says = record {
     address = tt;
-    fingerprint = twenty (seeded (codes "authority-") n seed);
+    fingerprint = twenty (seeded_word (codes "authority-") n seed);
     published = leb-true certificate_published 253402300799 refl;
     expires = leb-true certificate_expires 253402300799 refl;
   }
@@ -209,9 +209,9 @@ module _ (seed n : ℕ) (small : seed < 2 ^ 64) (few : n ≤ 33) where
   }
 
   key_short : (keyword : Keyword) (word : List ℕ) → length word ≤ 10
-      → IsShort (with_object keyword [] (codes "RSA PUBLIC KEY") (seeded word n seed))
+      → IsShort (with_object keyword [] (codes "RSA PUBLIC KEY") (seeded_word word n seed))
   key_short keyword word short =
-      object_item_short keyword [] (codes "RSA PUBLIC KEY") (seeded word n seed) (omega arith) (omega arith)
+      object_item_short keyword [] (codes "RSA PUBLIC KEY") (seeded_word word n seed) (omega arith) (omega arith)
       (omega (arith, seeded_short word n seed short few small))
 
   signature_short : (keyword : Keyword) (words message : List ℕ) → length words ≤ 20
@@ -223,7 +223,7 @@ module _ (seed n : ℕ) (small : seed < 2 ^ 64) (few : n ≤ 33) where
   hex_short : IsShort (bare the.Fingerprint (hex_text one.identity.0))
   hex_short =
       bare_short the.Fingerprint (hex_text one.identity.0)
-      (omega (arith, length-hex_text one.identity.0, (twenty (seeded (codes "authority-") n seed)).count))
+      (omega (arith, length-hex_text one.identity.0, (twenty (seeded_word (codes "authority-") n seed)).count))
 
   all_cert_short : All IsShort (cert_items its)
   unfolding certificate_of
@@ -231,8 +231,8 @@ module _ (seed n : ℕ) (small : seed < 2 ^ 64) (few : n ≤ 33) where
       let a = bare the.DirKeyCertificateVersion (codes "3") in
       let b = bare the.Fingerprint (hex_text one.identity.0) in
       let c = with_object the.DirIdentityKey [] (codes "RSA PUBLIC KEY") one.identity_key in
-      let d = timed the.DirKeyPublished certificate_published in
-      let e = timed the.DirKeyExpires certificate_expires in
+      let d = moment_item the.DirKeyPublished certificate_published in
+      let e = moment_item the.DirKeyExpires certificate_expires in
       let f = with_object the.DirSigningKey [] (codes "RSA PUBLIC KEY") one.signing_key in
       let g = with_object the.DirKeyCrosscert [] (codes "ID SIGNATURE") (crosscert_of one) in
       let h = with_object the.DirKeyCertification [] (codes "SIGNATURE") (certification_of one) in

@@ -14,7 +14,7 @@ use Rattle.vote_terms.specs.declared.entry.EntryFacts.{EntryFacts}
 use Rattle.vote_text.specs.Entries.{entries_items, entry_items}
 use Rattle.vote_laws.specs.Again.{AreEntriesInRange, DifferInKey, IsEntryInRange, IsMicroInRange}
 use Rattle.range_laws.proofs.EntryTexts.{HasRests}
-use Rattle.vote_rehearsal.specs.Draws.{drawn}
+use Rattle.vote_rehearsal.specs.Draws.{drawn_number}
 use Rattle.vote_rehearsal.specs.Entries.{bandwidth_drawn, entries_of, entry_of, flags_drawn, lists, micro_of}
 use Rattle.rehearsal_laws.specs.Types.{Relay}
 use Rattle.rehearsal_laws.proofs.EntrySizes.{IsSmall, IsSound, bandwidth_small, entry_small}
@@ -41,8 +41,8 @@ entry_ranged : (authority : ℕ) (relay : Relay) (draw : ℕ) → IsSound relay
     → IsEntryInRange (entry_of relay authority draw)
 unfolding entry_of
 entry_ranged authority relay draw is =
-    let n = bandwidth_drawn (drawn relay.start 0) draw in
-    let few = bandwidth_small (drawn relay.start 0) draw in
+    let n = bandwidth_drawn (drawn_number relay.start 0) draw in
+    let few = bandwidth_small (drawn_number relay.start 0) draw in
     record {
       relay = record {
         nickname_is = relay_named relay.number is.number;
@@ -103,7 +103,7 @@ module _ (authority : ℕ) where
       → All H relays → All P (entries_of relays authority)
   each_entry H P made [] all = All-nil P
   each_entry H P made (relay ∷ relays) all =
-      by (drawn relay.start authority) (lists (drawn relay.start authority))
+      by (drawn_number relay.start authority) (lists (drawn_number relay.start authority))
       (each_entry H P made relays (All-tail H relay relays all))
     where
       by : (draw : ℕ) (t : Bool) → All P (entries_of relays authority)
@@ -120,7 +120,7 @@ module _ (authority : ℕ) where
       → (relays : List Relay) → AllPairs IsBefore relays → AllPairs R (entries_of relays authority)
   each_two R made [] pairs = AllPairs-nil R
   each_two R made (relay ∷ relays) pairs =
-      by (drawn relay.start authority) (lists (drawn relay.start authority))
+      by (drawn_number relay.start authority) (lists (drawn_number relay.start authority))
       (each_two R made relays (AllPairs-tail IsBefore relay relays pairs))
     where
       by : (draw : ℕ) (t : Bool) → AllPairs R (entries_of relays authority)
@@ -134,7 +134,7 @@ module _ (authority : ℕ) where
   pub entries_count : (relays : List Relay) → length (entries_of relays authority) ≤ length relays
   entries_count [] = omega arith
   entries_count (relay ∷ relays) =
-      by (drawn relay.start authority) (lists (drawn relay.start authority)) (entries_count relays)
+      by (drawn_number relay.start authority) (lists (drawn_number relay.start authority)) (entries_count relays)
     where
       by : (draw : ℕ) (t : Bool) → length (entries_of relays authority) ≤ length relays
           → length ((if t then entry_of relay authority draw ∷ [] else []) ++ entries_of relays authority)

@@ -23,10 +23,10 @@ use Rattle.flag_rules.specs.Names.{names_of}
 use Rattle.relay_entries.specs.Texts.{bandwidths_text, ed_text, methods_text, number_word, relay_text}
 use Rattle.relay_entries.specs.declared.said.EdOpinion.TheVariants as opinion
 use Rattle.vote_text.specs.Entries.{entry_items, micro_line}
-use Rattle.vote_rehearsal.specs.Draws.{drawn}
+use Rattle.vote_rehearsal.specs.Draws.{drawn_number}
 use Rattle.vote_rehearsal.specs.Entries.{bandwidth_drawn, bandwidths_drawn, entry_of, flags_drawn, micro_of}
 use Rattle.vote_rehearsal.specs.Entries.{only_method, opinion_drawn, policy_of}
-use Rattle.vote_rehearsal.specs.Relays.{numbered}
+use Rattle.vote_rehearsal.specs.Relays.{numbered_word}
 use Rattle.rehearsal_laws.specs.Types.{Relay}
 use Rattle.rehearsal_laws.proofs.FlagNames.{names_short}
 use Rattle.rehearsal_laws.proofs.Names.{numbered_short}
@@ -69,7 +69,7 @@ address_short ip small =
 -- the rest of the relay's line
 abbrev line : Relay → List ℕ
 line relay =
-    relay_text (numbered (codes "relay") relay.number) relay.identity relay.digest 1767222000
+    relay_text (numbered_word (codes "relay") relay.number) relay.identity relay.digest 1767222000
     (167772160 + relay.number) 9001 0
 
 line_short : (relay : Relay) → IsSound relay → length (line relay) ≤ 224
@@ -77,7 +77,7 @@ line_short relay is =
     let m = moment_of 1767222000 in
     let ip = 167772160 + relay.number in
     let P : List ℕ → Type 0 = IsAtMost 27 in
-    let a = numbered (codes "relay") relay.number in
+    let a = numbered_word (codes "relay") relay.number in
     let b = base64_text relay.identity.0 in
     let c = base64_text relay.digest.0 in
     let d = date_text (m / 86400) in
@@ -201,7 +201,7 @@ pub entry_small : (relay : Relay) (authority draw : ℕ) → IsSound relay
     → IsSmall (entry_items (entry_of relay authority draw))
 unfolding entry_of
 entry_small relay authority draw is =
-    let w_text = bandwidths_text (bandwidths_drawn (drawn relay.start 0) draw authority) in
+    let w_text = bandwidths_text (bandwidths_drawn (drawn_number relay.start 0) draw authority) in
     let s_text = set_text (names_of (flags_drawn draw)) in
     let r = bare the.R (line relay) in
     let s = bare the.S s_text in
@@ -213,7 +213,7 @@ entry_small relay authority draw is =
     let r_size : length (item_text r) ≤ 227 = omega (arith, bare_size the.R (line relay), line_short relay is) in
     let s_size : length (item_text s) ≤ 135 = omega (arith, bare_size the.S s_text, names_short draw) in
     let w_size : length (item_text w) ≤ 43 =
-    omega (arith, bare_size the.W w_text, bandwidths_short (drawn relay.start 0) draw authority) in
+    omega (arith, bare_size the.W w_text, bandwidths_short (drawn_number relay.start 0) draw authority) in
     let p_size : length (item_text p) ≤ 17 =
     omega (arith, bare_size the.P (policy_of relay.number), policy_short relay.number) in
     let m_size : length (item_text m) ≤ 63 =

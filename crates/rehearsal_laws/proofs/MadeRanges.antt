@@ -23,7 +23,7 @@ use Rattle.range_laws.proofs.VoteTexts.{SaysWhole, vote_may}
 use Rattle.vote_rehearsal.specs.Authorities.{authority_of}
 use Rattle.vote_rehearsal.specs.Certificates.{certificate_bytes, certificate_of}
 use Rattle.vote_rehearsal.specs.Entries.{only_method}
-use Rattle.vote_rehearsal.specs.Relays.{seeded}
+use Rattle.vote_rehearsal.specs.Relays.{seeded_word}
 use Rattle.vote_rehearsal.specs.Votes.{facts_of, known_flags, no_lists, signed_text}
 use Rattle.rehearsal_laws.specs.Rehearsed.{signed_facts}
 use Rattle.rehearsal_laws.specs.Types.{Authority, Relay}
@@ -90,7 +90,7 @@ module _ (seed n : â„•) (relays : List Relay) (small : seed < 2 ^ 64) (few : n â
 
   signed : IsSignatureInRange facts.signature
   unfolding certificate_of
-  signed = record { identity = twenty (seeded (codes "authority-") n seed); key_digest = twenty one.signing_key }
+  signed = record { identity = twenty (seeded_word (codes "authority-") n seed); key_digest = twenty one.signing_key }
 
   values : HasValuesInRange facts
   unfolding facts_of
@@ -105,7 +105,7 @@ module _ (seed n : â„•) (relays : List Relay) (small : seed < 2 ^ 64) (few : n â
     known_flags = flags_are;
     lists = lists_are;
     nickname = authority_named n few;
-    identity = twenty (seeded (codes "authority-") n seed);
+    identity = twenty (seeded_word (codes "authority-") n seed);
     address = host_is n;
     ip = omega (arith, few);
     dir_port = leb-true 80 65535 refl;
@@ -125,7 +125,7 @@ module _ (seed n : â„•) (relays : List Relay) (small : seed < 2 ^ 64) (few : n â
     lists = lists_are;
     source = record {
       nickname = authority_named n few;
-      identity = twenty (seeded (codes "authority-") n seed);
+      identity = twenty (seeded_word (codes "authority-") n seed);
       address = host_is n;
     };
     contact = tt;

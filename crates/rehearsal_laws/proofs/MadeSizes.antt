@@ -15,7 +15,7 @@ use Rattle.dirdoc_grammar.specs.Bodies.{object_text}
 use Rattle.dirdoc_grammar.specs.Writing.{NewItem, item_text, items_text}
 use Rattle.frame_terms.specs.declared.keyword.Keyword.{Keyword}
 use Rattle.frame_terms.specs.declared.keyword.Keyword.TheVariants as the
-use Rattle.frame_values.specs.Items.{bare, timed, with_object}
+use Rattle.frame_values.specs.Items.{bare, moment_item, with_object}
 use Rattle.frame_values.specs.Parts.{moment_of}
 use Rattle.flag_rules.specs.Names.{names_of}
 use Rattle.vote_terms.specs.declared.facts.VoteFacts.{VoteFacts}
@@ -27,7 +27,7 @@ use Rattle.vote_doc.specs.Reading.{max_vote}
 use Rattle.vote_rehearsal.specs.Authorities.{authority_of}
 use Rattle.vote_rehearsal.specs.Certificates.{certificate_bytes, certificate_of}
 use Rattle.vote_rehearsal.specs.Entries.{only_method}
-use Rattle.vote_rehearsal.specs.Relays.{seeded}
+use Rattle.vote_rehearsal.specs.Relays.{seeded_word}
 use Rattle.vote_rehearsal.specs.Votes.{facts_of, host_of, known_flags, nickname_of, signed_text}
 use Rattle.rehearsal_laws.specs.Rehearsed.{signed_facts}
 use Rattle.rehearsal_laws.specs.Types.{Authority, Relay}
@@ -50,7 +50,7 @@ pub line : (keyword : Keyword) (rest : List ℕ) → length rest ≤ 1000 → Ar
 line keyword rest few =
     record { each = All-cons IsShort (bare keyword rest) [] (bare_short keyword rest few) (All-nil IsShort) }
 
-pub at_time : (keyword : Keyword) (moment : ℕ) → AreShort (timed keyword moment ∷ [])
+pub at_time : (keyword : Keyword) (moment : ℕ) → AreShort (moment_item keyword moment ∷ [])
 at_time keyword moment =
     line keyword (moment_text (moment_of moment)) (omega (arith, length-moment_text (moment_of moment)))
 
@@ -105,7 +105,7 @@ module _ (seed n : ℕ) (relays : List Relay) (small : seed < 2 ^ 64) (few : n �
         numbered_short (codes "auth") n (omega (arith, few)),
         length-append name (codes ".example"),
         length-hex_text one.identity.0,
-        (twenty (seeded (codes "authority-") n seed)).count,
+        (twenty (seeded_word (codes "authority-") n seed)).count,
         address_short ip (omega (arith, few)),
         number_short 80 (omega arith),
         number_short 443 (omega arith),
@@ -128,7 +128,7 @@ module _ (seed n : ℕ) (relays : List Relay) (small : seed < 2 ^ 64) (few : n �
       omega (
         arith,
         length-hex_text one.identity.0,
-        (twenty (seeded (codes "authority-") n seed)).count,
+        (twenty (seeded_word (codes "authority-") n seed)).count,
         length-hex_text (sha1 one.signing_key),
         (twenty one.signing_key).count,
         length-append a (space ∷ b),

@@ -15,7 +15,7 @@ use Rattle.item_terms.specs.Words.{is_letter_or_digit}
 use Rattle.dir_values.specs.Names.{is_nickname}
 use Rattle.dirdoc_grammar.specs.Writers.{is_argument}
 use Rattle.frame_laws.proofs.WordTexts.{both_dark, number_dark}
-use Rattle.vote_rehearsal.specs.Relays.{numbered, seeded}
+use Rattle.vote_rehearsal.specs.Relays.{numbered_word, seeded_word}
 use Rattle.vote_rehearsal.specs.Votes.{host_of, nickname_of}
 
 abbrev pub IsByte : ℕ → Type 0
@@ -54,15 +54,15 @@ word_bytes word are =
     (AllPass-from_list_all (λ b. nat_le b 255) word are)
 
 pub seeded_bytes : (word : List ℕ) (number seed : ℕ) → list_all (λ b. nat_le b 255) word ≡ true → number ≤ 33
-    → seed < 2 ^ 64 → IsBytes (seeded word number seed)
+    → seed < 2 ^ 64 → IsBytes (seeded_word word number seed)
 seeded_bytes word number seed are few small =
-    are_bytes (seeded word number seed)
+    are_bytes (seeded_word word number seed)
     (All-append IsByte (word ++ decimal number) (hyphen ∷ decimal seed)
     (All-append IsByte word (decimal number) (word_bytes word are) (digit_bytes number (omega (arith, few))))
     (All-cons IsByte hyphen (decimal seed) (omega arith) (digit_bytes seed small)))
 
 pub seeded_short : (word : List ℕ) (number seed : ℕ) → length word ≤ 10 → number ≤ 33 → seed < 2 ^ 64
-    → length (seeded word number seed) ≤ 48
+    → length (seeded_word word number seed) ≤ 48
 seeded_short word number seed short few small =
     omega (
       arith,
@@ -75,7 +75,7 @@ seeded_short word number seed short few small =
 
 -- ---- names
 
-pub numbered_short : (word : List ℕ) (n : ℕ) → n ≤ 20000 → length (numbered word n) ≤ length word + 5
+pub numbered_short : (word : List ℕ) (n : ℕ) → n ≤ 20000 → length (numbered_word word n) ≤ length word + 5
 numbered_short word n few =
     omega (
       arith,
@@ -85,9 +85,9 @@ numbered_short word n few =
 
 -- a nickname
 named : (word : List ℕ) (n : ℕ) → 1 ≤ length word → length word ≤ 10 → n ≤ 20000
-    → list_all is_letter_or_digit word ≡ true → is_nickname (numbered word n) ≡ true
+    → list_all is_letter_or_digit word ≡ true → is_nickname (numbered_word word n) ≡ true
 named word n some short few are =
-    let name = numbered word n in
+    let name = numbered_word word n in
     let all =
     list_all-append is_letter_or_digit word (decimal n)
     ∙ and_from _ _ are (digits_are n (omega (arith, few))) in
@@ -95,7 +95,7 @@ named word n some short few are =
     (and_from _ _ (le-leb 1 (length name) (omega (arith, some, length-append word (decimal n))))
     (le-leb (length name) 19 (omega (arith, short, numbered_short word n few)))) all
 
-pub relay_named : (n : ℕ) → n ≤ 20000 → is_nickname (numbered (codes "relay") n) ≡ true
+pub relay_named : (n : ℕ) → n ≤ 20000 → is_nickname (numbered_word (codes "relay") n) ≡ true
 relay_named n few = named (codes "relay") n (omega arith) (omega arith) few refl
 
 pub authority_named : (n : ℕ) → n ≤ 33 → is_nickname (nickname_of n) ≡ true

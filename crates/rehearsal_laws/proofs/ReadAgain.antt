@@ -16,7 +16,7 @@ use Rattle.vote_laws.specs.Made.{MadeVotesAreRead}
 use Rattle.vote_laws.proofs.MadeAgain.{made_again}
 use Rattle.vote_rehearsal.specs.Authorities.{authority_of, voters}
 use Rattle.vote_rehearsal.specs.Certificates.{certificate_bytes, certificate_of}
-use Rattle.vote_rehearsal.specs.Relays.{ascending_relays, relay_of, seeded}
+use Rattle.vote_rehearsal.specs.Relays.{ascending_relays, relay_of, seeded_word}
 use Rattle.vote_rehearsal.specs.Votes.{facts_of, signed_text, vote_text}
 use Rattle.rehearsal_laws.specs.Rehearsed.{IsRead, RehearsedVotesAreRead, meant_vote}
 use Rattle.rehearsal_laws.specs.Rehearsed.{signed_facts}
@@ -38,10 +38,10 @@ relay_sound seed authorities count relay few is =
     let n = is.number in
     let its : IsSound (relay_of seed authorities n) = record {
       number = omega (arith, few, is.small);
-      identity = twenty (seeded (codes "relay-") n seed);
-      digest = twenty (seeded (codes "desc-") n seed);
-      ed = thirty_two (seeded (codes "ed-") n seed);
-      micro = thirty_two (seeded (codes "micro-") n seed);
+      identity = twenty (seeded_word (codes "relay-") n seed);
+      digest = twenty (seeded_word (codes "desc-") n seed);
+      ed = thirty_two (seeded_word (codes "ed-") n seed);
+      micro = thirty_two (seeded_word (codes "micro-") n seed);
     } in
     subst IsSound (sym is.is) its
 

@@ -146,10 +146,10 @@ entry_value Ed item = next (ed_of item) (λ said. Ok (value.Own (own.Ed said)))
 
 module _ {V : Type 0} where
   -- the same value in a document that has what an entry says among its own
-  abbrev pub lifted : (EntryValue → V) → Value EntryValue → Value V
-  lifted make value.Nothing = value.Nothing
-  lifted make (value.Text span) = value.Text span
-  lifted make (value.Number number) = value.Number number
-  lifted make (value.Fingerprint identity) = value.Fingerprint identity
-  lifted make (value.Object lines) = value.Object lines
-  lifted make (value.Own said) = value.Own (make said)
+  abbrev pub lifted_entry_value : (EntryValue → V) → Value EntryValue → Value V
+  lifted_entry_value make value.Nothing = value.Nothing
+  lifted_entry_value make (value.Text span) = value.Text span
+  lifted_entry_value make (value.Number number) = value.Number number
+  lifted_entry_value make (value.Fingerprint identity) = value.Fingerprint identity
+  lifted_entry_value make (value.Object lines) = value.Object lines
+  lifted_entry_value make (value.Own said) = value.Own (make said)

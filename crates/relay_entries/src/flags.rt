@@ -1,5 +1,5 @@
 // Items that say flags.
-ghost use Rattle.dirdoc_grammar.specs.Seen.{seen, IsInside};
+ghost use Rattle.dirdoc_grammar.specs.Seen.{seen_item, IsInside};
 ghost use Rattle.frame_reader.specs.Giving.{Gives};
 ghost use Rattle.frame_values.specs.Faults.{at_place};
 ghost use Rattle.frame_values.specs.Lines as lines;
@@ -16,7 +16,7 @@ use std::alloc::Global;
 /// `Value` at the first argument that is no flag or stands before too, or want of memory.
 pub fn flags_of(alloc: Global, item: &Item<'_>) -> Result<Span, ReadRefusal>
     requires { IsInside item.now }
-    ensures { Gives (at_place (lines.flags_of (seen item.now))) result }
+    ensures { Gives (at_place (lines.flags_of (seen_item item.now))) result }
 {
     match read_flags(alloc, item) {
         Ok(read) => given(at_place(read)),

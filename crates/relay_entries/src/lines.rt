@@ -1,7 +1,7 @@
 // What the lines of an entry say.
 ghost use Rattle.std.specs.Prelude.{◌≡◌, Some};
 ghost use Rattle.dir_values.specs.Taking.{argument_of};
-ghost use Rattle.dirdoc_grammar.specs.Seen.{seen, IsInside};
+ghost use Rattle.dirdoc_grammar.specs.Seen.{seen_item, IsInside};
 ghost use Rattle.relay_entries.specs.Lines as lines;
 
 use crate::fields::{address, digest1, digest2, ed_opinion, identity, methods, with_argument};
@@ -13,7 +13,7 @@ use frame_values::{Span, arguments_of, day, field, ip, nickname, second_of_day, 
 /// A relay.
 pub fn relay_of(item: &Item<'_>) -> Result<RelayLine, u64>
     requires { IsInside item.now }
-    ensures { result ≡ lines.relay_of (seen item.now) }
+    ensures { result ≡ lines.relay_of (seen_item item.now) }
 {
     let mut arguments = arguments_of(item);
     let name = take_argument(&mut arguments, item.place);
@@ -46,7 +46,7 @@ pub fn relay_of(item: &Item<'_>) -> Result<RelayLine, u64>
 /// Where one argument stands that ends with a colon and a port.
 pub fn address_of(item: &Item<'_>) -> Result<Span, u64>
     requires { IsInside item.now }
-    ensures { result ≡ lines.address_of (seen item.now) }
+    ensures { result ≡ lines.address_of (seen_item item.now) }
 {
     let first = take_argument(&mut arguments_of(item), item.place);
     field(&first, address(&first))
@@ -70,7 +70,7 @@ fn with_arguments(arguments: &mut Arguments<'_>) -> Result<Bandwidths, u64>
 /// A relay's bandwidths.
 pub fn bandwidths_of(item: &Item<'_>) -> Result<Bandwidths, u64>
     requires { IsInside item.now }
-    ensures { result ≡ lines.bandwidths_of (seen item.now) }
+    ensures { result ≡ lines.bandwidths_of (seen_item item.now) }
 {
     with_arguments(&mut arguments_of(item))
 }
@@ -122,7 +122,7 @@ fn some_digest(item: u64, arguments: &mut Arguments<'_>) -> Result<Option<Digest
 /// Methods, and the digest of the microdescriptor that they make.
 pub fn micro_of(item: &Item<'_>) -> Result<MicroLine, u64>
     requires { IsInside item.now }
-    ensures { result ≡ lines.micro_of (seen item.now) }
+    ensures { result ≡ lines.micro_of (seen_item item.now) }
 {
     let mut arguments = arguments_of(item);
     let first = take_argument(&mut arguments, item.place);
@@ -134,7 +134,7 @@ pub fn micro_of(item: &Item<'_>) -> Result<MicroLine, u64>
 /// The argument after `ed25519`: a key or `none`.
 pub fn ed_of(item: &Item<'_>) -> Result<EdOpinion, u64>
     requires { IsInside item.now }
-    ensures { result ≡ lines.ed_of (seen item.now) }
+    ensures { result ≡ lines.ed_of (seen_item item.now) }
 {
     let mut arguments = arguments_of(item);
     let _ = take_argument(&mut arguments, item.place);

@@ -1,6 +1,6 @@
 // What an item of an entry says, in a document that lists relays.
 ghost use Rattle.std.specs.Prelude.{◌≡◌};
-ghost use Rattle.dirdoc_grammar.specs.Seen.{seen, IsInside};
+ghost use Rattle.dirdoc_grammar.specs.Seen.{seen_item, IsInside};
 ghost use Rattle.frame_reader.specs.Giving.{Gives};
 ghost use Rattle.frame_values.specs.Faults.{at_place};
 ghost use Rattle.relay_entries.specs.Lines as lines;
@@ -17,7 +17,7 @@ use frame_values::{Value, arguments_of, at_place, rest_of, take_argument};
 
 /// The fault of an item of this kind that begins one entry more than may stand.
 pub fn too_many_entries(listed: &Listed, kind: EntryKind, item: &Item<'_>) -> Result<(), FrameFault>
-    ensures { result ≡ listing.too_many_entries listed.now kind (seen item.now) }
+    ensures { result ≡ listing.too_many_entries listed.now kind (seen_item item.now) }
 {
     match kind {
         EntryKind::Relay => {
@@ -37,7 +37,7 @@ pub fn too_many_entries(listed: &Listed, kind: EntryKind, item: &Item<'_>) -> Re
 /// What an item of the kind `Relay` says.
 fn relay_value(item: &Item<'_>) -> Result<Value<EntryValue>, ReadRefusal>
     requires { IsInside item.now }
-    ensures { Gives (at_place (lines.entry_value EntryKind.Relay (seen item.now))) result }
+    ensures { Gives (at_place (lines.entry_value EntryKind.Relay (seen_item item.now))) result }
 {
     let relay = given(at_place(relay_of(item)))?;
     Ok(Value::Own(EntryValue::Relay(relay)))
@@ -46,7 +46,7 @@ fn relay_value(item: &Item<'_>) -> Result<Value<EntryValue>, ReadRefusal>
 /// What an item of the kind `Bandwidths` says.
 fn bandwidths_value(item: &Item<'_>) -> Result<Value<EntryValue>, ReadRefusal>
     requires { IsInside item.now }
-    ensures { Gives (at_place (lines.entry_value EntryKind.Bandwidths (seen item.now))) result }
+    ensures { Gives (at_place (lines.entry_value EntryKind.Bandwidths (seen_item item.now))) result }
 {
     let said = given(at_place(bandwidths_of(item)))?;
     Ok(Value::Own(EntryValue::Bandwidths(said)))
@@ -55,7 +55,7 @@ fn bandwidths_value(item: &Item<'_>) -> Result<Value<EntryValue>, ReadRefusal>
 /// What an item of the kind `Micro` says.
 fn micro_value(item: &Item<'_>) -> Result<Value<EntryValue>, ReadRefusal>
     requires { IsInside item.now }
-    ensures { Gives (at_place (lines.entry_value EntryKind.Micro (seen item.now))) result }
+    ensures { Gives (at_place (lines.entry_value EntryKind.Micro (seen_item item.now))) result }
 {
     let micro = given(at_place(micro_of(item)))?;
     Ok(Value::Own(EntryValue::Micro(micro)))
@@ -64,7 +64,7 @@ fn micro_value(item: &Item<'_>) -> Result<Value<EntryValue>, ReadRefusal>
 /// What an item of the kind `Ed` says.
 fn ed_value(item: &Item<'_>) -> Result<Value<EntryValue>, ReadRefusal>
     requires { IsInside item.now }
-    ensures { Gives (at_place (lines.entry_value EntryKind.Ed (seen item.now))) result }
+    ensures { Gives (at_place (lines.entry_value EntryKind.Ed (seen_item item.now))) result }
 {
     let opinion = given(at_place(ed_of(item)))?;
     Ok(Value::Own(EntryValue::Ed(opinion)))
@@ -81,7 +81,7 @@ pub fn entry_value(
     item: &Item<'_>,
 ) -> Result<Value<EntryValue>, ReadRefusal>
     requires { IsInside item.now }
-    ensures { Gives (at_place (lines.entry_value kind (seen item.now))) result }
+    ensures { Gives (at_place (lines.entry_value kind (seen_item item.now))) result }
 {
     match kind {
         EntryKind::Relay => relay_value(item),
@@ -97,7 +97,7 @@ pub fn entry_value(
 /// Whether an item of this kind is passed over: an `id` of another kind of key than Ed25519 is.
 pub fn is_ignored(kind: EntryKind, item: &Item<'_>) -> bool
     requires { IsInside item.now }
-    ensures { result ≡ lines.is_ignored kind (seen item.now) }
+    ensures { result ≡ lines.is_ignored kind (seen_item item.now) }
 {
     match kind {
         EntryKind::Ed => {

@@ -68,10 +68,10 @@ cons_all P x xs p all (suc k) d lt = all k d (omega (arith, lt))
 none_all : (P : Belong → Type 0) → All P []
 none_all P = λ k d lt. absurd (omega (arith, lt))
 
-one_more : (all : List ReadVote) (n : ℕ) (v : ReadVote) (rsa : Fingerprint) (members : List Belong) (said : List Listing) → slice_get all n ≡ Some v
+one_more_vote_listed : (all : List ReadVote) (n : ℕ) (v : ReadVote) (rsa : Fingerprint) (members : List Belong) (said : List Listing) → slice_get all n ≡ Some v
     → Found v.says.entries rsa (place_from 0 v.says.entries rsa) (entry_of rsa v) → AreListings all members said
     → AreListings all (option_to_list (member_in n v rsa) ++ members) (cons_option (listing_in rsa v) said)
-one_more all n v rsa members said stands f more = elim f [
+one_more_vote_listed all n v rsa members said stands f more = elim f [
   | there k e place entry at ↦
       let here : listing_at all (record { vote = n; entry = k }) ≡ Some (record { vote = v; entry = e }) = rw (stands, at) refl in
       rw (place, entry) (record {
@@ -85,7 +85,7 @@ one_more all n v rsa members said stands f more = elim f [
 pub members_list : (all votes : List ReadVote) (n : ℕ) (rsa : Fingerprint) → drop n all ≡ votes → AreListings all (members_from n votes rsa) (listings votes rsa)
 members_list all [] n rsa d = record { members_are = none_all (λ b. IsSome (listing_at all b)); listings_are = refl }
 members_list all (v ∷ votes) n rsa d =
-    one_more all n v rsa (members_from (n + 1) votes rsa) (listings votes rsa) (first_vote all n v votes d) (found v.says.entries v.says.entries 0 rsa refl)
+    one_more_vote_listed all n v rsa (members_from (n + 1) votes rsa) (listings votes rsa) (first_vote all n v votes d) (found v.says.entries v.says.entries 0 rsa refl)
     (members_list all votes (n + 1) rsa (rw add-one (rest_votes all n v votes d)))
 
 -- ---- the steps

@@ -5,6 +5,6 @@ use Rattle.compute_terms.specs.Lines.{policy_with}
 use Rattle.relay_select.specs.declared.lines.Field.{Field}
 use Rattle.relay_select.specs.declared.lines.Field.TheVariants.{Protocols, Policy}
 
-abbrev pub said : Field → EntryFacts → Option (List ℕ)
-said Protocols e = e.protocols
-said (Policy digest) e = policy_with digest e
+abbrev pub field_text : Field → EntryFacts → Option (List ℕ)
+field_text Protocols e = e.protocols
+field_text (Policy digest) e = policy_with digest e

@@ -25,10 +25,10 @@ tuple_total =
     (back_total (on_total (λ (t : Tuple). t.nickname) nat_list_cmp_total)))
     (back_total address_total)
 
-both : (o p : Ordering) → ordering_then o p ≡ Equal → (o ≡ Equal) × (p ≡ Equal)
-both Less p e = cc
-both Equal p e = (refl, e)
-both Greater p e = cc
+both_orders_are_equal : (o p : Ordering) → ordering_then o p ≡ Equal → (o ≡ Equal) × (p ≡ Equal)
+both_orders_are_equal Less p e = cc
+both_orders_are_equal Equal p e = (refl, e)
+both_orders_are_equal Greater p e = cc
 
 numbers_tie : (a b : ℕ) → nat_cmp a b ≡ Equal → a ≡ b
 numbers_tie a b e = by_ranked (a < b) (a ≡ b) (b < a) (nat_cmp a b) (ranked a b (nat_cmp a b) refl) (λ l _. absurd (less (sym l ∙ e))) (λ _ same. same) (λ g _. absurd (greater (sym g ∙ e)))
@@ -53,11 +53,11 @@ record SameParts (a b : Tuple) : Type 0 where
 
 parts : (a b : Tuple) → tuple_order a b ≡ Equal → SameParts a b
 parts a b e =
-    let outer = both _ (address_order b a) e in
-    let second = both _ (text_order b.nickname a.nickname) outer.0 in
-    let first = both (nat_cmp a.published b.published) (text_order b.digest.0 a.digest.0) second.0 in
-    let ports = both _ (nat_cmp b.dir_port a.dir_port) outer.1 in
-    let address = both (nat_cmp b.ip a.ip) (nat_cmp b.or_port a.or_port) ports.0 in
+    let outer = both_orders_are_equal _ (address_order b a) e in
+    let second = both_orders_are_equal _ (text_order b.nickname a.nickname) outer.0 in
+    let first = both_orders_are_equal (nat_cmp a.published b.published) (text_order b.digest.0 a.digest.0) second.0 in
+    let ports = both_orders_are_equal _ (nat_cmp b.dir_port a.dir_port) outer.1 in
+    let address = both_orders_are_equal (nat_cmp b.ip a.ip) (nat_cmp b.or_port a.or_port) ports.0 in
     record {
       published = numbers_tie a.published b.published first.0;
       digest = sym (texts_tie b.digest.0 a.digest.0 first.1);

@@ -7,7 +7,7 @@ ghost use Rattle.count_terms.specs.Choosing.{chosen, text_order};
 ghost use Rattle.compute_terms.specs.Tuples.{chosen_tuple};
 ghost use Rattle.compute_terms.specs.Lines as terms;
 ghost use Rattle.relay_select.specs.Choices as choices;
-ghost use Rattle.relay_select.specs.Fields.{said};
+ghost use Rattle.relay_select.specs.Fields.{field_text};
 
 use crate::lines::{Field, addresses, micros, texts, versions};
 use crate::members::entries_at;
@@ -169,7 +169,7 @@ fn text<'a>(
     field: Field,
     lines: &mut Vec<Line<'a>>,
 ) -> Result<Option<Text>, Memory>
-    ensures { IfOk result (λ text. text ≡ chosen text_order (filter_map (said field) entries.now)) }
+    ensures { IfOk result (λ text. text ≡ chosen text_order (filter_map (field_text field) entries.now)) }
 {
     texts(entries, field, lines)?;
     copy_of(alloc, lines)

@@ -23,7 +23,7 @@ pub enum Field {
 
 /// What an entry says in a line.
 fn said<'a>(entry: &Entry<'a>, field: Field) -> Option<&'a [u8]>
-    ensures { option_map (λ text. text.now) result ≡ fields.said field entry.now }
+    ensures { option_map (λ text. text.now) result ≡ fields.field_text field entry.now }
 {
     match field {
         Field::Protocols => entry.pr(),
@@ -43,7 +43,7 @@ pub fn texts<'a>(
     field: Field,
     lines: &mut Vec<Line<'a>>,
 ) -> Result<(), Memory>
-    ensures { OnOk result (lines.new.items ≡ filter_map (fields.said field) entries.now) }
+    ensures { OnOk result (lines.new.items ≡ filter_map (fields.field_text field) entries.now) }
 {
     lines.clear();
     'entries: for entry in entries {

@@ -49,11 +49,11 @@ unfolding votes_from
 fails_ahead zero place bytes why more = rw more refl
 fails_ahead (suc n) place bytes why more = rw more refl
 
-ends : (n place : ℕ) (bytes : List ℕ) (at : ℕ) → ahead_at place bytes ≡ Ok (ahead.Consensus at)
+votes_end_at_consensus : (n place : ℕ) (bytes : List ℕ) (at : ℕ) → ahead_at place bytes ≡ Ok (ahead.Consensus at)
     → votes_from n place bytes ≡ Ok ([], at)
 unfolding votes_from
-ends zero place bytes at more = rw more refl
-ends (suc n) place bytes at more = rw more refl
+votes_end_at_consensus zero place bytes at more = rw more refl
+votes_end_at_consensus (suc n) place bytes at more = rw more refl
 
 -- ---- a vote of the input
 
@@ -109,7 +109,7 @@ pub done : (n place : ℕ) (bytes : List ℕ) (at : ℕ) (found : List ReadVote)
     → ahead_at place bytes ≡ Ok (ahead.Consensus at) → with_front found (votes_from n place bytes) ≡ all
     → all ≡ Ok (found, at)
 done n place bytes at found all more read =
-    sym read ∙ ap (λ (r : Read). with_front found r) (ends n place bytes at more)
+    sym read ∙ ap (λ (r : Read). with_front found r) (votes_end_at_consensus n place bytes at more)
     ∙ ap (λ (t : List ReadVote). ok_of t at) (append-nil found)
 
 -- a vote is read

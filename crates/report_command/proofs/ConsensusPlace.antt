@@ -22,15 +22,15 @@ use Rattle.report_command.proofs.Chains.{Read}
 
 -- ---- the line
 
-both : (a b : Bool) → (a && b) ≡ true → b ≡ true
-both true b e = e
-both false b e = absurd (cc e)
+second_test_holds : (a b : Bool) → (a && b) ≡ true → b ≡ true
+second_test_holds true b e = e
+second_test_holds false b e = absurd (cc e)
 
 -- a line with its NL has a byte
 line_there : (rest : List ℕ) → is_line (first_line rest) ≡ true → 0 < length rest
 line_there rest e =
     let ended : nat_lt (first_line_len rest) (length rest) ≡ true =
-    both (is_line_text (first_line rest).text) (nat_lt (first_line_len rest) (length rest)) e in
+    second_test_holds (is_line_text (first_line rest).text) (nat_lt (first_line_len rest) (length rest)) e in
     omega (arith, ltb-true (first_line_len rest) (length rest) ended)
 
 -- the line, if it stands there, begins within the input

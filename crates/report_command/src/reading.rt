@@ -1,7 +1,7 @@
 // The votes of an input, the line behind them, and the consensus.
 ghost use Rattle.std.specs.Prelude.{◌≡◌, ◌+◌, ◌≤◌, ◌<◌, ◌^◌, IfOk, length, vec_len};
 ghost use Rattle.consensus_terms.specs.Moments.{HasMoments};
-ghost use Rattle.dirdoc_grammar.specs.Seen.{seen};
+ghost use Rattle.dirdoc_grammar.specs.Seen.{seen_item};
 ghost use Rattle.report_command.specs.Inputs as inputs;
 ghost use Rattle.report_command.specs.Private.{ReadsConsensusAt, ReadsVoteAt, ReadsVotes};
 
@@ -31,7 +31,7 @@ pub(crate) enum Ahead {
 
 /// Why an item is refused as the first of one vote too many.
 fn one_too_many(item: &Item<'_>) -> FrameFault
-    ensures { result ≡ inputs.one_too_many (seen item.now) }
+    ensures { result ≡ inputs.one_too_many (seen_item item.now) }
 {
     match first_fault(VoteFrame, item) {
         Some(fault) => fault,

@@ -9,12 +9,12 @@ use Rattle.item_terms.specs.Words.{begins_dash}
 use Rattle.dirdoc_grammar.specs.Writing.{AreWritable, NewItem, all_written, in_front, is_open, items_text, written}
 use Rattle.grammar_laws.proofs.ItemsAgain.{items_again}
 use Rattle.frame_terms.specs.Documents.{Document, document_of, group, read_items}
-use Rattle.frame_terms.specs.Order.{following, inner, must_open}
+use Rattle.frame_terms.specs.Order.{following_sections, inner, must_open}
 use Rattle.frame_terms.specs.Tables.{Tables}
 use Rattle.frame_terms.specs.declared.document.Taken.{Taken}
 use Rattle.frame_terms.specs.declared.row.Row.{Row}
 use Rattle.frame_terms.specs.Decisions.{made_by}
-use Rattle.frame_terms.specs.Sections.{lacking}
+use Rattle.frame_terms.specs.Sections.{lacking_keyword}
 use Rattle.frame_terms.specs.declared.document.Made.TheVariants.{Stops}
 use Rattle.frame_terms.specs.declared.section.Again.TheVariants as again
 use Rattle.frame_laws.proofs.Ends.{closed_read, stopped_read}
@@ -46,7 +46,7 @@ pub record IsOneSection {S K V X : Type 0} (tables : Tables S K V X) (first : Ro
   pub apart : are_apart (tables.rows tables.first) ≡ true
   pub plain : all_plain tables tables.first rows ≡ true
   pub begins : IsFirst tables first
-  pub ends : must_open tables (following tables tables.first) ≡ None
+  pub ends : must_open tables (following_sections tables tables.first) ≡ None
   pub forgets : Forgets tables
 
 no_items : Contents
@@ -163,7 +163,7 @@ module _ {S K V X F D : Type 0} (tables : Tables S K V X) (m : Meaning K V F)
       (notes_nothing tables is.forgets tables.start (taken_of d))
 
   whole : (limit : ℕ) (d : D) → AreSpoken MayWrite (document_rows d) → AreWritable limit 0 (document_items d)
-      → lacking (tables.rows tables.first) (taken_of d) ≡ None
+      → lacking_keyword (tables.rows tables.first) (taken_of d) ≡ None
   whole limit d are can = section_whole tables (section d) 0 (written_so limit d are can)
 
   -- Where what is left ends the document at a place, it is read up to there.

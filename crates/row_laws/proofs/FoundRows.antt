@@ -8,7 +8,7 @@ use Rattle.std.proofs.lemmas.Bool.{and_parts, not-true}
 use Rattle.std.proofs.lemmas.List.Elements.{filter_map-append}
 use Rattle.frame_terms.specs.Keywords.{same}
 use Rattle.frame_terms.specs.declared.keyword.Keyword.{Keyword}
-use Rattle.frame_laws.proofs.Both.{both}
+use Rattle.frame_laws.proofs.Both.{both_hold}
 use Rattle.frame_laws.proofs.KnownWords.{same-refl, same-sym}
 use Rattle.frame_laws.proofs.SaidRows.{are_apart, lack}
 use Rattle.row_laws.proofs.Spoken.{Spoken, SpokenRow, rows_in, spoken, spoken_of}
@@ -80,7 +80,7 @@ module _ {K F : Type 0} where
       let parts = and_parts (not (same one.row.keyword other.row.keyword))
       (lack one.row.keyword (rows_in rows)) apart in
       let here = map (λ (f : F). spoken one.row.keyword f) one.values in
-      both (filter_map-append (value_if other.row.keyword) before here
+      both_hold (filter_map-append (value_if other.row.keyword) before here
       ∙ ap (λ (l : List F). l ++ values_at here other.row.keyword) none.0
       ∙ others other.row.keyword one.row.keyword (not-true
       (same one.row.keyword other.row.keyword) parts.0) one.values)
@@ -93,7 +93,7 @@ module _ {K F : Type 0} where
       let here = map (λ (f : F). spoken one.row.keyword f) one.values in
       let k = one.row.keyword in
       let parts = and_parts (lack k (rows_in rows)) (are_apart (rows_in rows)) apart in
-      both (filter_map-append (value_if k) before (here ++ all_of rows)
+      both_hold (filter_map-append (value_if k) before (here ++ all_of rows)
       ∙ ap (λ (l : List F). l ++ values_at (here ++ all_of rows) k) none.0
       ∙ filter_map-append (value_if k) here (all_of rows)
       ∙ ap (λ (l : List F). l ++ values_at (all_of rows) k) (mine k one.values)
@@ -104,7 +104,7 @@ module _ {K F : Type 0} where
 
   none_in_front : (rows : List (SpokenRow K F)) → NoneOf [] rows
   none_in_front [] = tt
-  none_in_front (one ∷ rows) = both refl (none_in_front rows)
+  none_in_front (one ∷ rows) = both_hold refl (none_in_front rows)
 
   pub each_found : (rows : List (SpokenRow K F)) → are_apart (rows_in rows) ≡ true → EachFound (all_of rows) rows
   each_found rows apart = found_after [] rows apart (none_in_front rows)

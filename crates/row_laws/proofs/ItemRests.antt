@@ -8,7 +8,7 @@ use Rattle.std.proofs.lemmas.Bool.{and_from, and_parts, cases_lt, ltb-false}
 use Rattle.std.proofs.lemmas.List.{get_or-reverse, length-reverse, take_all}
 use Rattle.std.proofs.lemmas.List.Sums.{prefix_len_stops, suffix_len-le-length, suffix_len-take_no}
 use Rattle.item_terms.specs.declared.fault.DocFault.{DocFault}
-use Rattle.item_terms.specs.Faults.{line_fault, nul_fault, or_else, too_long, unterminated}
+use Rattle.item_terms.specs.Faults.{line_fault, nul_fault, or_else, too_long, unterminated_fault}
 use Rattle.item_terms.specs.Items.{Contents, Item, items_from}
 use Rattle.item_terms.specs.Lines.{Line, lines, onto, size}
 use Rattle.item_terms.specs.Words.{after_keyword, arguments, is_blank, keyword_len, nul_in, trim, trim_end, trim_front}
@@ -80,7 +80,7 @@ last_fault (Some fault) b c e = absurd (cc e)
 sound_line : (limit place : ℕ) (line : Line) → line_fault limit place line ≡ None → list_all no_nul line.text ≡ true
 sound_line limit place line sound =
     lacks_nul place line.text
-    (last_fault (too_long limit place (size line)) (unterminated place line)
+    (last_fault (too_long limit place (size line)) (unterminated_fault place line)
     (nul_fault place (nul_in line.text)) sound)
 
 -- ---- parts of a line

@@ -12,8 +12,8 @@ use Rattle.hex.specs.Hex.{decode_sized}
 use Rattle.hex.specs.declared.error.FromHexError.{FromHexError}
 use Rattle.hex.proofs.HexLemmas.{decode_of-ok, decode_sized-ok, decode_sized-twice}
 use Rattle.dir_bytes.specs.Fields.{base64, hex, of_length}
-use Rattle.item_terms.specs.Base64Text.{is_inside, joined}
-use Rattle.dirdoc_grammar.specs.Bodies.{decoded}
+use Rattle.item_terms.specs.Base64Text.{is_inside, joined_text}
+use Rattle.dirdoc_grammar.specs.Bodies.{decoded_bytes}
 use Rattle.dirdoc_grammar.proofs.DecodedBytes.{decoded_is_bytes}
 use Rattle.frame_values.specs.Parts.{bytes_in, part}
 use Rattle.frame_values.specs.Ranges.{AreTwenty}
@@ -64,13 +64,13 @@ part_bytes bytes span are =
 
 -- ---- what texts spell
 
-spelled_bytes : (lines : List ℕ) → IsBytes lines → IsBytes (unwrap_or (decoded lines) [])
-unfolding decoded
-spelled_bytes lines are = by (decode_of standard (joined lines)) refl
+spelled_bytes : (lines : List ℕ) → IsBytes lines → IsBytes (unwrap_or (decoded_bytes lines) [])
+unfolding decoded_bytes
+spelled_bytes lines are = by (decode_of standard (joined_text lines)) refl
   where
-    by : (r : Result (List ℕ) DecodeError) → decode_of standard (joined lines) ≡ r
+    by : (r : Result (List ℕ) DecodeError) → decode_of standard (joined_text lines) ≡ r
         → IsBytes (unwrap_or (result_ok r) [])
-    by (Ok b) is = decoded_is_bytes standard (joined lines) b (bytes_filter is_inside lines are) is
+    by (Ok b) is = decoded_is_bytes standard (joined_text lines) b (bytes_filter is_inside lines are) is
     by (Err e) is = bytes_nil
 
 -- what an object's lines spell

@@ -10,7 +10,7 @@ use Rattle.frame_terms.specs.declared.document.Taken.{Taken}
 use Rattle.frame_terms.specs.declared.row.Count.{Count}
 use Rattle.frame_terms.specs.declared.row.Count.TheVariants.{Many, One, Optional}
 use Rattle.frame_terms.specs.declared.row.Row.{Row}
-use Rattle.frame_laws.proofs.Both.{both}
+use Rattle.frame_laws.proofs.Both.{both_hold}
 use Rattle.frame_laws.proofs.Entries.{Entry, after_one, all_taken, item_of}
 use Rattle.frame_laws.proofs.Places.{after_all, all_taken-append, both_writable}
 use Rattle.frame_laws.proofs.ReadRows.{Stand, both_stand}
@@ -93,7 +93,7 @@ module _ {S K V X F : Type 0} (tables : Tables S K V X) (m : Meaning K V F)
       → AreWritable limit place (map (item row) values) → EachSuits tables row (map (entry row) values)
   each_suits limit place row [] each can = tt
   each_suits limit place row (f ∷ values) each can =
-      both (suits_its_row tables m MayWrite IsRead laws row f limit place
+      both_hold (suits_its_row tables m MayWrite IsRead laws row f limit place
       (All-head (MayWrite row.kind) f values each) can.0)
       (each_suits limit (place + length (item_text (item row f))) row values
       (All-tail (MayWrite row.kind) f values each) can.1)
@@ -104,7 +104,7 @@ module _ {S K V X F : Type 0} (tables : Tables S K V X) (m : Meaning K V F)
   all_said limit place (one ∷ rows) are can =
       let parts = both_writable limit place (map (item one.row) one.values) (new_items m.write rows) can in
       let long = mapped (entry one.row) one.values in
-      both (record {
+      both_hold (record {
         some = λ is. omega (arith, long, some_of one.row.count one.values are.0.count is);
         few = λ is. omega (arith, long, few_of one.row.count one.values are.0.count is);
         suits = each_suits limit place one.row one.values are.0.each parts.front;

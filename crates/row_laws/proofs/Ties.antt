@@ -9,7 +9,7 @@ use Rattle.item_terms.specs.Items.{Item, Object}
 use Rattle.item_terms.specs.Words.{words_of}
 use Rattle.dirdoc_grammar.specs.Writers.{is_argument, is_argument_byte}
 use Rattle.dirdoc_grammar.specs.Writing.{IsLineRest}
-use Rattle.dirdoc_grammar.specs.Bodies.{decoded}
+use Rattle.dirdoc_grammar.specs.Bodies.{decoded_bytes}
 use Rattle.dirdoc_grammar.specs.InPlace.{InPlace}
 use Rattle.dir_values.proofs.ArgumentWords.{arguments_words}
 use Rattle.dir_values.specs.Arguments.{Argument, arguments_at, texts_of}
@@ -164,7 +164,7 @@ plain {A} read place are =
 -- the bytes that an object's lines spell
 abbrev pub object_means : Bool → Option Object → Option (List ℕ)
 object_means wanted None = None
-object_means wanted (Some object) = if wanted then Some (unwrap_or (decoded object.text) []) else None
+object_means wanted (Some object) = if wanted then Some (unwrap_or (decoded_bytes object.text) []) else None
 
 pub same_wanted : (object : Option Object) (words : List ℕ) → has_words (object_words object) words
     ≡ has_words object words
@@ -180,7 +180,7 @@ object_tied wanted bytes item there = by wanted item.object there.object
         → Tied (bytes_in bytes) (object_if t item.place object) (object_means t (object_words object))
     by t None is = tt
     by true (Some object) is =
-        ap (λ (l : List ℕ). unwrap_or (decoded l) []) (at_span bytes object.text object.start is)
+        ap (λ (l : List ℕ). unwrap_or (decoded_bytes l) []) (at_span bytes object.text object.start is)
     by false (Some object) is = tt
 
 -- ---- what an item says

@@ -90,20 +90,20 @@ module _ {S K V X F : Type 0} (tables : Tables S K V X) (m : Meaning K V F)
       } in
       (first, tt)
 
-  abbrev behind : Row K → F → ℕ → List ℕ
-  behind row f p = zeros p ++ (items_text_of ++ [])
+  abbrev row_behind_zeros : Row K → F → ℕ → List ℕ
+  row_behind_zeros row f p = zeros p ++ (items_text_of ++ [])
     where
       items_text_of : List ℕ
       items_text_of = item_text (item_of_row row f) ++ []
 
   somewhere : (row : Row K) (f : F) (limit place : ℕ) → IsWritable limit place (item_of_row row f) → (p : ℕ)
-      → IsSound (behind row f p) (written p (item_of_row row f))
+      → IsSound (row_behind_zeros row f p) (written p (item_of_row row f))
   somewhere row f limit place may p =
       let stand =
       stand_behind (zeros p) (length (item_text (item_of_row row f))) (entry_of row f ∷ []) []
       (alone row f limit place may) (and_right (is_open (item_of_row row f ∷ [])) (begins_dash []) refl) in
-      subst (λ (n : ℕ). IsSound (behind row f p) (written n (item_of_row row f))) (length-zeros p)
-      (sound_there _ (length (zeros p)) (behind row f p) row f stand)
+      subst (λ (n : ℕ). IsSound (row_behind_zeros row f p) (written n (item_of_row row f))) (length-zeros p)
+      (sound_there _ (length (zeros p)) (row_behind_zeros row f p) row f stand)
 
   -- It suits its row.
   pub suits_its_row : (row : Row K) (f : F) (limit place : ℕ) → MayWrite row.kind f
@@ -115,9 +115,9 @@ module _ {S K V X F : Type 0} (tables : Tables S K V X) (m : Meaning K V F)
         known = laws.known row.kind item;
         value =
             laws.steady across tables.start row.kind item
-            ∙ is_ok (m.said (behind row f p)) m.none (tables.value_of tables.start row.kind item)
+            ∙ is_ok (m.said (row_behind_zeros row f p)) m.none (tables.value_of tables.start row.kind item)
             (m.as_read row.kind f)
-            (tied_there row f may can.object (behind row f p) p (somewhere row f limit place can p));
+            (tied_there row f may can.object (row_behind_zeros row f p) p (somewhere row f limit place can p));
       }
 
   -- Where it stands it says what it means.

@@ -13,17 +13,17 @@ use Rattle.checked_sigs.specs.Asking.{offered_by}
 use Rattle.checked_sigs.specs.Checks.{Judgement, Tally, TellsLines}
 
 module _ {A B : Type 0} where
-  one_more : (o : Option B) (x : A) (found : List B) (rest : List A) (n : ℕ) → length found + length rest ≡ n
+  one_more_is_found_or_left : (o : Option B) (x : A) (found : List B) (rest : List A) (n : ℕ) → length found + length rest ≡ n
       → length (cons_option o found) + length (cond (is_none o) (x ∷ rest) rest) ≡ n + 1
-  one_more None x found rest n is = omega arith
-  one_more (Some y) x found rest n is = omega arith
+  one_more_is_found_or_left None x found rest n is = omega arith
+  one_more_is_found_or_left (Some y) x found rest n is = omega arith
 
   -- each is found something of, or is not
   parted : (f : A → Option B) (xs : List A)
       → length (filter_map f xs) + length (filter (λ (x : A). is_none (f x)) xs) ≡ length xs
   parted f [] = refl
   parted f (x ∷ xs) =
-      let more = one_more (f x) x (filter_map f xs) (filter (λ (y : A). is_none (f y)) xs) (length xs) (parted f xs) in
+      let more = one_more_is_found_or_left (f x) x (filter_map f xs) (filter (λ (y : A). is_none (f y)) xs) (length xs) (parted f xs) in
       omega (arith, more)
 
 -- each was accepted or refused

@@ -146,11 +146,11 @@ module _ (descriptors : List Descriptor) (places : List ℕ) (k : ℕ) (x : Desc
   not_here other = rw other at from_here
 
 -- one digest more that is asked for
-pub one_more : (descriptors : List Descriptor) (asked : List (List ℕ)) (k : ℕ) (digest d : List ℕ)
+pub one_more_digest_answered : (descriptors : List Descriptor) (asked : List (List ℕ)) (k : ℕ) (digest d : List ℕ)
     (found : List Descriptor) (old new : List ℕ) → k < length asked → digest ≡ get_or asked k d
     → found ≡ filter (is_asked asked) descriptors → old ≡ micros_with descriptors (take k asked)
     → new ≡ old ++ micro_with found digest → new ≡ micros_with descriptors (take (k + 1) asked)
-one_more descriptors asked k digest d found old new within is is_found so more =
+one_more_digest_answered descriptors asked k digest d found old new within is is_found so more =
     let before = micros_with descriptors (take k asked) in
     let one = get_or asked k d in
     let both : micros_with descriptors (take (k + 1) asked) ≡ before ++ micro_with descriptors one =

@@ -23,9 +23,9 @@ use Rattle.period_terms.specs.declared.event.Via.{Via}
 use Rattle.period_terms.specs.declared.signature.OfferedSignature.{OfferedSignature}
 use Rattle.period_terms.specs.declared.state.State.{State}
 use Rattle.period_terms.specs.Histories.{IsHistory, after, entry_if}
-use Rattle.period_terms.specs.Offers.{offer, compared, keeping, is_late, with_vote, most_vote_changes}
+use Rattle.period_terms.specs.Offers.{offer, compared_vote, kept_vote, is_late, with_vote, most_vote_changes}
 use Rattle.period_terms.specs.SignIns.{sign_in, sign_in_over, keep_signature}
-use Rattle.period_terms.specs.States.{Outcome, unchanged, vote_of, digest_of, has_key, has_line, lines_of, is_ended}
+use Rattle.period_terms.specs.States.{Outcome, unchanged_outcome, vote_of, digest_of, has_key, has_line, lines_of, is_ended}
 use Rattle.period_terms.specs.Steps.{step}
 use Rattle.period_laws.specs.Checked.{IsCheckedHistory}
 use Rattle.period_laws.proofs.Leading as leading
@@ -45,36 +45,36 @@ one_of front true x y p q = p
 one_of front false x y p q = q
 
 of_keeping : (s : State) (vote : ReadVote) (answer : Offer) → IsNext s.front (position_of_offer answer)
-    → IsNext s.front (position_of_offer (keeping s vote answer).answer)
+    → IsNext s.front (position_of_offer (kept_vote s vote answer).answer)
 of_keeping s vote answer next =
-    one_of s.front (nat_le most_vote_changes s.vote_changes) (unchanged s offers.Full)
+    one_of s.front (nat_le most_vote_changes s.vote_changes) (unchanged_outcome s offers.Full)
     (record { answer = answer; after = with_vote vote s }) tt next
 
 of_compared : (s : State) (vote : ReadVote) (held : Option ReadVote)
-    → IsNext s.front (position_of_offer (compared s vote held).answer)
+    → IsNext s.front (position_of_offer (compared_vote s vote held).answer)
 of_compared s vote None = of_keeping s vote (offers.Kept (s.front + 1)) refl
 of_compared s vote (Some held) =
-    one_of s.front (outranks held vote) (unchanged s (offers.Older (rank_of held)))
-    (cond (outranks vote held) (keeping s vote (offers.Replaced (s.front + 1) (rank_of held)))
-    (unchanged s (offers.Have (rank_of held)))) tt
-    (one_of s.front (outranks vote held) (keeping s vote (offers.Replaced (s.front + 1) (rank_of held)))
-    (unchanged s (offers.Have (rank_of held)))
+    one_of s.front (outranks held vote) (unchanged_outcome s (offers.Older (rank_of held)))
+    (cond (outranks vote held) (kept_vote s vote (offers.Replaced (s.front + 1) (rank_of held)))
+    (unchanged_outcome s (offers.Have (rank_of held)))) tt
+    (one_of s.front (outranks vote held) (kept_vote s vote (offers.Replaced (s.front + 1) (rank_of held)))
+    (unchanged_outcome s (offers.Have (rank_of held)))
     (of_keeping s vote (offers.Replaced (s.front + 1) (rank_of held)) refl) tt)
 
 of_late : (s : State) (vote : ReadVote) (b : Bool) (answer : Offer) → IsNext s.front (position_of_offer answer)
     → IsNext s.front
-    (position_of_offer (cond b (unchanged s answer) (compared s vote (vote_of s.votes vote.says.identity))).answer)
+    (position_of_offer (cond b (unchanged_outcome s answer) (compared_vote s vote (vote_of s.votes vote.says.identity))).answer)
 of_late s vote b answer next =
-    one_of s.front b (unchanged s answer) (compared s vote (vote_of s.votes vote.says.identity)) next
+    one_of s.front b (unchanged_outcome s answer) (compared_vote s vote (vote_of s.votes vote.says.identity)) next
     (of_compared s vote (vote_of s.votes vote.says.identity))
 
 pub of_offer : (s : State) (vote : ReadVote) (via : Via) (now : ℕ)
     → IsNext s.front (position_of_offer (offer s vote via now).answer)
 unfolding offer
 of_offer s vote via now =
-    one_of s.front (not (vote.says.valid_after == s.valid_after)) (unchanged s (offers.OtherPeriod s.valid_after)) _ tt
+    one_of s.front (not (vote.says.valid_after == s.valid_after)) (unchanged_outcome s (offers.OtherPeriod s.valid_after)) _ tt
     (one_of s.front (not (has_member s.roster vote.says.identity))
-    (unchanged s (offers.Stranger vote.says.identity)) _ tt (of_late s vote (is_late s via now) _ tt))
+    (unchanged_outcome s (offers.Stranger vote.says.identity)) _ tt (of_late s vote (is_late s via now) _ tt))
 
 pub offer_place : (start front story seen : ℕ) (event : Event) (answer : Offer)
     → IsNext front (position_of_offer answer) → front ≡ start + story
@@ -98,26 +98,26 @@ sign_one_of front false x y p q = q
 
 of_closed : (s : State) (signature : OfferedSignature)
     → IsNext s.front (position_of_sign_in
-    (cond (is_ended s.stage) (unchanged s signs.Closed) (keep_signature s signature)).answer)
+    (cond (is_ended s.stage) (unchanged_outcome s signs.Closed) (keep_signature s signature)).answer)
 of_closed s signature =
-    sign_one_of s.front (is_ended s.stage) (unchanged s signs.Closed) (keep_signature s signature) tt refl
+    sign_one_of s.front (is_ended s.stage) (unchanged_outcome s signs.Closed) (keep_signature s signature) tt refl
 
 of_sign_in_over : (s : State) (signature : OfferedSignature) (computed : Option Consensus)
     → IsNext s.front (position_of_sign_in (sign_in_over s signature computed).answer)
 of_sign_in_over s signature None = tt
 of_sign_in_over s signature (Some c) =
     sign_one_of s.front (not (bytes_eq signature.digest (digest_of signature.flavour c)))
-    (unchanged s (signs.OtherDigest (digest_of signature.flavour c))) _ tt
+    (unchanged_outcome s (signs.OtherDigest (digest_of signature.flavour c))) _ tt
     (sign_one_of s.front (not (has_key s.votes signature.authority signature.key))
-    (unchanged s (signs.Stranger signature.authority)) _ tt
-    (sign_one_of s.front (has_line (lines_of signature.flavour s) signature.authority) (unchanged s signs.Have) _ tt
+    (unchanged_outcome s (signs.Stranger signature.authority)) _ tt
+    (sign_one_of s.front (has_line (lines_of signature.flavour s) signature.authority) (unchanged_outcome s signs.Have) _ tt
     (of_closed s signature)))
 
 pub of_sign_in : (s : State) (signature : OfferedSignature)
     → IsNext s.front (position_of_sign_in (sign_in s signature).answer)
 unfolding sign_in
 of_sign_in s signature =
-    sign_one_of s.front (not (signature.valid_after == s.valid_after)) (unchanged s (signs.OtherPeriod s.valid_after))
+    sign_one_of s.front (not (signature.valid_after == s.valid_after)) (unchanged_outcome s (signs.OtherPeriod s.valid_after))
     (sign_in_over s signature s.computed) tt (of_sign_in_over s signature s.computed)
 
 pub sign_in_place : (start front story seen : ℕ) (event : Event) (answer : SignIn)

@@ -17,7 +17,7 @@ use Rattle.period_terms.specs.declared.stage.Stage.{Stage}
 use Rattle.period_terms.specs.declared.stage.Stage.TheVariants.{Voting, Frozen, Computed, Signed, Ended}
 use Rattle.period_terms.specs.declared.state.State.{State}
 use Rattle.period_terms.specs.Schedules.{next_valid_after}
-use Rattle.period_terms.specs.States.{Outcome, unchanged, vote_of, consensus_of, is_signed, with_signature}
+use Rattle.period_terms.specs.States.{Outcome, unchanged_outcome, vote_of, consensus_of, is_signed, with_signature}
 use Rattle.period_terms.specs.Advances.{advance, advance_at, with_consensus, sign_or_pass, own_line, from, freeze}
 use Rattle.period_terms.specs.Advances.{compute, give_up, publish, publish_these, miss, begin}
 use Rattle.period_terms.specs.Advances.{signature_in, given_told, own_signatures, sign_with, MayGiveIf, MayGive}
@@ -63,7 +63,7 @@ silent_if true x y p q = p
 silent_if false x y p q = q
 
 silent_from : (s : State) (moment now : ℕ) (o : Outcome Advance) → TellsNothing o → TellsNothing (from s moment now o)
-silent_from s moment now o p = silent_if (nat_lt now moment) (unchanged s moments.Nothing) o refl p
+silent_from s moment now o p = silent_if (nat_lt now moment) (unchanged_outcome s moments.Nothing) o refl p
 
 publishing : (s : State) (computed : Option Consensus) → TellsNothing (with_consensus s (publish s) computed)
 publishing s None = refl

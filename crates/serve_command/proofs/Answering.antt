@@ -15,7 +15,7 @@ use Rattle.serve_board.specs.Boards.{Locks, Parts}
 use Rattle.serve_work.specs.Serving.{Serves}
 use Rattle.serve_work.specs.Workers.{HasWorked}
 use Rattle.serve_work.specs.declared.serving.Served.{Served}
-use Rattle.serve_command.specs.Private.{IsReady, StopsFor, starting}
+use Rattle.serve_command.specs.Private.{IsReady, StopsFor, starting_of}
 use Rattle.serve_command.specs.Serving.{IsBoardOf, ServeAnswers}
 use Rattle.serve_command.specs.Starting.{RefusesToServe}
 
@@ -38,12 +38,12 @@ module _ (rules : Rules) (from : Measures) (newest : Newest) (now : ℕ) (bytes 
         → ServeAnswers rules gives steps last faults closed from newest now bytes gates gates' old new before after
         (Ok served)
     has_served count given rulings board passes served ready same serves = record {
-      its = starting given board;
+      its = starting_of given board;
       starts = ready.starts;
       rulings = rulings;
       alike = ready.alike;
       board = board;
       passes = passes;
-      is_board = subst (λ n. IsBoardOf (starting given board) n board passes) same ready.is_board;
+      is_board = subst (λ n. IsBoardOf (starting_of given board) n board passes) same ready.is_board;
       serves = serves;
     }

@@ -51,16 +51,16 @@ pub record IsOpened (rules : Rules) (now : ℕ) (given : StationFacts) (used : �
   pub pools : board.pool.passes ≤ length passes
 
 -- what an authority of this station starts with, whose board this is
-abbrev pub starting : StationFacts → Locks → Starting
-starting given board = record { given = given; start = board.station.start; pool = board.pool.start }
+abbrev pub starting_of : StationFacts → Locks → Starting
+starting_of given board = record { given = given; start = board.station.start; pool = board.pool.start }
 
 -- Station, rulings, board and passes are of an authority that starts as the input has it, and all passes of the board are
 -- there.
 pub record IsReady (rules : Rules) (from : Measures) (newest : Newest) (now : ℕ) (bytes : List ℕ) (count : ℕ)
     (given : StationFacts) (rulings : List OperatorRule) (board : Locks) (passes : List Parts) : Type 0 where
-  pub starts : StartsAs rules from newest now bytes (starting given board)
+  pub starts : StartsAs rules from newest now bytes (starting_of given board)
   pub alike : RuleAlike given.rules rulings
-  pub is_board : IsBoardOf (starting given board) count board passes
+  pub is_board : IsBoardOf (starting_of given board) count board passes
   pub at : All (IsAt board) passes
   pub stations : board.station.passes ≤ length passes
   pub pools : board.pool.passes ≤ length passes

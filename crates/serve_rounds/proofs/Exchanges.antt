@@ -29,7 +29,7 @@ use Rattle.serve_board.proofs.Going.{prefix_on, prefix_same}
 use Rattle.serve_rounds.specs.declared.round.Round.{Round}
 use Rattle.serve_rounds.specs.Exchanges.{AsksAs, BringsSignatures, DoesPhase, HasSigned, IsDue, IsOwnText, LinkSteps}
 use Rattle.serve_rounds.specs.Exchanges.{StoodSo}
-use Rattle.serve_rounds.specs.Plans.{Asking, GetVote, GetSignatures, PostSignatures, PostVote, turned, phase_in}
+use Rattle.serve_rounds.specs.Plans.{Asking, GetVote, GetSignatures, PostSignatures, PostVote, turned_round, phase_in}
 use Rattle.serve_rounds.specs.Plans.{plan_of_phase, plan_of_signatures}
 use Rattle.serve_rounds.proofs.Lasting.{period_earlier, seen_earlier, seen_later, text_earlier, text_later}
 use Rattle.serve_rounds.proofs.AskedOfPlans.{asks_wider}
@@ -191,7 +191,7 @@ module _ {N L : Type 0} (rules : Rules) (gives : Relation) (steps : SignerSteps 
     period = period_earlier rules board a b c p.valid_after goes p.period;
     marked = p.marked;
     between = p.between;
-    brings = brings_earlier rules station board exchanges a b c (turned p.valid_after signed before) p.marked old
+    brings = brings_earlier rules station board exchanges a b c (turned_round p.valid_after signed before) p.marked old
         p.between goes p.brings;
     does = does_earlier rules gives steps allows station board exchanges a b c (phase_in station p.valid_after now) now
         p.marked next p.between new goes p.does;

@@ -25,7 +25,7 @@ use Rattle.serve_rounds.specs.OwnVotes.{IsOwnVote, IsPeriodOf}
 use Rattle.serve_rounds.specs.Plans.{Asking, GetVote, PostVote, PostSignatures}
 use Rattle.serve_rounds.specs.Plans.{GetSignatures, Planned, limit_of, request_of}
 use Rattle.serve_rounds.specs.Plans.{plan_of_signatures, plan_of_phase, marked_signatures}
-use Rattle.serve_rounds.specs.Plans.{marked_phase, phase_in, turned}
+use Rattle.serve_rounds.specs.Plans.{marked_phase, phase_in, turned_round}
 use Rattle.serve_rounds.specs.Spans.{WasSeen}
 
 -- ---- what is asked of the plan
@@ -111,7 +111,7 @@ pub record AsksAs {N L : Type 0} (rules : Rules) (gives : Relation) (steps : Sig
   pub marked : Round
   pub between : L
   pub brings :
-      BringsSignatures rules station board exchanges from to (turned valid_after signed before) marked old between
+      BringsSignatures rules station board exchanges from to (turned_round valid_after signed before) marked old between
   pub does :
       DoesPhase rules gives steps allows station board exchanges from to (phase_in station valid_after now) now marked
       then between new

@@ -113,8 +113,8 @@ empty_round valid_after = record {
 
 -- a round of the period that begins then: it keeps its marks where it is of that period, and else has none; and that
 -- the authority signed
-abbrev pub turned : ℕ → Bool → Round → Round
-turned valid_after signed round =
+abbrev pub turned_round : ℕ → Bool → Round → Round
+turned_round valid_after signed round =
     let same = round.valid_after == valid_after in
     record {
       valid_after = valid_after;

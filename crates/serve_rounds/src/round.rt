@@ -1,7 +1,7 @@
 // Which duties of a period are done.
 ghost use Rattle.std.specs.Prelude.{◌≡◌};
 ghost use Rattle.serve_rounds.specs.Plans as plans;
-ghost use Rattle.serve_rounds.specs.Plans.{empty_round, turned};
+ghost use Rattle.serve_rounds.specs.Plans.{empty_round, turned_round};
 
 /// Which duties of a period are done. A new round has done none, of no period.
 #[derive(Clone, Copy, Debug, PartialEq, Eq)]
@@ -44,7 +44,7 @@ impl Round {
 
     /// Turns to the period that begins then, where it is another one, and remembers whether the authority signed.
     pub(crate) fn turn_to(&mut self, valid_after: u64, signed: bool)
-        ensures is { self.new ≡ turned valid_after signed self.old }
+        ensures is { self.new ≡ turned_round valid_after signed self.old }
         ensures period { self.new.valid_after ≡ valid_after }
     {
         if self.valid_after != valid_after {

@@ -11,9 +11,9 @@ use Rattle.descriptor_doc.specs.declared.descriptor.Descriptor.{Descriptor}
 use Rattle.station_commands.specs.Descriptors.{Stand, descriptor_from}
 
 -- the place behind what was read, and what it is
-abbrev behind : Result (Descriptor × ℕ) ReadRefusal → ℕ
-behind (Ok found) = found.1
-behind (Err why) = 0
+abbrev place_behind_read : Result (Descriptor × ℕ) ReadRefusal → ℕ
+place_behind_read (Ok found) = found.1
+place_behind_read (Err why) = 0
 
 abbrev which : Descriptor → Result (Descriptor × ℕ) ReadRefusal → Descriptor
 which other (Ok found) = found.0
@@ -26,7 +26,7 @@ one_there read a b m n first second = ap (which a) (sym first ∙ second)
 
 next_there : (read : Result (Descriptor × ℕ) ReadRefusal) (a b : Descriptor) (m n : ℕ) → read ≡ Ok (a, m)
     → read ≡ Ok (b, n) → m ≡ n
-next_there read a b m n first second = ap behind (sym first ∙ second)
+next_there read a b m n first second = ap place_behind_read (sym first ∙ second)
 
 -- an end is no place where more stands
 no_end : (bytes : List ℕ) (a b : ℕ) → a ≡ b → ends_at a bytes ≡ true → ends_at b bytes ≡ false → ⊥

@@ -9,22 +9,22 @@ use Rattle.dir_values.specs.declared.digest.Fingerprint.{Fingerprint}
 use Rattle.bandwidth_file.specs.Relays.{bandwidth_in}
 use Rattle.flag_rules.specs.declared.relay.Measured.{Measured}
 use Rattle.station_input.specs.declared.frame_said.MeasuredRelay.{MeasuredRelay}
-use Rattle.vote_maker.specs.Relays.{is_of, measured_for, unmeasured}
+use Rattle.vote_maker.specs.Relays.{is_of, measured_for, unmeasured_relay}
 use Rattle.station_commands.specs.MeasuredTold.{AreToldBy, row_relay, told_relay, told_relays, with_bandwidth}
 
 -- what a found line tells
 abbrev told : Option MeasuredRelay → Measured
-told found = unwrap_or (option_map (λ (relay : MeasuredRelay). relay.measured) found) unmeasured
+told found = unwrap_or (option_map (λ (relay : MeasuredRelay). relay.measured) found) unmeasured_relay
 
 row_first : (same : Bool) (row : Fingerprint × ℕ) (found : Option MeasuredRelay) (kb : Option ℕ)
-    → told found ≡ with_bandwidth kb unmeasured
-    → told (cond same (Some (row_relay row)) found) ≡ with_bandwidth (cond same (Some row.1) kb) unmeasured
+    → told found ≡ with_bandwidth kb unmeasured_relay
+    → told (cond same (Some (row_relay row)) found) ≡ with_bandwidth (cond same (Some row.1) kb) unmeasured_relay
 row_first true row found kb later = refl
 row_first false row found kb later = later
 
 -- the relays of a file tell its bandwidths
 rows_tell : (file : List (Fingerprint × ℕ)) (identity : Fingerprint)
-    → measured_for (map row_relay file) identity ≡ with_bandwidth (bandwidth_in file identity) unmeasured
+    → measured_for (map row_relay file) identity ≡ with_bandwidth (bandwidth_in file identity) unmeasured_relay
 rows_tell [] identity = refl
 rows_tell (row ∷ file) identity =
     row_first (same_identity row.0 identity) row (find (is_of identity) (map row_relay file))

@@ -70,8 +70,8 @@ abbrev pub is_full : Pooled → Descriptor → Bool
 is_full pool one = is_pool_full (answer_to pool one)
 
 -- the pool after a descriptor was kept, or was not
-abbrev pub kept : Pooled → Descriptor → Pooled
-kept pool one = pool_after pool one
+abbrev pub kept_pool : Pooled → Descriptor → Pooled
+kept_pool pool one = pool_after pool one
 
 -- whether one of these descriptors, kept in turn, finds the pool full
 abbrev pub finds_full : Pooled → List Descriptor → Bool

@@ -4,7 +4,7 @@ use Rattle.dir_values.specs.declared.digest.Fingerprint.{Fingerprint}
 use Rattle.bandwidth_file.specs.Relays.{bandwidth_in}
 use Rattle.flag_rules.specs.declared.relay.Measured.{Measured}
 use Rattle.station_input.specs.declared.frame_said.MeasuredRelay.{MeasuredRelay}
-use Rattle.vote_maker.specs.Relays.{measured_for, unmeasured}
+use Rattle.vote_maker.specs.Relays.{measured_for, unmeasured_relay}
 
 -- what was measured of a relay, with this bandwidth, or with none
 abbrev pub with_bandwidth : Option ℕ → Measured → Measured
@@ -19,7 +19,7 @@ told_relay file relay = record {
 
 -- a relay of which only its bandwidth was measured
 abbrev pub row_relay : Fingerprint × ℕ → MeasuredRelay
-row_relay row = record { identity = row.0; measured = with_bandwidth (Some row.1) unmeasured }
+row_relay row = record { identity = row.0; measured = with_bandwidth (Some row.1) unmeasured_relay }
 
 -- the relays that were measured, each with its bandwidth by a file, and behind them those of the file
 abbrev pub told_relays : List (Fingerprint × ℕ) → List MeasuredRelay → List MeasuredRelay

@@ -119,7 +119,7 @@ pub fn pool_of<V: Verifier>(
 /// Keeps a descriptor, and says whether it found the pool full.
 fn keep<V: Verifier>(pool: &mut Pool<V>, entry: PoolEntry<V>) -> bool
     ensures full { result ≡ descriptors.is_full pool.old entry }
-    ensures pool { pool.new ≡ descriptors.kept pool.old entry }
+    ensures pool { pool.new ≡ descriptors.kept_pool pool.old entry }
 {
     matches!(pool.keep(entry), Keep::PoolFull)
 }

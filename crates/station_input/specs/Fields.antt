@@ -45,8 +45,8 @@ peer argument =
 -- ---- what an operator rules
 
 -- the ruling of this name
-abbrev pub ruling : List ℕ → Option Ruling
-ruling text =
+abbrev pub ruling_named : List ℕ → Option Ruling
+ruling_named text =
     if bytes_eq text (codes "approve") then Some Approve
     else if bytes_eq text (codes "reject") then Some Reject
     else if bytes_eq text (codes "invalid") then Some Invalid

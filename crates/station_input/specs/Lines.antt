@@ -7,7 +7,7 @@ use Rattle.flag_rules.specs.declared.operator.OperatorRule.{OperatorRule}
 use Rattle.frame_values.specs.declared.found.DirSource.{DirSource}
 use Rattle.frame_values.specs.Arguments.{arguments_of, front, others, field, next}
 use Rattle.frame_values.specs.Lines.{source_of}
-use Rattle.station_input.specs.Fields.{Identities, bandwidth, long_number, new_identity, peer, ruling}
+use Rattle.station_input.specs.Fields.{Identities, bandwidth, long_number, new_identity, peer, ruling_named}
 use Rattle.station_input.specs.Sources.{fits_line}
 use Rattle.station_input.specs.declared.frame_said.MeasuredRelay.{MeasuredRelay}
 use Rattle.station_input.specs.declared.frame_said.MemberLine.{MemberLine}
@@ -49,7 +49,7 @@ abbrev pub rule_of : Identities → Item → Result OperatorRule ℕ
 rule_of earlier item =
     let first = front item.place (arguments_of item) in
     let second = front item.place (others (arguments_of item)) in
-    next (field first (ruling first.text)) (λ ruled.
+    next (field first (ruling_named first.text)) (λ ruled.
     next (field second (new_identity earlier second.text)) (λ identity.
     Ok (record { identity = identity; ruling = ruled })))
 

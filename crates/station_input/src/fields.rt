@@ -40,7 +40,7 @@ pub(crate) fn peer(argument: &Argument<'_>) -> Option<Option<Span>>
 
 /// The ruling of this name.
 pub(crate) fn ruling(text: &[u8]) -> Option<Ruling>
-    ensures { result ≡ fields.ruling text.now }
+    ensures { result ≡ fields.ruling_named text.now }
 {
     if text == b"approve".as_slice() {
         Some(Ruling::Approve)

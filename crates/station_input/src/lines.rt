@@ -1,6 +1,6 @@
 // What the lines of a station input say.
 ghost use Rattle.std.specs.Prelude.{◌≡◌};
-ghost use Rattle.dirdoc_grammar.specs.Seen.{seen, IsInside};
+ghost use Rattle.dirdoc_grammar.specs.Seen.{seen_item, IsInside};
 ghost use Rattle.station_input.specs.Lines as lines;
 
 use crate::fields::{bandwidth, long_number, new_identity, peer, ruling};
@@ -15,7 +15,7 @@ use frame_values::{DirSource, arguments_of, field, fingerprint, source_of, take_
 /// Who the own authority is, whose line in a vote is one that a vote may have.
 pub(crate) fn own_of(item: &Item<'_>) -> Result<DirSource, u64>
     requires { IsInside item.now }
-    ensures { result ≡ lines.own_of (seen item.now) }
+    ensures { result ≡ lines.own_of (seen_item item.now) }
 {
     let mut arguments = arguments_of(item);
     let nickname = take_argument(&mut arguments, item.place);
@@ -32,7 +32,7 @@ pub(crate) fn own_of(item: &Item<'_>) -> Result<DirSource, u64>
 /// When the authority votes.
 pub(crate) fn schedule_of(item: &Item<'_>) -> Result<ScheduleLine, u64>
     requires { IsInside item.now }
-    ensures { result ≡ lines.schedule_of (seen item.now) }
+    ensures { result ≡ lines.schedule_of (seen_item item.now) }
 {
     let mut arguments = arguments_of(item);
     let first = take_argument(&mut arguments, item.place);
@@ -51,7 +51,7 @@ pub(crate) fn schedule_of(item: &Item<'_>) -> Result<ScheduleLine, u64>
 /// An authority of the network.
 pub(crate) fn member_of(item: &Item<'_>) -> Result<MemberLine, u64>
     requires { IsInside item.now }
-    ensures { result ≡ lines.member_of (seen item.now) }
+    ensures { result ≡ lines.member_of (seen_item item.now) }
 {
     let mut arguments = arguments_of(item);
     let first = take_argument(&mut arguments, item.place);
@@ -67,7 +67,7 @@ pub(crate) fn member_of(item: &Item<'_>) -> Result<MemberLine, u64>
 /// What the operator rules of a relay of which none of the rules before speaks.
 pub(crate) fn rule_of(earlier: &IdentitySet, item: &Item<'_>) -> Result<OperatorRule, u64>
     requires { IsInside item.now }
-    ensures { result ≡ lines.rule_of earlier.now (seen item.now) }
+    ensures { result ≡ lines.rule_of earlier.now (seen_item item.now) }
 {
     let mut arguments = arguments_of(item);
     let first = take_argument(&mut arguments, item.place);
@@ -83,7 +83,7 @@ pub(crate) fn rule_of(earlier: &IdentitySet, item: &Item<'_>) -> Result<Operator
 /// What was measured of a relay of which none of the lines before speaks.
 pub(crate) fn measured_of(earlier: &IdentitySet, item: &Item<'_>) -> Result<MeasuredRelay, u64>
     requires { IsInside item.now }
-    ensures { result ≡ lines.measured_of earlier.now (seen item.now) }
+    ensures { result ≡ lines.measured_of earlier.now (seen_item item.now) }
 {
     let mut arguments = arguments_of(item);
     let first = take_argument(&mut arguments, item.place);

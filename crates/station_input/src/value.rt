@@ -1,6 +1,6 @@
 // What the items of a station input say.
 ghost use Rattle.std.specs.Prelude.{◌≡◌};
-ghost use Rattle.dirdoc_grammar.specs.Seen.{seen, IsInside};
+ghost use Rattle.dirdoc_grammar.specs.Seen.{seen_item, IsInside};
 ghost use Rattle.frame_reader.specs.Giving as giving;
 ghost use Rattle.frame_reader.specs.Giving.{Gives};
 ghost use Rattle.frame_values.specs.Faults as faults;
@@ -19,7 +19,7 @@ use value_groups::{params_of, protocols_of, versions_of};
 
 /// A value, or the refusal at the place of what is wrong.
 fn at<V>(value: Result<V, u64>) -> Result<V, ReadRefusal>
-    ensures { result ≡ giving.given (faults.at_place value) }
+    ensures { result ≡ giving.given_result (faults.at_place value) }
 {
     given(at_place(value))
 }
@@ -27,7 +27,7 @@ fn at<V>(value: Result<V, u64>) -> Result<V, ReadRefusal>
 /// What an item of the kind `Source` says.
 fn source_value(item: &Item<'_>) -> Result<Value<StationValue>, u64>
     requires { IsInside item.now }
-    ensures { result ≡ tables.source_value (seen item.now) }
+    ensures { result ≡ tables.source_value (seen_item item.now) }
 {
     Ok(Value::Own(StationValue::Source(own_of(item)?)))
 }
@@ -35,7 +35,7 @@ fn source_value(item: &Item<'_>) -> Result<Value<StationValue>, u64>
 /// What an item of the kind `Schedule` says.
 fn schedule_value(item: &Item<'_>) -> Result<Value<StationValue>, u64>
     requires { IsInside item.now }
-    ensures { result ≡ tables.schedule_value (seen item.now) }
+    ensures { result ≡ tables.schedule_value (seen_item item.now) }
 {
     Ok(Value::Own(StationValue::Schedule(schedule_of(item)?)))
 }
@@ -43,7 +43,7 @@ fn schedule_value(item: &Item<'_>) -> Result<Value<StationValue>, u64>
 /// What an item of the kind `Member` says.
 fn member_value(item: &Item<'_>) -> Result<Value<StationValue>, u64>
     requires { IsInside item.now }
-    ensures { result ≡ tables.member_value (seen item.now) }
+    ensures { result ≡ tables.member_value (seen_item item.now) }
 {
     Ok(Value::Own(StationValue::Member(member_of(item)?)))
 }
@@ -51,7 +51,7 @@ fn member_value(item: &Item<'_>) -> Result<Value<StationValue>, u64>
 /// What an item of the kind `Rule` says.
 fn rule_value(across: &Across, item: &Item<'_>) -> Result<Value<StationValue>, u64>
     requires { IsInside item.now }
-    ensures { result ≡ tables.rule_value across.now (seen item.now) }
+    ensures { result ≡ tables.rule_value across.now (seen_item item.now) }
 {
     Ok(Value::Own(StationValue::Rule(rule_of(&across.ruled, item)?)))
 }
@@ -59,7 +59,7 @@ fn rule_value(across: &Across, item: &Item<'_>) -> Result<Value<StationValue>, u
 /// What an item of the kind `Measured` says.
 fn measured_value(across: &Across, item: &Item<'_>) -> Result<Value<StationValue>, u64>
     requires { IsInside item.now }
-    ensures { result ≡ tables.measured_value across.now (seen item.now) }
+    ensures { result ≡ tables.measured_value across.now (seen_item item.now) }
 {
     let relay = measured_of(&across.measured, item)?;
     Ok(Value::Own(StationValue::Measured(relay)))
@@ -68,7 +68,7 @@ fn measured_value(across: &Across, item: &Item<'_>) -> Result<Value<StationValue
 /// What an item of a certificate says.
 fn certificate_value(kind: CertKind, item: &Item<'_>) -> Result<Value<StationValue>, ReadRefusal>
     requires { IsInside item.now }
-    ensures { result ≡ giving.given (faults.at_place (tables.certificate_value kind (seen item.now))) }
+    ensures { result ≡ giving.given_result (faults.at_place (tables.certificate_value kind (seen_item item.now))) }
 {
     at(cert_value(kind, item))
 }
@@ -81,7 +81,7 @@ pub(crate) fn value_at(
     item: &Item<'_>,
 ) -> Result<Value<StationValue>, ReadRefusal>
     requires { IsInside item.now }
-    ensures { Gives (faults.at_place (tables.value_at across.now kind (seen item.now))) result }
+    ensures { Gives (faults.at_place (tables.value_at across.now kind (seen_item item.now))) result }
 {
     match kind {
         StationKind::Version => {
@@ -105,7 +105,7 @@ pub(crate) fn value_at(
 /// The fault of an item that has too many arguments for its kind.
 pub(crate) fn over_limit(kind: StationKind, item: &Item<'_>) -> Result<(), FrameFault>
     requires { IsInside item.now }
-    ensures { result ≡ tables.over_limit kind (seen item.now) }
+    ensures { result ≡ tables.over_limit kind (seen_item item.now) }
 {
     match kind {
         StationKind::Params => too_many(Limit::Params, item),

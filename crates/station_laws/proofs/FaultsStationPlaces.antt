@@ -18,7 +18,7 @@ use Rattle.frame_values.specs.declared.values.Value.TheVariants as value
 use Rattle.authority_certs.specs.declared.frame.CertKind.{CertKind}
 use Rattle.authority_certs.specs.declared.frame.CertKind.TheVariants as cert
 use Rattle.station_input.specs.Across.{note_value}
-use Rattle.station_input.specs.Fields.{Identities, bandwidth, long_number, new_identity, peer, ruling}
+use Rattle.station_input.specs.Fields.{Identities, bandwidth, long_number, new_identity, peer, ruling_named}
 use Rattle.station_input.specs.Lines.{measured_of, member_of, own_of, rule_of, schedule_of}
 use Rattle.station_input.specs.Sources.{fits_line}
 use Rattle.station_input.specs.Tables.{certificate_value, over_limit, station_tables, value_at}
@@ -30,7 +30,7 @@ use Rattle.station_input.specs.declared.frame_said.StationValue.TheVariants as o
 use Rattle.fault_places.specs.Within.{FaultIn, FaultsStandIn, HasFaultsWithin}
 use Rattle.fault_places.proofs.FirstFaults.{first_faults}
 use Rattle.fault_places.proofs.ArgumentPlaces.{PlaceIn, others_begin, param_in, protocol_in, versions_in}
-use Rattle.fault_places.proofs.ItemPlaces.{IsItemIn, all_begin, argument_in, begins, fingerprint_in, first_begins, item_in}
+use Rattle.fault_places.proofs.ItemPlaces.{IsItemIn, all_begin, argument_in, front_argument_begins, fingerprint_in, first_begins, item_in}
 use Rattle.fault_places.proofs.ItemPlaces.{literal_in, more_in, object_in, rest_in, second_begins, source_in, then_in, time_in}
 use Rattle.vote_parts.proofs.VotePlaces.{many_in}
 use Rattle.fault_places.proofs.Placed.{last_in, placed_unless}
@@ -65,8 +65,8 @@ module _ (n : ℕ) (item : Item) (is : IsItemIn n item) where
       let b = front item.place l1 in
       let c = front item.place l2 in
       more_in n a (long_number a.text) _ (first_begins n item is) (λ interval.
-      more_in n b (long_number b.text) _ (begins n item is l1 e1) (λ vote.
-      last_in n c (long_number c.text) _ (begins n item is l2 e2)))
+      more_in n b (long_number b.text) _ (front_argument_begins n item is l1 e1) (λ vote.
+      last_in n c (long_number c.text) _ (front_argument_begins n item is l2 e2)))
 
   member_in : PlaceIn n (member_of item)
   member_in =
@@ -79,7 +79,7 @@ module _ (n : ℕ) (item : Item) (is : IsItemIn n item) where
   rule_in earlier =
       let a = front item.place (arguments_of item) in
       let b = front item.place (others (arguments_of item)) in
-      more_in n a (ruling a.text) _ (first_begins n item is) (λ ruled.
+      more_in n a (ruling_named a.text) _ (first_begins n item is) (λ ruled.
       last_in n b (new_identity earlier b.text) _ (second_begins n item is))
 
   measured_in : (earlier : Identities) → PlaceIn n (measured_of earlier item)
@@ -102,11 +102,11 @@ module _ (n : ℕ) (item : Item) (is : IsItemIn n item) where
       let e = front item.place l4 in
       let f = front item.place l5 in
       more_in n a (new_identity earlier a.text) _ (first_begins n item is) (λ identity.
-      more_in n b (long_number b.text) _ (begins n item is l1 e1) (λ reached_at.
-      more_in n c (long_number c.text) _ (begins n item is l2 e2) (λ wmtbf.
-      more_in n d (number_of d.text) _ (begins n item is l3 e3) (λ wfu_ppm.
-      more_in n e (long_number e.text) _ (begins n item is l4 e4) (λ known_for.
-      last_in n f (bandwidth f.text) _ (begins n item is l5 e5))))))
+      more_in n b (long_number b.text) _ (front_argument_begins n item is l1 e1) (λ reached_at.
+      more_in n c (long_number c.text) _ (front_argument_begins n item is l2 e2) (λ wmtbf.
+      more_in n d (number_of d.text) _ (front_argument_begins n item is l3 e3) (λ wfu_ppm.
+      more_in n e (long_number e.text) _ (front_argument_begins n item is l4 e4) (λ known_for.
+      last_in n f (bandwidth f.text) _ (front_argument_begins n item is l5 e5))))))
 
   -- ---- what an item says
 

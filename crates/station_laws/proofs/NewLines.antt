@@ -22,7 +22,7 @@ use Rattle.frame_values.specs.declared.values.Value.TheVariants as value
 use Rattle.authority_certs.specs.Tables.{cert_value}
 use Rattle.authority_certs.specs.declared.frame.CertKind.{CertKind}
 use Rattle.authority_certs.specs.declared.frame.CertKind.TheVariants as cert
-use Rattle.station_input.specs.Fields.{Identities, bandwidth, long_number, new_identity, ruling, unless_there}
+use Rattle.station_input.specs.Fields.{Identities, bandwidth, long_number, new_identity, ruling_named, unless_there}
 use Rattle.station_input.specs.Lines.{measured_of, member_of, own_of, rule_of, schedule_of}
 use Rattle.station_input.specs.Tables.{over_limit, station_tables, value_at}
 use Rattle.station_input.specs.declared.across.Across.{Across}
@@ -111,7 +111,7 @@ new_rule earlier item =
     let New : OperatorRule → Type 0 = λ rule. IsNew earlier rule.identity in
     let first = front item.place (arguments_of item) in
     let second = front item.place (others (arguments_of item)) in
-    let f0 = field first (ruling first.text) in
+    let f0 = field first (ruling_named first.text) in
     let f1 = field second (new_identity earlier second.text) in
     let m1 = λ (r : Ruling) (i : Fingerprint). rule_made r i in
     let m0 = λ (r : Ruling). next f1 (m1 r) in

@@ -8,7 +8,7 @@ use Rattle.frame_terms.specs.declared.keyword.Keyword.TheVariants as the
 use Rattle.frame_terms.specs.declared.row.Count.TheVariants.{One}
 use Rattle.frame_terms.specs.declared.row.Row.{Row}
 use Rattle.frame_terms.specs.Keywords.{same}
-use Rattle.frame_terms.specs.Order.{following, opener}
+use Rattle.frame_terms.specs.Order.{following_sections, opener}
 use Rattle.frame_terms.specs.Rows.{row}
 use Rattle.frame_terms.specs.Sections.{row_of}
 use Rattle.authority_certs.specs.declared.frame.CertKind.TheVariants as cert
@@ -35,7 +35,7 @@ openers its.Certificate =
     }
 
 lasts : (section : StationSection) → ends_document station_tables section ≡ true
-    → following station_tables section ≡ []
+    → following_sections station_tables section ≡ []
 unfolding same
 lasts its.Station ends = refl
 lasts its.Certificate ends = refl
@@ -134,7 +134,7 @@ rows_are_apart its.Certificate = (refl, (refl, (refl, (refl, (refl, (refl, (refl
 
 openers_are_apart : (section : StationSection) → AllByRecursion
     (λ (later : StationSection). row_of (station_tables.rows section) (opener station_tables later) ≡ None)
-    (following station_tables section)
+    (following_sections station_tables section)
 unfolding same
 openers_are_apart its.Station = tt
 openers_are_apart its.Certificate = tt

@@ -7,13 +7,13 @@ use Rattle.std.specs.List.{flat_map}
 use Rattle.std.proofs.lemmas.Grind.{flat_map-append}
 use Rattle.std.proofs.lemmas.List.{append-nil, flat_map_more, take_more}
 use Rattle.std.proofs.lemmas.Option.{get_or_from_slice_get, slice_get_within}
-use Rattle.text_page.specs.Pages.{Sheet, sheet_with, with_text, blank, room_behind, count_of, counted}
+use Rattle.text_page.specs.Pages.{Sheet, sheet_with, with_text, blank, room_behind, count_of, counted_length}
 
 -- a text behind another, where there is one
-behind : (text : Option (List ℕ)) (first second : List ℕ)
+appended_in_two_parts : (text : Option (List ℕ)) (first second : List ℕ)
     → option_map (λ before. before ++ second) (option_map (λ before. before ++ first) text) ≡ option_map (λ before. before ++ (first ++ second)) text
-behind None first second = refl
-behind (Some text) first second = ap Some (append_assoc text first second)
+appended_in_two_parts None first second = refl
+appended_in_two_parts (Some text) first second = ap Some (append_assoc text first second)
 
 fits_after : (room first second : ℕ) (b : Bool) → nat_le first room ≡ true → nat_le second (room - first) ≡ b → nat_le (first + second) room ≡ b
 fits_after room first second b p q = grind (arith, nat_tests)
@@ -27,7 +27,7 @@ unfolding with_text
 joined_by true true sheet first second p q =
     let whole : nat_le (length (first ++ second)) sheet.left ≡ true = rw length-append (fits_after sheet.left (length first) (length second) true p q) in
     let left : sheet.left - length first - length second ≡ sheet.left - length (first ++ second) = omega (arith, length-append first second) in
-    rw (p, q, whole, behind sheet.text first second, left) refl
+    rw (p, q, whole, appended_in_two_parts sheet.text first second, left) refl
 joined_by true false sheet first second p q =
     let whole : nat_le (length (first ++ second)) sheet.left ≡ false = rw length-append (fits_after sheet.left (length first) (length second) false p q) in
     rw (p, q, whole) refl
@@ -68,9 +68,9 @@ no_list start text_of [] none empty = sym (ap (λ (l : List ℕ). with_text star
 no_list start text_of (x ∷ xs) none empty = absurd (omega (arith, empty))
 
 -- one piece more, of pieces that are put there one after another
-pub one_more : {X : Type 0} (f : X → List ℕ) (start before after : Option Sheet) (xs : List X) (i : ℕ) (x : X) → i < length xs → x ≡ get_or xs i x
+pub one_more_piece_put : {X : Type 0} (f : X → List ℕ) (start before after : Option Sheet) (xs : List X) (i : ℕ) (x : X) → i < length xs → x ≡ get_or xs i x
     → before ≡ with_text start (flat_map f (take i xs)) → after ≡ with_text before (f x) → after ≡ with_text start (flat_map f (take (i + 1) xs))
-one_more {X} f start before after xs i x lt is p q =
+one_more_piece_put {X} f start before after xs i x lt is p q =
     let more : flat_map f (take i xs) ++ f x ≡ flat_map f (take (i + 1) xs) =
     flat_map_more f [] (take i xs) x ∙ ap (λ (l : List X). flat_map f l) (ap (λ (y : X). take i xs ++ y ∷ []) is ∙ sym (take_more xs i x lt)) in
     q ∙ ap (λ (page : Option Sheet). with_text page (f x)) p ∙ with_text-joined start (flat_map f (take i xs)) (f x) ∙ ap (λ (l : List ℕ). with_text start l) more
@@ -79,7 +79,7 @@ one_more {X} f start before after xs i x lt is p q =
 pub one_more_at : {X : Type 0} (f : X → List ℕ) (start before after : Option Sheet) (xs : List X) (i : ℕ) (x : X) → slice_get xs i ≡ Some x
     → before ≡ with_text start (flat_map f (take i xs)) → after ≡ with_text before (f x) → after ≡ with_text start (flat_map f (take (i + 1) xs))
 one_more_at f start before after xs i x at p q =
-    one_more f start before after xs i x (slice_get_within xs i x at) (sym (get_or_from_slice_get xs i x x at)) p q
+    one_more_piece_put f start before after xs i x (slice_get_within xs i x at) (sym (get_or_from_slice_get xs i x x at)) p q
 
 -- a text for which there is room is put there whole
 pub with_text-whole : (sheet : Sheet) (text : List ℕ) → length text ≤ sheet.left
@@ -92,14 +92,14 @@ with_text-whole sheet text room =
 pub ruleset pages = (with_text-joined, with_text-nothing, append_assoc, append-nil, flat_map-append)
 
 -- what is counted of a text is its length
-counted_by : (b : Bool) (text : List ℕ) → nat_le (length text) (2 ^ 64 - 1) ≡ b → count_of (with_text (Some blank) text) ≡ counted text
+counted_by : (b : Bool) (text : List ℕ) → nat_le (length text) (2 ^ 64 - 1) ≡ b → count_of (with_text (Some blank) text) ≡ counted_length text
 unfolding with_text
 counted_by true text fits =
     let back : 2 ^ 64 - 1 - (2 ^ 64 - 1 - length text) ≡ length text = grind (arith, nat_tests) in
     rw (fits, back) refl
 counted_by false text fits = rw fits refl
 
-pub count_is_length : (text : List ℕ) → count_of (with_text (Some blank) text) ≡ counted text
+pub count_is_length : (text : List ℕ) → count_of (with_text (Some blank) text) ≡ counted_length text
 count_is_length text = counted_by _ text refl
 
 pub ruleset whole = (with_text-whole, count_is_length)

@@ -1,6 +1,6 @@
 // What the line of a shared random value says.
 ghost use Rattle.std.specs.Prelude.{◌≡◌};
-ghost use Rattle.dirdoc_grammar.specs.Seen.{seen, IsInside};
+ghost use Rattle.dirdoc_grammar.specs.Seen.{seen_item, IsInside};
 ghost use Rattle.value_groups.specs.Lines as lines;
 
 use crate::value::{SharedRandom, padded_digest};
@@ -23,7 +23,7 @@ pub enum RandomLine {
 /// The place of the first of both that is wrong, and the item's where it is missing.
 pub fn random_of(item: &Item<'_>) -> Result<SharedRandom, u64>
     requires { IsInside item.now }
-    ensures { result ≡ lines.random_of (seen item.now) }
+    ensures { result ≡ lines.random_of (seen_item item.now) }
 {
     let mut arguments = arguments_of(item);
     let first = take_argument(&mut arguments, item.place);

@@ -10,7 +10,7 @@ use Rattle.std.proofs.lemmas.List.Elements.{All-cons, All-filter, All-head, All-
 use Rattle.std.proofs.lemmas.List.FromFn.{get_or-range_with_len, length-range_with_len}
 use Rattle.item_terms.specs.Bytes.{comma, hyphen}
 use Rattle.list_values.specs.NumberSets.{Range, has_number, in_range, in_ranges, numbers_from, numbers_text}
-use Rattle.list_values.specs.NumberSets.{numbers_that, range_text, ranges_of, united, with_number}
+use Rattle.list_values.specs.NumberSets.{numbers_that, range_text, ranges_of, united_numbers, with_number}
 use Rattle.list_values.proofs.RangeLaws.{ranges_have}
 use Rattle.value_laws.proofs.Edges.{edges, either_edges, first_passes, is_edge, no_edges, run_edges, same_edges}
 use Rattle.value_laws.proofs.Edges.{size_if, size_of}
@@ -284,7 +284,7 @@ set_edges numbers small =
 
 -- both together are written in no more bytes than each
 pub united_short : (one other : List ℕ) → All IsSmall one → All IsSmall other
-    → length (numbers_text (united one other)) ≤ set_room one + set_room other - 1
+    → length (numbers_text (united_numbers one other)) ≤ set_room one + set_room other - 1
 united_short one other small small_other =
     omega (
       arith,

@@ -16,7 +16,7 @@ use Rattle.dir_values.specs.Versions.{has_mark}
 use Rattle.dir_values.proofs.ArgumentWords.{arguments_words}
 use Rattle.list_values.specs.declared.named.Named.{Named}
 use Rattle.list_values.specs.Equations.{equals, left_side, right_side}
-use Rattle.list_values.specs.Maps.{named, with_value}
+use Rattle.list_values.specs.Maps.{named_value, with_value}
 use Rattle.list_values.specs.Params.{as_params, its_name, name_in, number_in, param_text, params_text, with_param}
 use Rattle.list_values.specs.Params.{wrong_param}
 use Rattle.value_groups.specs.Listed.{members_of}
@@ -35,7 +35,7 @@ param_size param = omega (arith, length-append param.name (equals ∷ signed_dec
 put_room : (params : List (Named ℤ)) (name : List ℕ) (number : ℤ)
     → params_room (with_value params name number)
     ≤ params_room params + (length name + 1 + length (signed_decimal number) + 1)
-put_room [] name number = omega (arith, param_size (named name number))
+put_room [] name number = omega (arith, param_size (named_value name number))
 put_room (first ∷ rest) name number =
     by (bytes_below first.name name) (bytes_eq first.name name) (put_room rest name number)
   where
@@ -44,11 +44,11 @@ put_room (first ∷ rest) name number =
 
     by : (b e : Bool) → params_room (with_value rest name number) ≤ params_room rest + most
         → params_room (if b then first ∷ with_value rest name number
-        else if e then named first.name number ∷ rest else named name number ∷ first ∷ rest)
+        else if e then named_value first.name number ∷ rest else named_value name number ∷ first ∷ rest)
         ≤ params_room (first ∷ rest) + most
     by true e more = omega (arith, more)
-    by false true more = omega (arith, param_size first, param_size (named first.name number))
-    by false false more = omega (arith, param_size (named name number))
+    by false true more = omega (arith, param_size first, param_size (named_value first.name number))
+    by false false more = omega (arith, param_size (named_value name number))
 
 -- ---- words
 

@@ -8,7 +8,7 @@ use Rattle.std.proofs.lemmas.Bool.{and_from}
 use Rattle.std.proofs.lemmas.Bool.Decides.{nat_tests}
 use Rattle.std.proofs.lemmas.List.Elements.{All-cons, All-head, All-nil, All-tail}
 use Rattle.dir_bytes.proofs.ReadAgain.{signed-signed_decimal}
-use Rattle.dir_bytes.specs.Fields.{signed}
+use Rattle.dir_bytes.specs.Fields.{signed_number}
 use Rattle.dir_values.specs.Arguments.{texts_of}
 use Rattle.dir_values.specs.FlagSets.{is_name, is_name_byte, unless_wrong}
 use Rattle.dir_values.specs.FlagSets as flag_sets
@@ -59,7 +59,7 @@ left param is = front_again equals param.name (signed_decimal param.value) (name
 
 number : (param : Named ℤ) → IsParamInRange param → number_in (word param) ≡ Some param.value
 number param is =
-    ap signed (behind_again equals param.name (signed_decimal param.value) (name_lacks param.name is.name))
+    ap signed_number (behind_again equals param.name (signed_decimal param.value) (name_lacks param.name is.name))
     ∙ signed-signed_decimal param.value is.number
 
 its : (param : Named ℤ) → IsParamInRange param → name_in (word param) ≡ param.name

@@ -17,8 +17,8 @@ use Rattle.dir_values.proofs.ArgumentWords.{arguments_words}
 use Rattle.dir_values.proofs.Orders.{AllPairs-head, AllPairs-tail, apart, apart_back, below-trans, below_or_same}
 use Rattle.list_values.specs.declared.named.Named.{Named}
 use Rattle.list_values.specs.Equations.{equals, left_side, right_side}
-use Rattle.list_values.specs.Maps.{Ascend, has_name, named, value_at, with_value}
-use Rattle.list_values.specs.NumberSets.{in_ranges, numbers_text, united}
+use Rattle.list_values.specs.Maps.{Ascend, has_name, named_value, value_at, with_value}
+use Rattle.list_values.specs.NumberSets.{in_ranges, numbers_text, united_numbers}
 use Rattle.list_values.specs.Protocols.{as_protocols, is_protocol, numbers_at, numbers_in}
 use Rattle.list_values.specs.Protocols.{protocol_text, protocols_text, ranges_in, with_protocol}
 use Rattle.list_values.specs.Protocols.{wrong_protocol}
@@ -70,7 +70,7 @@ numbers_first first rest name = by (bytes_eq first.name name)
 put_room : (protocols : List Protocol) (name numbers : List ℕ) (more : ℕ) → Ascend protocols → 0 < more
     → length (numbers_text numbers) ≤ set_room (numbers_at protocols name) + more - 1
     → protocols_room (with_value protocols name numbers) ≤ protocols_room protocols + (length name + 1 + more)
-put_room [] name numbers more up some few = omega (arith, few, some, protocol_size (named name numbers))
+put_room [] name numbers more up some few = omega (arith, few, some, protocol_size (named_value name numbers))
 put_room (first ∷ rest) name numbers more up some few =
     by (bytes_below first.name name) refl (bytes_eq first.name name) refl
     (ap set_room (numbers_first first rest name))
@@ -81,7 +81,7 @@ put_room (first ∷ rest) name numbers more up some few =
         → (length (numbers_text numbers) ≤ set_room (numbers_at rest name) + more - 1
         → protocols_room (with_value rest name numbers) ≤ protocols_room rest + (length name + 1 + more))
         → protocols_room (if b then first ∷ with_value rest name numbers
-        else if e then named first.name numbers ∷ rest else named name numbers ∷ first ∷ rest)
+        else if e then named_value first.name numbers ∷ rest else named_value name numbers ∷ first ∷ rest)
         ≤ protocols_room (first ∷ rest) + (length name + 1 + more)
     by true below true same at later = absurd (false≢true (sym (apart first.name name below) ∙ same))
     by true below false same at later =
@@ -93,7 +93,7 @@ put_room (first ∷ rest) name numbers more up some few =
           at,
           some,
           protocol_size first,
-          protocol_size (named first.name numbers),
+          protocol_size (named_value first.name numbers),
           set_text_room first.value,
         )
     by false below false same at later =
@@ -102,7 +102,7 @@ put_room (first ∷ rest) name numbers more up some few =
         (All-weaker (Before first) (λ (other : Protocol). bytes_below name other.name ≡ true)
         (λ other is. below-trans name first.name other.name before is) rest (AllPairs-head Before first rest up)) in
         let empty = ap (λ (found : Option (List ℕ)). set_room (unwrap_or found [])) none in
-        omega (arith, few, at, empty, some, protocol_size (named name numbers))
+        omega (arith, few, at, empty, some, protocol_size (named_value name numbers))
 
 -- ---- words
 
@@ -117,19 +117,19 @@ record FitIn (most : ℕ) (protocols : List Protocol) : Type 0 where
 
 small_value : (protocols : List Protocol) (name numbers : List ℕ) → All SmallNumbers protocols → All IsSmall numbers
     → All SmallNumbers (with_value protocols name numbers)
-small_value [] name numbers all is = All-cons SmallNumbers (named name numbers) [] is all
+small_value [] name numbers all is = All-cons SmallNumbers (named_value name numbers) [] is all
 small_value (first ∷ rest) name numbers all is =
     by (bytes_below first.name name) (bytes_eq first.name name)
     (small_value rest name numbers (All-tail SmallNumbers first rest all) is)
   where
     by : (b e : Bool) → All SmallNumbers (with_value rest name numbers)
         → All SmallNumbers (if b then first ∷ with_value rest name numbers
-        else if e then named first.name numbers ∷ rest else named name numbers ∷ first ∷ rest)
+        else if e then named_value first.name numbers ∷ rest else named_value name numbers ∷ first ∷ rest)
     by true e later =
         All-cons SmallNumbers first (with_value rest name numbers) (All-head SmallNumbers first rest all) later
     by false true later =
-        All-cons SmallNumbers (named first.name numbers) rest is (All-tail SmallNumbers first rest all)
-    by false false later = All-cons SmallNumbers (named name numbers) (first ∷ rest) is all
+        All-cons SmallNumbers (named_value first.name numbers) rest is (All-tail SmallNumbers first rest all)
+    by false false later = All-cons SmallNumbers (named_value name numbers) (first ∷ rest) is all
 
 small_at : (protocols : List Protocol) (name : List ℕ) → All SmallNumbers protocols
     → All IsSmall (numbers_at protocols name)
@@ -161,11 +161,11 @@ with_word most protocols word fit marked =
     let room_more = length (right_side word) + 1 in
     let few = fit.few in
     record {
-      up = Ascend-with_value protocols name (united own more) fit.up;
-      small = small_value protocols name (united own more) fit.small (kept_small _);
+      up = Ascend-with_value protocols name (united_numbers own more) fit.up;
+      small = small_value protocols name (united_numbers own more) fit.small (kept_small _);
       few =
           let put =
-          put_room protocols name (united own more) room_more fit.up (omega arith) (omega (arith, both, short, text)) in
+          put_room protocols name (united_numbers own more) room_more fit.up (omega arith) (omega (arith, both, short, text)) in
           omega (arith, put, few, sides_of equals word marked);
     }
 

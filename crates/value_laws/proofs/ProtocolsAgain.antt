@@ -13,7 +13,7 @@ use Rattle.frame_laws.proofs.Words.{arguments_of_words, placed, words_of-join}
 use Rattle.list_values.specs.declared.named.Named.{Named}
 use Rattle.list_values.specs.Equations.{equals, left_side, right_side}
 use Rattle.list_values.specs.Maps.{with_value}
-use Rattle.list_values.specs.NumberSets.{Range, has_number, in_ranges, numbers_text, numbers_that, ranges_of, united}
+use Rattle.list_values.specs.NumberSets.{Range, has_number, in_ranges, numbers_text, numbers_that, ranges_of, united_numbers}
 use Rattle.list_values.specs.Protocols.{as_protocols, is_protocol, numbers_at, numbers_in, protocol_text}
 use Rattle.list_values.specs.Protocols.{ranges_in, with_protocol, wrong_protocol}
 use Rattle.list_values.proofs.NumberLists.{same_numbers}
@@ -90,9 +90,9 @@ put : (protocols : List Protocol) (one : Protocol) → IsProtocolInRange one →
 put protocols one is before =
     let none : numbers_at protocols one.name ≡ [] =
     ap (λ (o : Option (List ℕ)). unwrap_or o []) (none_yet protocols one before) in
-    ap₂ (λ (n l : List ℕ). with_value protocols n (united (numbers_at protocols n) l)) (left one is)
+    ap₂ (λ (n l : List ℕ). with_value protocols n (united_numbers (numbers_at protocols n) l)) (left one is)
     (its_numbers one is)
-    ∙ ap (λ (l : List ℕ). with_value protocols one.name (united l one.value)) none
+    ∙ ap (λ (l : List ℕ). with_value protocols one.name (united_numbers l one.value)) none
     ∙ ap (λ (l : List ℕ). with_value protocols one.name l) (numbers_alone one.value is.numbers)
     ∙ put_last protocols one before
 

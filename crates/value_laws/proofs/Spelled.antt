@@ -9,7 +9,7 @@ use Rattle.std.proofs.lemmas.Bool.{and_parts, leb-true, ltb-true}
 use Rattle.std.proofs.lemmas.Fmt.{length-decimal-le}
 use Rattle.std.proofs.lemmas.List.{length-drop}
 use Rattle.std.proofs.lemmas.Str.Parse.{digits_value_short, numerals_by_value, tells_all_ascii_digits}
-use Rattle.dir_bytes.specs.Fields.{is_numeral, number, signed}
+use Rattle.dir_bytes.specs.Fields.{is_numeral, number, signed_number}
 
 same_some : (a b : ℕ) → Some a ≡ Some b → a ≡ b
 same_some a b is = cc
@@ -44,9 +44,9 @@ negative : (n k : ℕ) → length (decimal n) ≤ k → 0 < k → length (signed
 negative zero k few some = omega (arith, few)
 negative (suc n) k few some = omega (arith, few)
 
-pub signed_spelled : (text : List ℕ) (z : ℤ) → signed text ≡ Some z
+pub signed_spelled : (text : List ℕ) (z : ℤ) → signed_number text ≡ Some z
     → (length (signed_decimal z) ≤ length text) × (0 < length text)
-unfolding signed
+unfolding signed_number
 signed_spelled text z is =
     by (starts_with_minus text) (number 2147483648 (drop 1 text)) refl (number 2147483647 text) refl is
   where

@@ -1,8 +1,8 @@
 // The votes that are held, one for each authority.
 ghost use Rattle.std.specs.Prelude.{◌≡◌, ◌≤◌, ◌<◌, ◌⊎◌, [], length, option_map, true, vec_len, vec_capacity, IfOk, IsSome, slice_index_or};
 ghost use Rattle.vote_terms.specs.Votes.{is_above, rank_of};
-ghost use Rattle.vote_terms.specs.Held.{placed, rival, vote_of, VotesAscend};
-ghost use Rattle.vote_doc.specs.Holdings.{MayPlace, against, placing};
+ghost use Rattle.vote_terms.specs.Held.{votes_with, rival, vote_of, VotesAscend};
+ghost use Rattle.vote_doc.specs.Holdings.{MayPlace, against, placing_answer};
 ghost use Rattle.vote_doc.specs.Lending as lending;
 
 use crate::held::HeldVote;
@@ -140,8 +140,8 @@ impl Accepted {
     /// of greater rank is held, and of equal ranks the one that was placed first. Takes no memory.
     pub fn place(&mut self, held: HeldVote) -> Placed
         requires { MayPlace self.old held }
-        ensures votes { self.new ≡ record self.old { votes = placed self.old.votes held } }
-        ensures answer { result ≡ placing self.old.votes held }
+        ensures votes { self.new ≡ record self.old { votes = votes_with self.old.votes held } }
+        ensures answer { result ≡ placing_answer self.old.votes held }
     {
         put(&mut self.votes, held)
     }
@@ -150,9 +150,9 @@ impl Accepted {
 /// Puts a vote into its place among votes that ascend.
 fn put(votes: &mut Vec<HeldVote>, held: HeldVote) -> Placed
     requires { IsSome (rival votes.old.items held) ⊎ (vec_len votes.old < vec_capacity votes.old) }
-    ensures votes { votes.new.items ≡ placed votes.old.items held }
+    ensures votes { votes.new.items ≡ votes_with votes.old.items held }
     ensures capacity { vec_capacity votes.old ≤ vec_capacity votes.new }
-    ensures answer { result ≡ placing votes.old.items held }
+    ensures answer { result ≡ placing_answer votes.old.items held }
 {
     let authority = held.vote().identity();
     let at = slot(votes, &authority);

@@ -33,9 +33,9 @@ joined true first h = rw (h refl) refl
 joined false true h = refl
 joined false false h = refl
 
-both : (p : Bool) → p ≡ (p && true)
-both true = refl
-both false = refl
+and_true_changes_nothing : (p : Bool) → p ≡ (p && true)
+and_true_changes_nothing true = refl
+and_true_changes_nothing false = refl
 
 -- an identity comes after all entries where it comes after the last
 pub last_decides : (addresses : List Span) (micros : List KeptMicro) (rows : List EntryRow) (i : ℕ) (row : EntryRow) (identity : Fingerprint)
@@ -44,7 +44,7 @@ pub last_decides : (addresses : List Span) (micros : List KeptMicro) (rows : Lis
 last_decides addresses micros [] i row identity ascend count found = absurd (omega (arith, count))
 last_decides addresses micros (first ∷ []) zero row identity ascend count found =
     let same : first ≡ row = cc in
-    ap (λ (r : EntryRow). identity_below r.relay.identity identity) (sym same) ∙ both (identity_below first.relay.identity identity)
+    ap (λ (r : EntryRow). identity_below r.relay.identity identity) (sym same) ∙ and_true_changes_nothing (identity_below first.relay.identity identity)
 last_decides addresses micros (first ∷ []) (suc i) row identity ascend count found = absurd (omega (arith, count))
 last_decides addresses micros (first ∷ next ∷ rows) zero row identity ascend count found = absurd (omega (arith, count))
 last_decides addresses micros (first ∷ next ∷ rows) (suc i) row identity ascend count found =

@@ -56,17 +56,17 @@ by_byte b bytes false true is whole within = within ∙ sym (blank_front b (line
 by_byte b bytes false false is whole within =
     ap is_lines (others bytes) ∙ sym (dark_front b (lines bytes) is)
 
-both : (bytes : List ℕ) → (is_lines (fold blank_with Lines bytes) ≡ all_blank (lines bytes))
+both_states_tell_blank_lines : (bytes : List ℕ) → (is_lines (fold blank_with Lines bytes) ≡ all_blank (lines bytes))
     × (is_lines (fold blank_with Within bytes) ≡ all_blank (onto 32 (lines bytes)))
-both [] = (refl, refl)
-both (b ∷ bytes) =
-    let h = both bytes in
+both_states_tell_blank_lines [] = (refl, refl)
+both_states_tell_blank_lines (b ∷ bytes) =
+    let h = both_states_tell_blank_lines bytes in
     let one : is_lines (fold blank_with (blank_by b) bytes) ≡ all_blank (lines (b ∷ bytes)) =
     by_byte b bytes (b == 10) (is_blank b) refl h.0 h.1 in
     (one, one ∙ sym (before b (lines bytes) (b == 10)))
 
 pub blank_lines : (bytes : List ℕ) → is_lines (blank_of bytes) ≡ are_blank_lines bytes
-blank_lines bytes = (both bytes).0
+blank_lines bytes = (both_states_tell_blank_lines bytes).0
 
 pub by_lines : (blank : Blank) (lines_ : Bool) → lines_ ≡ is_lines blank
     → (bytes : List ℕ) → blank ≡ blank_of bytes → lines_ ≡ are_blank_lines bytes

@@ -3,14 +3,14 @@ use Rattle.std.proofs.Common.{◌≡◌, ◌∙◌, ℕ, ◌≤◌, ◌⊎◌, f
 use Rattle.std.proofs.Common.{Option, Some, None, Result, Ok, Err, refl, sym, ap, subst, inl, inr, arith}
 use Rattle.std.proofs.lemmas.List.{drop-append-le, length-drop}
 use Rattle.item_terms.specs.Items as model
-use Rattle.item_terms.specs.Items.{Contents, also, contents, failed, nothing}
+use Rattle.item_terms.specs.Items.{Contents, also, contents, failed_contents, nothing}
 use Rattle.item_terms.specs.declared.fault.DocFault.{DocFault}
 use Rattle.dirdoc_grammar.specs.declared.cursor.Cursor.{Cursor}
 use Rattle.dirdoc_grammar.specs.declared.item.Item.{Item}
 use Rattle.dirdoc_grammar.specs.declared.take.Take.TheVariants as take_
 use Rattle.dirdoc_grammar.specs.Cursors.{IsAt, behind, fed_by}
 use Rattle.dirdoc_grammar.specs.Feeding.{EndsNoEarlier, Fed, MayFollow, Settles, Takes, left_with}
-use Rattle.dirdoc_grammar.specs.Seen.{seen}
+use Rattle.dirdoc_grammar.specs.Seen.{seen_item}
 use Rattle.dirdoc_grammar.specs.Writing.{in_front}
 use Rattle.dirdoc_grammar.proofs.Cursors.{at_behind, at_more}
 use Rattle.frame_terms.specs.declared.document.Open.{Open}
@@ -60,7 +60,7 @@ pub ends_late : (known : ℕ) (bytes : List ℕ) (old new : Cursor) (item : Item
     → Takes (fed_by old bytes false) (take_.Item item) (fed_by new bytes false) → known ≤ item.after
 ends_late known bytes old new item (inl behind_) takes = let lt = takes.2 in omega (arith, behind_, lt)
 ends_late known bytes old new item (inr later) takes =
-    later [] (seen item) (left_with (fed_by new bytes false) []) (takes.0 [] tt)
+    later [] (seen_item item) (left_with (fed_by new bytes false) []) (takes.0 [] tt)
 
 pub place_after : (bytes : List ℕ) (old new : Cursor) (item : Item)
     → Takes (fed_by old bytes false) (take_.Item item) (fed_by new bytes false) → new.place ≡ item.after
@@ -195,12 +195,12 @@ module _ {S K V X F : Type 0} (with_ : F → S → List (Taken V) → F) (none :
   -- a fault comes next
   pub faulty : (bytes : List ℕ) (cursor : Cursor) (across : X) (open_ : Open S V) (facts : F) (fault : DocFault)
       → SoFar with_ none tables limit bytes cursor across open_ facts
-      → ((more : List ℕ) → MayFollow false more → left_with (fed_by cursor bytes false) more ≡ failed fault)
+      → ((more : List ℕ) → MayFollow false more → left_with (fed_by cursor bytes false) more ≡ failed_contents fault)
       → (n : ℕ) (more : List ℕ)
       → used_of (document_of tables n (contents limit 0 nothing (bytes ++ more))) ≡ Err (of_doc fault)
   unfolding read_items
   faulty bytes cursor across open_ facts fault so left n more =
-      made_of bytes cursor across open_ facts so n more (failed fault) (left more tt)
+      made_of bytes cursor across open_ facts so n more (failed_contents fault) (left more tt)
 
 -- with an item the document ends
 pub ended : {S K V X F : Type 0} (with_ : F → S → List (Taken V) → F) (tables : Tables S K V X) (item : model.Item)

@@ -11,7 +11,7 @@ use Rattle.dirdoc_grammar.specs.declared.take.Take.TheVariants as take_
 use Rattle.dirdoc_grammar.specs.Cursors.{IsAt, behind, fed_by}
 use Rattle.dirdoc_grammar.specs.declared.take.Take.{Take}
 use Rattle.dirdoc_grammar.specs.Feeding.{EndsNoEarlier, IfNotYet, Takes, left_with}
-use Rattle.dirdoc_grammar.specs.Seen.{seen}
+use Rattle.dirdoc_grammar.specs.Seen.{seen_item}
 use Rattle.dirdoc_grammar.proofs.Cursors.{at_behind}
 use Rattle.dirdoc_grammar.proofs.Giving.{gives_quiet}
 use Rattle.frame_terms.specs.declared.document.Open.{Open}
@@ -78,27 +78,27 @@ pub whole_comes : (known : ℕ) (bytes : List ℕ) (old new : Cursor) (item : It
     (k0 k1 : Kept) (used : ℕ) (result : Result (Option ℕ) ReadRefusal) → result ≡ Ok (Some used)
     → VoteSoFar bytes old x0 o0 k0 → Late known bytes old
     → Takes (fed_by old bytes false) (take_.Item item) (fed_by new bytes false)
-    → Turns kept_with vote_tables (seen item) x0 o0 k0 x1 o1 k1 result
+    → Turns kept_with vote_tables (seen_item item) x0 o0 k0 x1 o1 k1 result
     → Comes known bytes new x1 o1 k1 (Ok (reached.Whole used))
 whole_comes known bytes old new item x0 x1 o0 o1 k0 k1 used result is so late takes turns =
-    let turned : Turns kept_with vote_tables (seen item) x0 o0 k0 x1 o1 k1 (Ok (Some used)) =
-    subst (λ (r : Result (Option ℕ) ReadRefusal). Turns kept_with vote_tables (seen item) x0 o0 k0 x1 o1 k1 r) is
+    let turned : Turns kept_with vote_tables (seen_item item) x0 o0 k0 x1 o1 k1 (Ok (Some used)) =
+    subst (λ (r : Result (Option ℕ) ReadRefusal). Turns kept_with vote_tables (seen_item item) x0 o0 k0 x1 o1 k1 r) is
     turns in
-    let ends = going.ended kept_with vote_tables (seen item) x0 x1 o0 o1 k0 k1 used turned in
-    let last = last_item vote_tables vote_ends x0 o0 (seen item) used ends in
+    let ends = going.ended kept_with vote_tables (seen_item item) x0 x1 o0 o1 k0 k1 used turned in
+    let last = last_item vote_tables vote_ends x0 o0 (seen_item item) used ends in
     let after : item.after ≡ used = last.0 in
     let far = ends_late known bytes old new item late takes in
     let within = ends_within bytes old new item so.reads takes in
     let le : used ≤ length bytes = omega (arith, within, after) in
     let rest : Contents = left_with (fed_by new bytes false) [] in
-    let parts : (contents max_vote 0 nothing bytes).items ≡ so.front ++ seen item ∷ rest.items =
+    let parts : (contents max_vote 0 nothing bytes).items ≡ so.front ++ seen_item item ∷ rest.items =
     ap (λ (l : List ℕ). (contents max_vote 0 nothing l).items) (sym (append-nil bytes))
     ∙ ap (λ (c : Contents). c.items) (so.items [])
     ∙ ap (λ (c : Contents). so.front ++ c.items) (takes.0 [] tt) in (
       omega (arith, far, after),
       le,
       (λ more.
-          whole_part kept_with none_kept k0 k1 vote_tables max_vote bytes so.front rest.items (seen item) x0 o0 used
+          whole_part kept_with none_kept k0 k1 vote_tables max_vote bytes so.front rest.items (seen_item item) x0 o0 used
           parts last so.made turned (length (take used bytes ++ more)) more
           ∙ ap (λ (n : ℕ). Ok (k1, n)) (sym (length-take-le used bytes le))),
     )
@@ -108,12 +108,12 @@ pub item_taken : (bytes : List ℕ) (old new : Cursor) (item : Item) (x0 x1 : Ac
     (result : Result (Option ℕ) ReadRefusal) → result ≡ Ok None
     → VoteSoFar bytes old x0 o0 k0 → IsAt bytes new → new.limit ≡ old.limit
     → Takes (fed_by old bytes false) (take_.Item item) (fed_by new bytes false)
-    → Turns kept_with vote_tables (seen item) x0 o0 k0 x1 o1 k1 result → VoteSoFar bytes new x1 o1 k1
+    → Turns kept_with vote_tables (seen_item item) x0 o0 k0 x1 o1 k1 result → VoteSoFar bytes new x1 o1 k1
 item_taken bytes old new item x0 x1 o0 o1 k0 k1 result is so at_ same takes turns =
     let turned =
-    subst (λ (r : Result (Option ℕ) ReadRefusal). Turns kept_with vote_tables (seen item) x0 o0 k0 x1 o1 k1 r) is
+    subst (λ (r : Result (Option ℕ) ReadRefusal). Turns kept_with vote_tables (seen_item item) x0 o0 k0 x1 o1 k1 r) is
     turns in
-    going.item_on kept_with none_kept vote_tables max_vote bytes old new (seen item) x0 x1 o0 o1 k0 k1 so at_ same
+    going.item_on kept_with none_kept vote_tables max_vote bytes old new (seen_item item) x0 x1 o0 o1 k0 k1 so at_ same
     takes.0 turned
 
 -- a fault of a line comes

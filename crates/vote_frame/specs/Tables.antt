@@ -20,7 +20,7 @@ use Rattle.frame_values.specs.Signatures.{signature_of}
 use Rattle.value_groups.specs.ListLines.{params_of, protocols_of, versions_of}
 use Rattle.authority_certs.specs.Tables.{cert_rows, cert_shape, cert_value}
 use Rattle.relay_entries.specs.declared.listed.Listed.{Listed}
-use Rattle.relay_entries.specs.Lines.{entry_value, is_ignored, lifted}
+use Rattle.relay_entries.specs.Lines.{entry_value, is_ignored, lifted_entry_value}
 use Rattle.relay_entries.specs.Listing.{too_many_entries, note_entry}
 use Rattle.relay_entries.specs.Tables.{entry_rows, entry_shape}
 use Rattle.value_groups.specs.Lines.{random_of}
@@ -106,7 +106,7 @@ value_at (Random of) item = Ok (value.Own (own.Random of (random_of item)))
 value_at Nothing item = Ok value.Nothing
 value_at Signature item = next (signature_of item) (λ signature. Ok (value.Own (own.Signature signature)))
 value_at (Certificate kind) item = cert_value kind item
-value_at (Entry kind) item = next (entry_value kind item) (λ said. Ok (lifted own.Entry said))
+value_at (Entry kind) item = next (entry_value kind item) (λ said. Ok (lifted_entry_value own.Entry said))
 
 -- the fault of an item that has too many arguments for its kind, or that begins one entry too many
 abbrev pub over_limit : Listed → VoteKind → Item → Result (Unit {0}) FrameFault

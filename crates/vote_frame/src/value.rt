@@ -1,6 +1,6 @@
 // What the items of a vote say, and what is remembered of them.
 ghost use Rattle.std.specs.Prelude.{◌≡◌};
-ghost use Rattle.dirdoc_grammar.specs.Seen.{seen, IsInside};
+ghost use Rattle.dirdoc_grammar.specs.Seen.{seen_item, IsInside};
 ghost use Rattle.frame_terms.specs.Refusals.{Becomes};
 ghost use Rattle.frame_reader.specs.Giving as giving;
 ghost use Rattle.frame_reader.specs.Giving.{Gives};
@@ -25,7 +25,7 @@ use value_groups::{params_of, protocols_of, random_of, versions_of};
 
 /// What an item of an entry says, as a vote does.
 fn lifted(said: Value<EntryValue>) -> Value<VoteValue>
-    ensures { result ≡ lines.lifted VoteValue.Entry said }
+    ensures { result ≡ lines.lifted_entry_value VoteValue.Entry said }
 {
     match said {
         Value::Nothing => Value::Nothing,
@@ -39,7 +39,7 @@ fn lifted(said: Value<EntryValue>) -> Value<VoteValue>
 
 /// A value, or the refusal at the place of what is wrong.
 fn at<V>(value: Result<V, u64>) -> Result<V, ReadRefusal>
-    ensures { result ≡ giving.given (faults.at_place value) }
+    ensures { result ≡ giving.given_result (faults.at_place value) }
 {
     given(at_place(value))
 }
@@ -47,7 +47,7 @@ fn at<V>(value: Result<V, u64>) -> Result<V, ReadRefusal>
 /// What an item of the kind `Delays` says.
 fn delays_value(item: &Item<'_>) -> Result<Value<VoteValue>, ReadRefusal>
     requires { IsInside item.now }
-    ensures { Gives (faults.at_place (tables.value_at VoteKind.Delays (seen item.now))) result }
+    ensures { Gives (faults.at_place (tables.value_at VoteKind.Delays (seen_item item.now))) result }
 {
     let (vote, distribution) = at(delays_of(item))?;
     Ok(Value::Own(VoteValue::Delays(vote, distribution)))
@@ -56,7 +56,7 @@ fn delays_value(item: &Item<'_>) -> Result<Value<VoteValue>, ReadRefusal>
 /// What an item of the kind `Source` says.
 fn source_value(item: &Item<'_>) -> Result<Value<VoteValue>, ReadRefusal>
     requires { IsInside item.now }
-    ensures { Gives (faults.at_place (tables.value_at VoteKind.Source (seen item.now))) result }
+    ensures { Gives (faults.at_place (tables.value_at VoteKind.Source (seen_item item.now))) result }
 {
     let source = at(source_of(item))?;
     Ok(Value::Own(VoteValue::Source(source)))
@@ -65,7 +65,7 @@ fn source_value(item: &Item<'_>) -> Result<Value<VoteValue>, ReadRefusal>
 /// What an item of the kind `Signature` says.
 fn signature_value(item: &Item<'_>) -> Result<Value<VoteValue>, ReadRefusal>
     requires { IsInside item.now }
-    ensures { Gives (faults.at_place (tables.value_at VoteKind.Signature (seen item.now))) result }
+    ensures { Gives (faults.at_place (tables.value_at VoteKind.Signature (seen_item item.now))) result }
 {
     let signature = at(signature_of(item))?;
     Ok(Value::Own(VoteValue::Signature(signature)))
@@ -74,7 +74,7 @@ fn signature_value(item: &Item<'_>) -> Result<Value<VoteValue>, ReadRefusal>
 /// What an item of a certificate says.
 fn certificate_value(kind: CertKind, item: &Item<'_>) -> Result<Value<VoteValue>, ReadRefusal>
     requires { IsInside item.now }
-    ensures { Gives (faults.at_place (tables.value_at (VoteKind.Certificate kind) (seen item.now))) result }
+    ensures { Gives (faults.at_place (tables.value_at (VoteKind.Certificate kind) (seen_item item.now))) result }
 {
     at(cert_value(kind, item))
 }
@@ -86,7 +86,7 @@ fn lifted_value(
     item: &Item<'_>,
 ) -> Result<Value<VoteValue>, ReadRefusal>
     requires { IsInside item.now }
-    ensures { Gives (faults.at_place (tables.value_at (VoteKind.Entry kind) (seen item.now))) result }
+    ensures { Gives (faults.at_place (tables.value_at (VoteKind.Entry kind) (seen_item item.now))) result }
 {
     Ok(lifted(entry_value(listed, kind, item)?))
 }
@@ -99,7 +99,7 @@ pub(crate) fn value_at(
     item: &Item<'_>,
 ) -> Result<Value<VoteValue>, ReadRefusal>
     requires { IsInside item.now }
-    ensures { Gives (faults.at_place (tables.value_at kind (seen item.now))) result }
+    ensures { Gives (faults.at_place (tables.value_at kind (seen_item item.now))) result }
 {
     match kind {
         VoteKind::Version => {
@@ -130,7 +130,7 @@ pub(crate) fn value_at(
 /// The fault of an item that has too many arguments for its kind, or that begins one entry too many.
 pub(crate) fn over_limit(listed: &Listed, kind: VoteKind, item: &Item<'_>) -> Result<(), FrameFault>
     requires { IsInside item.now }
-    ensures { result ≡ tables.over_limit listed.now kind (seen item.now) }
+    ensures { result ≡ tables.over_limit listed.now kind (seen_item item.now) }
 {
     match kind {
         VoteKind::Methods => too_many(Limit::Methods, item),

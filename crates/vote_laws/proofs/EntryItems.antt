@@ -19,7 +19,7 @@ use Rattle.frame_values.specs.declared.values.Value.TheVariants as value
 use Rattle.frame_laws.proofs.Entries.{Suits, item_of}
 use Rattle.frame_laws.proofs.RowValues.{own_entry, text_entry}
 use Rattle.frame_laws.proofs.WrittenItems.{start_of}
-use Rattle.relay_entries.specs.Lines.{lifted}
+use Rattle.relay_entries.specs.Lines.{lifted_entry_value}
 use Rattle.relay_entries.specs.Listing.{fault_at}
 use Rattle.relay_entries.specs.Texts.{bandwidths_text, ed_text}
 use Rattle.vote_frame.specs.declared.across.Across.{Across}
@@ -50,7 +50,7 @@ use Rattle.vote_laws.proofs.VoteItems.{SuitsVote, VoteEntry, suits}
 
 -- what a vote says where an entry says this
 abbrev lifts : Result (Value EntryValue) ℕ → Result (Value VoteValue) ℕ
-lifts read = next read (λ found. Ok (lifted own.Entry found))
+lifts read = next read (λ found. Ok (lifted_entry_value own.Entry found))
 
 -- what is said of what was read
 abbrev says : {A : Type 0} → (A → Value EntryValue) → Result A ℕ → Result (Value VoteValue) ℕ

@@ -10,7 +10,7 @@ use Rattle.frame_terms.specs.declared.keyword.Keyword.{Keyword}
 use Rattle.frame_terms.specs.declared.keyword.Keyword.TheVariants as the
 use Rattle.frame_terms.specs.declared.row.Count.TheVariants.{Many, One, Optional}
 use Rattle.frame_terms.specs.declared.row.Row.{Row}
-use Rattle.frame_laws.proofs.Both.{both}
+use Rattle.frame_laws.proofs.Both.{both_hold}
 use Rattle.frame_laws.proofs.Entries.{all_taken}
 use Rattle.frame_laws.proofs.Following.{MayFollow, opener_follows, repeated_follows}
 use Rattle.frame_laws.proofs.ManyRows.{row_of_each, said_of_each}
@@ -121,19 +121,19 @@ said_ed_if opinion (Some text) is are =
 
 pub front_said : (e : EntryFacts) → IsEntryInRange e → AreSaid vote_tables (front_rows e)
 front_said e are =
-    both (said_of_each vote_tables (row the.A Many (entry_kind entry.Address)) (text_entry the.A) IsAddressInRange
+    both_hold (said_of_each vote_tables (row the.A Many (entry_kind entry.Address)) (text_entry the.A) IsAddressInRange
     e.addresses refl refl are.addresses suits_address)
-    (both (said_once vote_tables _ _ (suits_entry_flags e.flags are.flags))
-    (both (said_rest the.V e.version)
-    (both (said_rest the.Pr e.protocols)
-    (both (said_bandwidths e.bandwidths are.bandwidths)
-    (both (said_rest the.P e.policy) tt)))))
+    (both_hold (said_once vote_tables _ _ (suits_entry_flags e.flags are.flags))
+    (both_hold (said_rest the.V e.version)
+    (both_hold (said_rest the.Pr e.protocols)
+    (both_hold (said_bandwidths e.bandwidths are.bandwidths)
+    (both_hold (said_rest the.P e.policy) tt)))))
 
 last_said : (e : EntryFacts) → IsEntryInRange e → AreSaid vote_tables (last_rows e)
 last_said e are =
-    both (said_of_each vote_tables (row the.M Many (entry_kind entry.Micro)) micro_entry IsMicroInRange e.micros
+    both_hold (said_of_each vote_tables (row the.M Many (entry_kind entry.Micro)) micro_entry IsMicroInRange e.micros
     refl refl are.micros suits_micro)
-    (both (said_ed_if e.ed (ed_text e.ed) refl are.ed) tt)
+    (both_hold (said_ed_if e.ed (ed_text e.ed) refl are.ed) tt)
 
 pub entry_written : (e : EntryFacts) → IsEntryInRange e → IsWritten vote_tables (entry_section e) []
 unfolding same

@@ -15,7 +15,7 @@ use Rattle.value_groups.specs.ListLines.{params_of, protocols_of, versions_of}
 use Rattle.authority_certs.specs.Tables.{cert_value}
 use Rattle.authority_certs.specs.declared.frame.CertKind.{CertKind}
 use Rattle.authority_certs.specs.declared.frame.CertKind.TheVariants as cert
-use Rattle.relay_entries.specs.Lines.{address_of, bandwidths_of, lifted}
+use Rattle.relay_entries.specs.Lines.{address_of, bandwidths_of, lifted_entry_value}
 use Rattle.vote_frame.specs.declared.across.Across.{Across}
 use Rattle.relay_entries.specs.declared.said.EntryKind.{EntryKind}
 use Rattle.relay_entries.specs.declared.said.EntryKind.TheVariants as entry
@@ -88,11 +88,11 @@ by_next (Ok a) of v each is = subst (λ (w : Value VoteValue). is_quiet w ≡ tr
 
 -- the same of what an entry says
 by_lift : {A : Type 0} (read : Result A ℕ) (of : A → Value EntryValue) (v : Value VoteValue)
-    → ((a : A) → is_quiet (lifted own.Entry (of a)) ≡ true)
-    → next (next read (λ a. Ok (of a))) (λ found. Ok (lifted own.Entry found)) ≡ Ok v → is_quiet v ≡ true
+    → ((a : A) → is_quiet (lifted_entry_value own.Entry (of a)) ≡ true)
+    → next (next read (λ a. Ok (of a))) (λ found. Ok (lifted_entry_value own.Entry found)) ≡ Ok v → is_quiet v ≡ true
 by_lift (Err place) of v each is = absurd cc
 by_lift (Ok a) of v each is =
-    subst (λ (w : Value VoteValue). is_quiet w ≡ true) (same_value (lifted own.Entry (of a)) v is) (each a)
+    subst (λ (w : Value VoteValue). is_quiet w ≡ true) (same_value (lifted_entry_value own.Entry (of a)) v is) (each a)
 
 certificate_quiet : (of : CertKind) (item : Item) (v : Value VoteValue) → cert_value of item ≡ Ok v → is_quiet v ≡ true
 certificate_quiet cert.Version item v is = by_next (literal (codes "3") item) (λ _. value.Nothing) v (λ a. refl) is

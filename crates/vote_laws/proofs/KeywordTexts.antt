@@ -10,7 +10,7 @@ use Rattle.item_terms.specs.Items.{Item}
 use Rattle.frame_terms.specs.declared.document.Taken.{Taken}
 use Rattle.frame_terms.specs.declared.keyword.Keyword.{Keyword}
 use Rattle.frame_terms.specs.declared.keyword.Keyword.TheVariants as the
-use Rattle.frame_terms.specs.Keywords.{known as every, number_of, same, text_of, word_of}
+use Rattle.frame_terms.specs.Keywords.{known_keywords as every, number_of, same, text_of, word_of}
 use Rattle.frame_terms.specs.Sections.{row_of, stands}
 use Rattle.frame_terms.specs.Tables.{Tables}
 use Rattle.frame_values.specs.Values.{item_at}

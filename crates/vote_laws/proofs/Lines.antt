@@ -7,7 +7,7 @@ use Rattle.std.proofs.lemmas.Bool.{and_from, eqb-true}
 use Rattle.std.proofs.lemmas.List.{append-nil, drop-drop, drop_at, length-append}
 use Rattle.item_terms.specs.declared.fault.DocFault.{DocFault}
 use Rattle.item_terms.specs.declared.fault.DocReason.TheVariants.{Unterminated}
-use Rattle.item_terms.specs.Faults.{at, line_fault, nul_fault, or_else, too_long, unterminated}
+use Rattle.item_terms.specs.Faults.{at, line_fault, nul_fault, or_else, too_long, unterminated_fault}
 use Rattle.item_terms.specs.Items.{Item, items_from}
 use Rattle.item_terms.specs.Lines.{Line, lines, onto, size}
 use Rattle.item_terms.specs.Words as word
@@ -86,7 +86,7 @@ clean_parts (line ∷ front) rest clean =
 -- ---- a keyword line has its NL
 
 ended_by : (line : Line) (place : ℕ) (long nul : Option DocFault)
-    → or_else long (or_else (unterminated place line) nul) ≡ None → line.ended ≡ true
+    → or_else long (or_else (unterminated_fault place line) nul) ≡ None → line.ended ≡ true
 ended_by line place (Some fault) nul e = absurd cc
 ended_by line place None nul e =
     elim line.ended as (λ b. or_else (cond b None (Some (at (place + length line.text) Unterminated))) nul ≡ None → b ≡ true)
@@ -116,9 +116,9 @@ Follow bytes place [] = Unit {0}
 Follow bytes place (item ∷ items) = StandsFrom bytes place item × Follow bytes item.after items
 
 -- what stands behind these lines
-behind : (place : ℕ) (bytes : List ℕ) (list : List Line) (more : List ℕ) → drop place bytes ≡ joined list ++ more
+rest_behind_lines : (place : ℕ) (bytes : List ℕ) (list : List Line) (more : List ℕ) → drop place bytes ≡ joined list ++ more
     → drop (place + sizes list) bytes ≡ more
-behind place bytes list more e =
+rest_behind_lines place bytes list more e =
     sym (drop-drop (sizes list) place bytes) ∙ ap (drop (sizes list)) e
     ∙ drop_at (joined list) more (sizes list) (length_joined list)
 
@@ -172,9 +172,9 @@ follow limit place bytes all more (item ∷ items) are clean there =
     ∙ ap (λ (l : List ℕ). l ++ left) (joined_append are.blanks are.own)
     ∙ append_assoc (joined are.blanks) (joined are.own) left in
     let at_item : drop here bytes ≡ joined are.own ++ left =
-    behind place bytes are.blanks (joined are.own ++ left) all_is in
+    rest_behind_lines place bytes are.blanks (joined are.own ++ left) all_is in
     let at_others : drop item.after bytes ≡ left =
-    ap (λ (n : ℕ). drop n bytes) are.are_its.after ∙ behind here bytes are.own left at_item in (
+    ap (λ (n : ℕ). drop n bytes) are.are_its.after ∙ rest_behind_lines here bytes are.own left at_item in (
       item_stands limit place here bytes are.own item left (omega arith) are.are_its own_clean at_item,
       follow limit item.after bytes are.others more items are.go_on cleans.1 at_others,
     )

@@ -6,7 +6,7 @@ use Rattle.std.specs.Option.{option_or}
 use Rattle.frame_terms.specs.Documents.{group}
 use Rattle.frame_terms.specs.Keywords.{same}
 use Rattle.frame_terms.specs.Rows.{is_one}
-use Rattle.frame_terms.specs.Sections.{keyword_if, lacking, stands}
+use Rattle.frame_terms.specs.Sections.{keyword_if, lacking_keyword, stands}
 use Rattle.frame_terms.specs.declared.keyword.Keyword.{Keyword}
 use Rattle.frame_terms.specs.declared.keyword.Keyword.TheVariants as the
 use Rattle.frame_terms.specs.declared.row.Row.{Row}
@@ -31,7 +31,7 @@ use Rattle.vote_laws.proofs.MadeTexts.{before_text}
 
 -- of two items of one keyword a section lacks the same
 pub lacking_same : {K : Type 0} (rows : List (Row K)) (taken : List VoteTaken) (a b : VoteTaken)
-    → a.keyword ≡ b.keyword → lacking rows (taken ++ a ∷ []) ≡ lacking rows (taken ++ b ∷ [])
+    → a.keyword ≡ b.keyword → lacking_keyword rows (taken ++ a ∷ []) ≡ lacking_keyword rows (taken ++ b ∷ [])
 lacking_same {K} rows taken a b is =
     λ i. keyword_if (find (λ (row : Row K). is_one row.count && not (stand_same row.keyword taken i)) rows)
   where

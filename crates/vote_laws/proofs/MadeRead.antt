@@ -12,7 +12,7 @@ use Rattle.dirdoc_grammar.specs.Writing.{AreWritable, NewItem, all_written, in_f
 use Rattle.grammar_laws.proofs.ItemsAgain.{items_again}
 use Rattle.grammar_laws.proofs.WrittenBytes.{differs}
 use Rattle.frame_terms.specs.Documents.{document_of, finish, group, onto, read_items, start}
-use Rattle.frame_terms.specs.Sections.{lacking, stands}
+use Rattle.frame_terms.specs.Sections.{lacking_keyword, stands}
 use Rattle.frame_terms.specs.declared.fault.ReadRefusal.{ReadRefusal}
 use Rattle.frame_terms.specs.declared.keyword.Keyword.TheVariants as the
 use Rattle.frame_laws.proofs.Entries.{item_of, taken_at}
@@ -43,7 +43,7 @@ use Rattle.vote_laws.proofs.VoteRows.{authority, authority_follows, authority_wr
 use Rattle.vote_laws.proofs.VoteRows.{preamble, preamble_first, preamble_written}
 use Rattle.vote_laws.proofs.VoteSame.{footer_entries, in_list}
 use Rattle.vote_laws.proofs.VoteTail.{remembered, tail_read}
-use Rattle.grammar_laws.specs.Moved.{moved}
+use Rattle.grammar_laws.specs.Moved.{moved_item}
 use Rattle.certificate_laws.specs.Inside.{StandsInside}
 use Rattle.certificate_laws.specs.Lifted.{moved_taken}
 use Rattle.vote_laws.specs.Made.{IsMadeInRange}
@@ -71,7 +71,7 @@ module _ (facts : VoteFacts) (bytes : List ℕ) (stand : InVote facts bytes) (ar
       (authority_written facts are)
 
   -- with its first item that section lacks nothing
-  lacks_nothing : lacking (vote_tables.rows Authority) (in_authority_alone facts ++ given_first facts bytes stand ∷ [])
+  lacks_nothing : lacking_keyword (vote_tables.rows Authority) (in_authority_alone facts ++ given_first facts bytes stand ∷ [])
       ≡ None
   lacks_nothing =
       lacking_same (vote_tables.rows Authority) (in_authority_alone facts) (given_first facts bytes stand)
@@ -82,7 +82,7 @@ module _ (facts : VoteFacts) (bytes : List ℕ) (stand : InVote facts bytes) (ar
   document_read : (length_ : ℕ) (fault : Option DocFault) (more : List Item)
       → read_items vote_tables length_ nothing_across (start vote_tables) fault
       (all_written 0 (map item_of (before_entries facts))
-      ++ (map (moved (length (before_text facts))) stand.items
+      ++ (map (moved_item (length (before_text facts))) stand.items
       ++ (all_written (made_place facts bytes) (map item_of (behind_entries facts)) ++ more)))
       ≡ Ok (made_document facts bytes (given_first facts bytes stand) (given_taken facts bytes stand))
   document_read length_ fault more =
@@ -96,7 +96,7 @@ module _ (facts : VoteFacts) (bytes : List ℕ) (stand : InVote facts bytes) (ar
       let in_p = in_preamble facts in
       let one : VoteTaken = taken_at at_a (authority facts).opener in
       let rest_e = all_written at_e (map item_of (behind_entries facts)) ++ more in
-      let rest_c = map (moved at_c) stand.items ++ rest_e in
+      let rest_c = map (moved_item at_c) stand.items ++ rest_e in
       let rest_a = all_written at_a (map item_of a) ++ rest_c in
       let wrote = preamble_written facts are in
       ap (λ (l : List Item). read_items vote_tables length_ none (start vote_tables) fault l)
@@ -180,7 +180,7 @@ made_contents : (facts : VoteFacts) (bytes rest : List ℕ) (stand : InVote fact
     → first_is is_letter_or_digit bytes ≡ true → IsMadeInRange facts bytes
     → contents max_vote 0 nothing (made_text facts bytes ++ rest)
     ≡ in_front (all_written 0 (map item_of (before_entries facts)))
-    (in_front (map (moved (length (before_text facts))) stand.items)
+    (in_front (map (moved_item (length (before_text facts))) stand.items)
     (in_front (all_written (made_place facts bytes) (map item_of (behind_entries facts)))
     (contents max_vote (made_place facts bytes + length (behind_text facts)) nothing rest)))
 made_contents facts bytes rest stand first are =
@@ -197,7 +197,7 @@ made_contents facts bytes rest stand first are =
     ∙ ap (λ (n : ℕ). in_front (all_written 0 before) (contents max_vote n nothing more)) here
     ∙ ap (λ (c : Contents). in_front (all_written 0 before) c)
     (stand.items_there max_vote place (behind_text facts ++ rest) (bytes_fit facts bytes are)
-    ∙ ap (λ (c : Contents). in_front (map (moved place) stand.items) c)
+    ∙ ap (λ (c : Contents). in_front (map (moved_item place) stand.items) c)
     (items_again max_vote (made_place facts bytes) behind rest (later_may facts bytes are) (behind_closed facts rest)))
   where
     joined : (a b c r : List ℕ) → (a ++ (b ++ c)) ++ r ≡ a ++ (b ++ (c ++ r))

@@ -14,10 +14,10 @@ use Rattle.frame_terms.specs.declared.row.Row.{Row}
 use Rattle.frame_terms.specs.declared.section.Again.{Again}
 use Rattle.frame_terms.specs.declared.section.Again.TheVariants as again
 use Rattle.frame_terms.specs.Decisions.{beyond_inner, made_later, unless_fault}
-use Rattle.frame_terms.specs.Order.{first_of, following, inner, is_keyword, is_strange, opened_by, passed_over}
-use Rattle.frame_terms.specs.Refusals.{refused}
+use Rattle.frame_terms.specs.Order.{first_of, following_sections, inner, is_keyword, is_strange, opened_by, passed_over}
+use Rattle.frame_terms.specs.Refusals.{refusal_at}
 use Rattle.frame_terms.specs.Rows.{is_many}
-use Rattle.frame_terms.specs.Sections.{accept, lacking, lacking_but, row_of, stands, taken_as, taken_of}
+use Rattle.frame_terms.specs.Sections.{accept, lacking_keyword, lacking_but, row_of, stands, taken_as, taken_of}
 use Rattle.frame_terms.specs.Standing.{as_made, begins, begins_again, by_keyword, by_row, elsewhere, ends, enters, goes_on}
 use Rattle.frame_terms.specs.Standing.{in_section, unless}
 use Rattle.frame_terms.specs.Tables.{Tables}
@@ -57,7 +57,7 @@ module _ {S K V X : Type 0} (tables : Tables S K V X) (section : S) where
       → BeginsNone (as_made make (accept tables across row before item))
   none_of_row across row before item make is = by_test (not (is_many row.count) && stands row.keyword before)
     where
-      by_test : (test : Bool) → BeginsNone (as_made make (if test then Err (refused item.place (Twice row.keyword))
+      by_test : (test : Bool) → BeginsNone (as_made make (if test then Err (refusal_at item.place (Twice row.keyword))
           else taken_as row.keyword item (tables.value_of across row.kind item)))
       by_test true = tt
       by_test false = none_of_value row item make (tables.value_of across row.kind item) is
@@ -81,9 +81,9 @@ module _ {S K V X : Type 0} (tables : Tables S K V X) (section : S) where
         (λ one named. none_enters (inner tables section row.keyword) one
         (ap (λ (k : Keyword). inner tables section k) named))
     none_on row again.Section =
-        none_unless item.place (lacking (tables.rows section) taken) _
+        none_unless item.place (lacking_keyword (tables.rows section) taken) _
         (none_of_row across row [] item (Opens section) (λ one named. tt))
-    none_on row again.Document = none_unless item.place (lacking (tables.rows section) taken) (Ok Stops) tt
+    none_on row again.Document = none_unless item.place (lacking_keyword (tables.rows section) taken) (Ok Stops) tt
 
     none_in : (row : Row K) → BeginsNone (in_section tables across (opening section taken around) item row)
     none_in row =
@@ -98,15 +98,15 @@ module _ {S K V X : Type 0} (tables : Tables S K V X) (section : S) where
 
     none_elsewhere : (keyword : Keyword) (other : Option S)
         → BeginsNone (elsewhere tables across (opening section taken around) item keyword other)
-    none_elsewhere keyword None = none_if (is_strange tables section keyword) (Err (refused item.place Order)) (Ok Passes) tt tt
+    none_elsewhere keyword None = none_if (is_strange tables section keyword) (Err (refusal_at item.place Order)) (Ok Passes) tt tt
     none_elsewhere keyword (Some other) =
         none_unless item.place
-        (first_of (lacking (tables.rows section) taken) (passed_over tables keyword (following tables section))) _
+        (first_of (lacking_keyword (tables.rows section) taken) (passed_over tables keyword (following_sections tables section))) _
         (none_begins other (row_of (tables.rows other) keyword))
 
     none_by_row : (keyword : Keyword) (row : Option (Row K))
         → BeginsNone (by_row tables across (opening section taken around) item keyword row)
-    none_by_row keyword None = none_elsewhere keyword (opened_by tables keyword (following tables section))
+    none_by_row keyword None = none_elsewhere keyword (opened_by tables keyword (following_sections tables section))
     none_by_row keyword (Some row) = none_if (tables.ignores row.kind item) (Ok Passes) _ tt (none_in row)
 
     none_by_keyword : (word : Option Keyword)

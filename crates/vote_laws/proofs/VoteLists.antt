@@ -7,7 +7,7 @@ use Rattle.frame_terms.specs.declared.row.Limit.TheVariants as limit
 use Rattle.frame_values.specs.Parts.{part}
 use Rattle.frame_values.specs.Values.{item_at, text_if}
 use Rattle.frame_values.specs.declared.values.Value.{Value}
-use Rattle.frame_laws.proofs.Both.{both}
+use Rattle.frame_laws.proofs.Both.{both_hold}
 use Rattle.frame_laws.proofs.ReadRows.{IsRead}
 use Rattle.frame_laws.proofs.SaidRows.{AreSaid}
 use Rattle.group_laws.proofs.ListRows.{AreParamsWithin}
@@ -25,7 +25,7 @@ use Rattle.vote_laws.proofs.VoteItems.{VoteRow, has_lists, list_kinds}
 pub both_said : (front back : List VoteRow) → AreSaid vote_tables front → AreSaid vote_tables back
     → AreSaid vote_tables (front ++ back)
 both_said [] back a b = b
-both_said (one ∷ front) back a b = both a.0 (both_said front back a.1 b)
+both_said (one ∷ front) back a b = both_hold a.0 (both_said front back a.1 b)
 
 -- ---- the rows of a preamble
 
@@ -56,7 +56,7 @@ params_within None are = tt
 params_within (Some params) are = record { few = are.count; each = are.each }
 
 pub params_said : (lists : VoteLists) → AreListsInRange lists → AreSaid vote_tables (param_rows lists)
-params_said lists are = both (group.said_params has_lists lists.params (params_within lists.params are.params)) tt
+params_said lists are = both_hold (group.said_params has_lists lists.params (params_within lists.params are.params)) tt
 
 -- ---- what is read of its params
 

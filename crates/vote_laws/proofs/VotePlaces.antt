@@ -6,7 +6,7 @@ use Rattle.frame_terms.specs.Documents.{Document, group}
 use Rattle.frame_terms.specs.declared.document.Taken.{Taken}
 use Rattle.frame_terms.specs.declared.row.Row.{Row}
 use Rattle.frame_values.specs.declared.values.Value.{Value}
-use Rattle.frame_laws.proofs.Both.{both}
+use Rattle.frame_laws.proofs.Both.{both_hold}
 use Rattle.frame_laws.proofs.Ends.{end_with, taken_to}
 use Rattle.frame_laws.proofs.Groups.{groups_in}
 use Rattle.frame_laws.proofs.Passing.{EachPasses, both_pass, rows_pass}
@@ -104,12 +104,12 @@ pub section_quiet : (section : VotePart) → ((place : ℕ) → is_quiet (sectio
     → AreSaid vote_tables section.middle
     → EachPasses is_quiet (entries_in section)
 section_quiet section first kinds said =
-    both first (rows_pass vote_tables is_quiet is_quiet_kind kinds_pass section.middle kinds said)
+    both_hold first (rows_pass vote_tables is_quiet is_quiet_kind kinds_pass section.middle kinds said)
 
 -- the same with one more
 pub section_to_quiet : (section : VotePart) (last : VoteEntry) → EachPasses is_quiet (entries_in section)
     → ((place : ℕ) → is_quiet (last.value place) ≡ true) → EachPasses is_quiet (entries_in section ++ last ∷ [])
-section_to_quiet section last quiet is = both_pass is_quiet (entries_in section) (last ∷ []) quiet (both is tt)
+section_to_quiet section last quiet is = both_pass is_quiet (entries_in section) (last ∷ []) quiet (both_hold is tt)
 
 -- ---- what is kept of it
 

@@ -11,7 +11,7 @@ use Rattle.dirdoc_grammar.specs.Writing.{NewItem, all_written, in_front, is_open
 use Rattle.frame_terms.specs.Decisions.{made_by}
 use Rattle.frame_terms.specs.Documents.{document_of, finish, group, onto, read_items, start}
 use Rattle.frame_terms.specs.Keywords.{same}
-use Rattle.frame_terms.specs.Sections.{lacking}
+use Rattle.frame_terms.specs.Sections.{lacking_keyword}
 use Rattle.frame_terms.specs.declared.document.Group.{Group}
 use Rattle.frame_terms.specs.declared.document.Made.TheVariants.{Enters}
 use Rattle.frame_terms.specs.declared.fault.ReadRefusal.{ReadRefusal}
@@ -22,7 +22,7 @@ use Rattle.frame_laws.proofs.Entries.{after_one, all_taken, item_of, taken_at}
 use Rattle.frame_laws.proofs.Following.{first_read, section_read}
 use Rattle.frame_laws.proofs.Groups.{groups_in}
 use Rattle.frame_laws.proofs.LastRows.{section_to_whole}
-use Rattle.frame_laws.proofs.Both.{both}
+use Rattle.frame_laws.proofs.Both.{both_hold}
 use Rattle.frame_laws.proofs.Passing.{EachPasses, notes_passing, rows_pass}
 use Rattle.frame_laws.proofs.Remembered.{Notes, notes_both}
 use Rattle.frame_laws.proofs.RowValues.{text_entry_if}
@@ -101,11 +101,11 @@ certificate_made facts are =
 
 -- what its authority's section has with that item lacks nothing
 pub authority_whole : (facts : VoteFacts) → HasValuesInRange facts
-    → lacking (vote_tables.rows Authority)
+    → lacking_keyword (vote_tables.rows Authority)
     (taken_in (authority_place facts) (authority facts) ++ taken_at (certificate_place facts) certificate_version ∷ [])
     ≡ None
 authority_whole facts are =
-    subst (λ (l : List VoteTaken). lacking (vote_tables.rows Authority) l ≡ None)
+    subst (λ (l : List VoteTaken). lacking_keyword (vote_tables.rows Authority) l ≡ None)
     (taken_to-parts (authority_place facts) (authority facts) certificate_version)
     (section_to_whole vote_tables (authority_place facts) (authority facts) certificate_row certificate_version
     (authority_written facts are) refl)
@@ -113,7 +113,7 @@ authority_whole facts are =
 -- nothing is remembered of the preamble
 pub preamble_quiet : (facts : VoteFacts) → HasValuesInRange facts → EachPasses is_quiet (entries_in (preamble facts))
 preamble_quiet facts are =
-    both (λ place. refl)
+    both_hold (λ place. refl)
     (rows_pass vote_tables is_quiet is_quiet_kind kinds_pass (preamble_rows facts) refl (preamble_said facts are))
 
 -- the shared random values are remembered of the section of the authority
@@ -124,7 +124,7 @@ authority_notes place facts =
     let p = random_if line.Previous facts.random_previous in
     let c = random_if line.Current facts.random_current in
     let next = after_all place front in
-    let quiet : EachPasses is_quiet front = both (λ at. refl) (contact_quiet facts.contact) in
+    let quiet : EachPasses is_quiet front = both_hold (λ at. refl) (contact_quiet facts.contact) in
     subst (λ (l : List VoteTaken). Notes vote_tables nothing_across l (remembered facts))
     (sym (taken_parts place front p c)
     ∙ ap (λ (l : List VoteEntry). all_taken place (front ++ (p ++ l))) (sym (append-nil c)))
@@ -135,7 +135,7 @@ authority_notes place facts =
   where
     contact_quiet : (contact : Option (List ℕ)) → EachPasses is_quiet (text_entry_if the.Contact contact)
     contact_quiet None = tt
-    contact_quiet (Some text) = both (λ at. refl) tt
+    contact_quiet (Some text) = both_hold (λ at. refl) tt
 
 -- the items of a vote make it
 document_read : (length_ : ℕ) (facts : VoteFacts) (fault : Option DocFault) (more : List Item) → IsInRange facts

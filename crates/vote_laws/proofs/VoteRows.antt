@@ -7,7 +7,7 @@ use Rattle.frame_terms.specs.Rows.{row}
 use Rattle.frame_terms.specs.declared.keyword.Keyword.TheVariants as the
 use Rattle.frame_terms.specs.declared.row.Count.TheVariants.{One, Optional}
 use Rattle.frame_terms.specs.declared.row.Row.{Row}
-use Rattle.frame_laws.proofs.Both.{both}
+use Rattle.frame_laws.proofs.Both.{both_hold}
 use Rattle.frame_laws.proofs.Ends.{IsEnded}
 use Rattle.frame_laws.proofs.Following.{IsFirst, MayFollow, opener_follows}
 use Rattle.frame_laws.proofs.RowCounts.{said_none, said_once}
@@ -106,14 +106,14 @@ preamble_said facts are =
     let lists = facts.lists in
     let later = both_said (protocol_rows lists) (param_rows lists) (protocols_said lists are.lists)
     (params_said lists are.lists) in
-    both (said_once vote_tables _ _ suits_status)
-    (both (said_methods facts.methods are.methods)
-    (both (said_moment the.Published facts.published)
+    both_hold (said_once vote_tables _ _ suits_status)
+    (both_hold (said_methods facts.methods are.methods)
+    (both_hold (said_moment the.Published facts.published)
     (both_said (times_rows facts) (version_rows lists ++ (flag_rows facts ++ later_rows lists))
     (times_said has_times (times_of facts) are.vote_seconds are.dist_seconds)
     (both_said (version_rows lists) (flag_rows facts ++ later_rows lists) (versions_said lists are.lists)
-    (both (said_once vote_tables _ _ (suits_flags facts.known_flags are.known_flags))
-    (both (said_rest_if the.FlagThresholds facts.flag_thresholds) later))))))
+    (both_hold (said_once vote_tables _ _ (suits_flags facts.known_flags are.known_flags))
+    (both_hold (said_rest_if the.FlagThresholds facts.flag_thresholds) later))))))
 
 pub preamble_written : (facts : VoteFacts) → HasValuesInRange facts → IsWritten vote_tables (preamble facts) []
 unfolding same
@@ -125,7 +125,7 @@ preamble_written facts are =
       opens = refl;
       said =
           both_said (preamble_rows facts) no_randoms (preamble_said facts are)
-          (both (said_random line.Previous None tt) (both (said_random line.Current None tt) tt));
+          (both_hold (said_random line.Previous None tt) (both_hold (said_random line.Current None tt) tt));
     }
 
 pub preamble_first : IsFirst vote_tables (row the.NetworkStatusVersion One kind.Version)
@@ -157,9 +157,9 @@ authority_written facts are = record {
   plain = refl;
   opens = refl;
   said =
-      both (said_rest_if the.Contact facts.contact)
-      (both (said_random line.Previous facts.random_previous are.random_previous)
-      (both (said_random line.Current facts.random_current are.random_current) tt));
+      both_hold (said_rest_if the.Contact facts.contact)
+      (both_hold (said_random line.Previous facts.random_previous are.random_previous)
+      (both_hold (said_random line.Current facts.random_current are.random_current) tt));
 }
 
 pub authority_follows : MayFollow vote_tables Preamble Authority (row the.DirSource One kind.Source)

@@ -14,9 +14,9 @@ use Rattle.frame_terms.specs.declared.row.Row.{Row}
 use Rattle.frame_terms.specs.declared.section.Again.TheVariants as again
 use Rattle.frame_terms.specs.Documents.{missing_at_end}
 use Rattle.frame_terms.specs.Keywords.{same}
-use Rattle.frame_terms.specs.Order.{following, inner, must_open, opener}
+use Rattle.frame_terms.specs.Order.{following_sections, inner, must_open, opener}
 use Rattle.frame_terms.specs.Rows.{is_many, row}
-use Rattle.frame_terms.specs.Sections.{lacking, stands}
+use Rattle.frame_terms.specs.Sections.{lacking_keyword, stands}
 use Rattle.frame_values.specs.declared.found.VoteSignature.{VoteSignature}
 use Rattle.frame_values.specs.declared.values.Value.{Value}
 use Rattle.frame_values.specs.declared.values.Value.TheVariants as value
@@ -106,7 +106,7 @@ record HasLast (section : VoteSection) : Type 0 where
   pub ends : (vote_tables.shape section).last ≡ Some last
   pub once : StandsOnce vote_tables section last
 
-has_last : (section : VoteSection) → must_open vote_tables (following vote_tables section) ≡ None → HasLast section
+has_last : (section : VoteSection) → must_open vote_tables (following_sections vote_tables section) ≡ None → HasLast section
 unfolding same
 has_last vote.Preamble e = absurd (cc (e))
 has_last vote.Authority e = absurd (cc (e))
@@ -130,8 +130,8 @@ has_last vote.Footer e = record {
 pub never_closes : (section : VoteSection) (taken : List (Taken V)) → IsNotEnded vote_tables section taken
     → missing_at_end vote_tables section taken ≡ None → ⊥
 never_closes section taken not_ended missing =
-    let parts = neither (lacking (vote_tables.rows section) taken)
-    (must_open vote_tables (following vote_tables section)) missing in
+    let parts = neither (lacking_keyword (vote_tables.rows section) taken)
+    (must_open vote_tables (following_sections vote_tables section)) missing in
     let has = has_last section parts.1 in
     no_number (times has.last taken) (stands_once vote_tables section taken has.last has.once parts.0)
     (none_stands has.last taken (not_ended has.last has.ends))
@@ -193,7 +193,7 @@ stands_more wanted taken one is =
     ∙ or_true (stands wanted taken)
 
 -- it stands where nothing is lacking
-pub certificate_stands : (taken : List (Taken V)) → lacking (rows vote.Authority) taken ≡ None
+pub certificate_stands : (taken : List (Taken V)) → lacking_keyword (rows vote.Authority) taken ≡ None
     → stands the.DirKeyCertificateVersion taken ≡ true
 unfolding same
 certificate_stands taken whole = by_test (stands the.DirKeyCertificateVersion taken) refl

@@ -9,7 +9,7 @@ use Rattle.frame_terms.specs.declared.document.Taken.{Taken}
 use Rattle.frame_terms.specs.declared.keyword.Keyword.TheVariants as the
 use Rattle.frame_terms.specs.Keywords.{same}
 use Rattle.frame_terms.specs.Order.{inner, opener}
-use Rattle.frame_terms.specs.Sections.{lacking, stands}
+use Rattle.frame_terms.specs.Sections.{lacking_keyword, stands}
 use Rattle.frame_values.specs.Values.{after_in, line_end_in, place_in}
 use Rattle.authority_certs.specs.Heads.{head_of}
 use Rattle.vote_frame.specs.declared.across.Across.{Across}
@@ -119,7 +119,7 @@ module _ (items : List Item) (final : Head) (used : ℕ) where
       (subst (λ (n : ℕ). HasCert n items final used) begin cert)
 
   pub opened_more : (across : Across) (section other : VoteSection) (first : Taken V) (taken : List (Taken V))
-      (kept : Kept) (item : Item) (one : Taken V) → lacking (rows section) (first ∷ taken) ≡ None
+      (kept : Kept) (item : Item) (one : Taken V) → lacking_keyword (rows section) (first ∷ taken) ≡ None
       → IsItemOf vote_tables across other item one → same (opener vote_tables section) first.keyword ≡ true
       → same (opener vote_tables other) one.keyword ≡ true → NextIs section other
       → Shown other one [] (kept_with kept section (first ∷ taken)) items final used

@@ -6,7 +6,7 @@ use Rattle.item_terms.specs.declared.fault.DocFault.{DocFault}
 use Rattle.dirdoc_grammar.specs.Writing.{all_written}
 use Rattle.frame_terms.specs.Documents.{group, read_items}
 use Rattle.frame_terms.specs.Rows.{row}
-use Rattle.frame_terms.specs.Sections.{lacking}
+use Rattle.frame_terms.specs.Sections.{lacking_keyword}
 use Rattle.frame_terms.specs.declared.document.Group.{Group}
 use Rattle.frame_terms.specs.declared.fault.ReadRefusal.{ReadRefusal}
 use Rattle.frame_terms.specs.declared.keyword.Keyword.TheVariants as the
@@ -64,7 +64,7 @@ after_groups groups more = onto_all groups more
 
 pub tail_read : (length_ at_e : ℕ) (facts : VoteFacts) (fault : Option DocFault) (more : List Item)
     → AreEntriesInRange facts.entries → IsSignatureInRange facts.signature
-    → (first : VoteTaken) (taken : List VoteTaken) → lacking (vote_tables.rows Authority) (first ∷ taken) ≡ None
+    → (first : VoteTaken) (taken : List VoteTaken) → lacking_keyword (vote_tables.rows Authority) (first ∷ taken) ≡ None
     → read_items vote_tables length_ (remembered facts) (opening Authority (first ∷ taken) None) fault
     (all_written at_e (map item_of (in_list facts ++ footer_entries facts)) ++ more)
     ≡ Ok (record {

@@ -37,12 +37,12 @@ module _ (newest : Newest) (ds : List Descriptor) (ks : List RelayFacts) (rs : L
       ap (λ (l : List JudgedRelay). entries_from newest keys l) there
 
   -- with the entry of one more, if it has one
-  pub one_more : (i : ℕ) (d : Descriptor) (k : RelayFacts) (r : Ruling) (f : Flags) (keys new : Keys) (listed : Bool)
+  pub one_more_entry_listed : (i : ℕ) (d : Descriptor) (k : RelayFacts) (r : Ruling) (f : Flags) (keys new : Keys) (listed : Bool)
       (out more all : List EntryFacts) → i < length ds → AreAsMany ds ks rs fs → d ≡ get_or ds i d → k ≡ get_or ks i k
       → r ≡ get_or rs i r → f ≡ get_or fs i f → listed ≡ is_listed keys r (signer_of d.identity_ed25519)
       → new ≡ keys_after keys r (signer_of d.identity_ed25519) → more ≡ out ++ entry_if newest listed d k f
       → out ++ entries_from newest keys (drop i relays) ≡ all → more ++ entries_from newest new (drop (i + 1) relays) ≡ all
-  one_more i d k r f keys new listed out more all within many at_d at_k at_r at_f its after put before =
+  one_more_entry_listed i d k r f keys new listed out more all within many at_d at_k at_r at_f its after put before =
       let its_entry = entry_if newest (is_listed keys r (signer_of d.identity_ed25519)) d k f in
       let rest = entries_from newest (keys_after keys r (signer_of d.identity_ed25519)) (drop (i + 1) relays) in
       ap₂ (λ (l : List EntryFacts) (s : Keys). l ++ entries_from newest s (drop (i + 1) relays))

@@ -17,7 +17,7 @@ use Rattle.dir_values.specs.Digests.{is_less, bytes_below, identity_below, same_
 use Rattle.dir_values.specs.declared.digest.Fingerprint.{Fingerprint}
 use Rattle.station_input.specs.declared.frame_said.MeasuredRelay.{MeasuredRelay}
 use Rattle.vote_maker.specs.Private.{MeasureAlike, MeasuresAscend, is_measure_before}
-use Rattle.vote_maker.specs.Relays.{is_of, measured_for, unmeasured}
+use Rattle.vote_maker.specs.Relays.{is_of, measured_for, unmeasured_relay}
 
 -- ---- in another order
 
@@ -70,13 +70,13 @@ find_is p (x ∷ relays) = found_first (p x) x (find p relays) (filter p relays)
 pub alike : (relays sorted : List MeasuredRelay) → IsStableBy is_measure_before relays sorted
     → MeasureAlike relays sorted
 alike relays sorted stable identity =
-    let one : MeasuredRelay = record { identity = identity; measured = unmeasured } in
+    let one : MeasuredRelay = record { identity = identity; measured = unmeasured_relay } in
     let same = ties_are one in
     let lines : filter (is_of identity) sorted ≡ filter (is_of identity) relays =
     sym (filter_same (ties is_measure_before one) (is_of identity) sorted same) ∙ stable one
     ∙ filter_same (ties is_measure_before one) (is_of identity) relays same in
     ap (λ (line : Option MeasuredRelay).
-    unwrap_or (option_map (λ (relay : MeasuredRelay). relay.measured) line) unmeasured)
+    unwrap_or (option_map (λ (relay : MeasuredRelay). relay.measured) line) unmeasured_relay)
     (find_is (is_of identity) sorted ∙ ap first lines ∙ sym (find_is (is_of identity) relays))
 
 pub ascend : (sorted : List MeasuredRelay) → IsSortedBy is_measure_before sorted → MeasuresAscend sorted
@@ -115,7 +115,7 @@ first_tells (relay ∷ relays) identity (suc i) d within before its =
 -- where no line is of a relay, nothing was measured
 none_tells : (relays : List MeasuredRelay) (identity : Fingerprint) (d : MeasuredRelay)
     → ((j : ℕ) → j < length relays → is_of identity (get_or relays j d) ≡ false)
-    → measured_for relays identity ≡ unmeasured
+    → measured_for relays identity ≡ unmeasured_relay
 none_tells [] identity d none = refl
 none_tells (relay ∷ relays) identity d none =
     let other : is_of identity relay ≡ false = none zero (omega arith) in
@@ -148,7 +148,7 @@ found_for relays identity k d lt point its =
 
 pub not_found : (relays : List MeasuredRelay) (identity : Fingerprint) (k : ℕ) (d : MeasuredRelay)
     → MeasuresAscend relays → k < length relays → EndBelow identity relays k
-    → is_of identity (get_or relays k d) ≡ false → measured_for relays identity ≡ unmeasured
+    → is_of identity (get_or relays k d) ≡ false → measured_for relays identity ≡ unmeasured_relay
 not_found relays identity k d up lt point other =
     let first_one = get_or relays k d in
     let above : bytes_below identity.0 first_one.identity.0 ≡ true =
@@ -165,8 +165,8 @@ not_found relays identity k d up lt point other =
     (cases_lt j k))
 
 pub none_behind : (relays : List MeasuredRelay) (identity : Fingerprint) (k : ℕ) → length relays ≤ k
-    → EndBelow identity relays k → measured_for relays identity ≡ unmeasured
+    → EndBelow identity relays k → measured_for relays identity ≡ unmeasured_relay
 none_behind relays identity k past point =
-    let d : MeasuredRelay = record { identity = identity; measured = unmeasured } in
+    let d : MeasuredRelay = record { identity = identity; measured = unmeasured_relay } in
     none_tells relays identity d (λ j within.
     apart (get_or relays j d).identity.0 identity.0 (point.0 j d (omega arith) (omega (arith, past, within))))

@@ -16,8 +16,8 @@ use Rattle.station_input.specs.declared.frame_said.MeasuredRelay.{MeasuredRelay}
 -- ---- what was measured
 
 -- what is known of a relay that was not measured: it was never found reachable
-abbrev pub unmeasured : Measured
-unmeasured = record { reached_at = 0; wmtbf = 0; wfu_ppm = 0; known_for = 0; kb = None }
+abbrev pub unmeasured_relay : Measured
+unmeasured_relay = record { reached_at = 0; wmtbf = 0; wfu_ppm = 0; known_for = 0; kb = None }
 
 -- whether this was measured of the relay with an identity
 abbrev pub is_of : Fingerprint → MeasuredRelay → Bool
@@ -26,7 +26,7 @@ is_of identity relay = same_identity relay.identity identity
 -- what was measured of the relay with an identity, if something was
 abbrev pub measured_for : List MeasuredRelay → Fingerprint → Measured
 measured_for relays identity =
-    unwrap_or (option_map (λ (relay : MeasuredRelay). relay.measured) (find (is_of identity) relays)) unmeasured
+    unwrap_or (option_map (λ (relay : MeasuredRelay). relay.measured) (find (is_of identity) relays)) unmeasured_relay
 
 -- ---- what its descriptor says
 

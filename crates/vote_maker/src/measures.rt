@@ -77,7 +77,7 @@ fn order(a: &MeasuredRelay, b: &MeasuredRelay) -> Ordering
 
 /// What is known of a relay that was not measured.
 fn unmeasured() -> Measured
-    ensures { result ≡ relay_terms.unmeasured }
+    ensures { result ≡ relay_terms.unmeasured_relay }
 {
     Measured {
         reached_at: 0,

@@ -22,7 +22,7 @@ use Rattle.relay_entries.specs.declared.said.EntryValue.TheVariants as said
 use Rattle.relay_entries.specs.declared.said.MicroLine.{MicroLine}
 use Rattle.relay_entries.specs.declared.said.RelayLine.{RelayLine}
 use Rattle.fault_places.proofs.ArgumentPlaces.{PlaceIn, bandwidths_in, flag_in, others_begin, some_digest_in}
-use Rattle.fault_places.proofs.ItemPlaces.{IsItemIn, all_begin, at_front, begins, first_begins, more_in, one_in, rest_in}
+use Rattle.fault_places.proofs.ItemPlaces.{IsItemIn, all_begin, at_front, front_argument_begins, first_begins, more_in, one_in, rest_in}
 use Rattle.fault_places.proofs.ItemPlaces.{second_begins, then_in}
 
 module _ (n : ℕ) (item : Item) (is : IsItemIn n item) where
@@ -52,14 +52,14 @@ module _ (n : ℕ) (item : Item) (is : IsItemIn n item) where
       let f = at_front n item is l5 in
       let g = at_front n item is l6 in
       let h = at_front n item is l7 in
-      more_in n a (span_if (is_nickname a.text) a) _ (begins n item is l0 e0) (λ nickname.
-      more_in n b (identity b.text) _ (begins n item is l1 e1) (λ fingerprint.
-      more_in n c (digest1 c.text) _ (begins n item is l2 e2) (λ digest.
-      more_in n d (date d.text) _ (begins n item is l3 e3) (λ days.
-      more_in n e (time_of_day e.text) _ (begins n item is l4 e4) (λ seconds.
-      more_in n f (address f.text) _ (begins n item is l5 e5) (λ ip_number.
-      more_in n g (port_of g.text) _ (begins n item is l6 e6) (λ or_number.
-      then_in n (field h (port_of h.text)) _ (one_in n h (port_of h.text) (begins n item is l7 e7)))))))))
+      more_in n a (span_if (is_nickname a.text) a) _ (front_argument_begins n item is l0 e0) (λ nickname.
+      more_in n b (identity b.text) _ (front_argument_begins n item is l1 e1) (λ fingerprint.
+      more_in n c (digest1 c.text) _ (front_argument_begins n item is l2 e2) (λ digest.
+      more_in n d (date d.text) _ (front_argument_begins n item is l3 e3) (λ days.
+      more_in n e (time_of_day e.text) _ (front_argument_begins n item is l4 e4) (λ seconds.
+      more_in n f (address f.text) _ (front_argument_begins n item is l5 e5) (λ ip_number.
+      more_in n g (port_of g.text) _ (front_argument_begins n item is l6 e6) (λ or_number.
+      then_in n (field h (port_of h.text)) _ (one_in n h (port_of h.text) (front_argument_begins n item is l7 e7)))))))))
 
   address_in : PlaceIn n (address_of item)
   address_in =

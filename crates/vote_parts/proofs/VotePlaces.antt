@@ -29,7 +29,7 @@ use Rattle.authority_certs.specs.declared.frame.CertKind.{CertKind}
 use Rattle.authority_certs.specs.declared.frame.CertKind.TheVariants as cert
 use Rattle.value_groups.specs.declared.line.RandomLine.{RandomLine}
 use Rattle.value_groups.specs.declared.value.SharedRandom.{SharedRandom}
-use Rattle.relay_entries.specs.Lines.{entry_value, lifted}
+use Rattle.relay_entries.specs.Lines.{entry_value, lifted_entry_value}
 use Rattle.relay_entries.specs.Listing.{fault_at, is_next, note_entry, too_many_entries, with_key, with_relay}
 use Rattle.relay_entries.specs.declared.listed.Listed.{Listed}
 use Rattle.relay_entries.specs.declared.said.EdOpinion.TheVariants as opinion
@@ -116,7 +116,7 @@ module _ (n : ℕ) (item : Item) (is : IsItemIn n item) where
       object_says (has_words item.object (codes "ID SIGNATURE") || has_words item.object (codes "SIGNATURE"))
   certificate_in cert.Certification = object_says (has_words item.object (codes "SIGNATURE"))
 
-  lifted_in : (said : Value EntryValue) → SaidIn n (lifted own.Entry said)
+  lifted_in : (said : Value EntryValue) → SaidIn n (lifted_entry_value own.Entry said)
   lifted_in value.Nothing = tt
   lifted_in (value.Text text) = tt
   lifted_in (value.Number number) = tt
@@ -152,7 +152,7 @@ module _ (n : ℕ) (item : Item) (is : IsItemIn n item) where
       (signature_of item) (signature_in n item is)
   value_in (kind.Certificate of_kind) = certificate_in of_kind
   value_in (kind.Entry of_kind) =
-      says_in n (λ (said : Value EntryValue). lifted own.Entry said) lifted_in (entry_value of_kind item)
+      says_in n (λ (said : Value EntryValue). lifted_entry_value own.Entry said) lifted_in (entry_value of_kind item)
       (entry_in n item is of_kind)
 
   -- ---- limits

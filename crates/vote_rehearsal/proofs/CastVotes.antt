@@ -5,7 +5,7 @@ use Rattle.std.specs.List.{flat_map, fold}
 use Rattle.std.proofs.lemmas.Grind.{flat_map-append}
 use Rattle.std.proofs.lemmas.List.{append-nil, take_more}
 use Rattle.std.proofs.lemmas.List.Sums.{fold-append}
-use Rattle.vote_terms.specs.Held.{held, placed}
+use Rattle.vote_terms.specs.Held.{held, votes_with}
 use Rattle.vote_terms.specs.Votes.{ReadVote}
 use Rattle.vote_rehearsal.specs.declared.authority.Authority.{Authority}
 
@@ -16,7 +16,7 @@ module _ (cast : Authority → Option ReadVote) where
 
   pub more_held : (all : List Authority) (n : ℕ) (one : Authority) (vote : Option ReadVote) (now new : List ReadVote)
       → n < length all → one ≡ get_or all n one → vote ≡ cast one → now ≡ held (votes_of (take n all))
-      → new ≡ fold placed now (option_to_list vote) → new ≡ held (votes_of (take (n + 1) all))
+      → new ≡ fold votes_with now (option_to_list vote) → new ≡ held (votes_of (take (n + 1) all))
   more_held all n one vote now new lt is its before after =
       let front = votes_of (take n all) in
       let next = option_to_list (cast one) in
@@ -25,6 +25,6 @@ module _ (cast : Authority → Option ReadVote) where
       ∙ flat_map-append (λ (voter : Authority). option_to_list (cast voter)) (take n all) (one ∷ [])
       ∙ ap (λ (l : List ReadVote). front ++ l) (append-nil next) in
       after
-      ∙ ap₂ (λ (l : List ReadVote) (v : Option ReadVote). fold placed l (option_to_list v)) before its
-      ∙ sym (fold-append placed [] front next)
+      ∙ ap₂ (λ (l : List ReadVote) (v : Option ReadVote). fold votes_with l (option_to_list v)) before its
+      ∙ sym (fold-append votes_with [] front next)
       ∙ ap held (sym more)

@@ -9,11 +9,11 @@ unfolding number_after
 none_drawn number = refl
 
 -- one draw more
-pub one_more : (number draws : ℕ) → number_after number (draws + 1) ≡ next_number (number_after number draws)
+pub one_more_draw : (number draws : ℕ) → number_after number (draws + 1) ≡ next_number (number_after number draws)
 unfolding number_after
-one_more number draws = let e : draws + 1 ≡ suc draws = omega arith in ap (λ n. number_after number n) e
+one_more_draw number draws = let e : draws + 1 ≡ suc draws = omega arith in ap (λ n. number_after number n) e
 
-pub ruleset draws = (none_drawn, one_more)
+pub ruleset draws = (none_drawn, one_more_draw)
 
 -- so many draws behind others
 pub draws_on : (number k m : ℕ) → number_after (number_after number k) m ≡ number_after number (k + m)

@@ -17,15 +17,15 @@ use Rattle.vote_rehearsal.specs.Private.{MakeRoster}
 use Rattle.vote_rehearsal.specs.declared.authority.Authority.{Authority}
 
 -- a member that is not among others repeats none of them
-one_more : (before members : List Fingerprint) (one : Fingerprint) → repeat_after before members ≡ None
+one_more_member_repeats_none : (before members : List Fingerprint) (one : Fingerprint) → repeat_after before members ≡ None
     → has_member (before ++ members) one ≡ false → repeat_after before (members ++ one ∷ []) ≡ None
-one_more before [] one none new =
+one_more_member_repeats_none before [] one none new =
     let fresh : has_member before one ≡ false =
     ap (λ (l : List Fingerprint). has_member l one) (sym (append-nil before)) ∙ new in
     rw fresh refl
-one_more before (first ∷ members) one none new =
+one_more_member_repeats_none before (first ∷ members) one none new =
     by (has_member before first) refl
-    (λ rest. one_more (before ++ first ∷ []) members one rest
+    (λ rest. one_more_member_repeats_none (before ++ first ∷ []) members one rest
     (ap (λ (l : List Fingerprint). has_member l one) (append_assoc before (first ∷ []) members) ∙ new))
   where
     by : (b : Bool) → has_member before first ≡ b
@@ -52,7 +52,7 @@ next_apart authorities one none = by (has_identity authorities one.identity) ref
     by true is = none
     by false is =
         ap (λ (l : List Fingerprint). first_repeat l) (map-append (λ (a : Authority). a.identity) authorities (one ∷ []))
-        ∙ one_more [] (members_of authorities) one.identity none (among authorities one.identity ∙ is)
+        ∙ one_more_member_repeats_none [] (members_of authorities) one.identity none (among authorities one.identity ∙ is)
 
 apart : (before xs : List Authority) → first_repeat (members_of before) ≡ None
     → first_repeat (members_of (fold with_voter before xs)) ≡ None

@@ -4,16 +4,16 @@ use Rattle.std.specs.List.{fold, list_any, range_with_len}
 use Rattle.sha1.specs.Sha1.{sha1}
 use Rattle.dir_values.specs.Digests.{same_identity}
 use Rattle.dir_values.specs.declared.digest.Fingerprint.{Fingerprint}
-use Rattle.vote_rehearsal.specs.Relays.{seeded}
+use Rattle.vote_rehearsal.specs.Relays.{seeded_word}
 use Rattle.vote_rehearsal.specs.declared.authority.Authority.{Authority}
 
 -- the authority with a number
 abbrev pub authority_of : ℕ → ℕ → Authority
 authority_of seed number = record {
   number = number;
-  identity = record { 0 = sha1 (seeded (codes "authority-") number seed) };
-  identity_key = seeded (codes "authority-") number seed;
-  signing_key = seeded (codes "signing-") number seed;
+  identity = record { 0 = sha1 (seeded_word (codes "authority-") number seed) };
+  identity_key = seeded_word (codes "authority-") number seed;
+  signing_key = seeded_word (codes "signing-") number seed;
 }
 
 -- whether one of the authorities has a fingerprint

@@ -5,7 +5,7 @@ use Rattle.dir_bytes.specs.FieldTexts.{hex_text}
 use Rattle.dirdoc_grammar.specs.Bodies.{object_text}
 use Rattle.dirdoc_grammar.specs.Writing.{NewItem, items_text}
 use Rattle.frame_terms.specs.declared.keyword.Keyword.TheVariants as the
-use Rattle.frame_values.specs.Items.{bare, timed, with_object}
+use Rattle.frame_values.specs.Items.{bare, moment_item, with_object}
 use Rattle.key_port.specs.TestScheme.{test_signature}
 use Rattle.key_port.specs.declared.verifier.KeyKind.TheVariants as kind
 use Rattle.authority_certs.specs.declared.cert.Cert.{Cert}
@@ -32,7 +32,7 @@ holder_items authority =
 abbrev pub key_items : Authority → List NewItem
 key_items authority =
     with_object the.DirIdentityKey [] (codes "RSA PUBLIC KEY") authority.identity_key
-    ∷ timed the.DirKeyPublished certificate_published ∷ timed the.DirKeyExpires certificate_expires
+    ∷ moment_item the.DirKeyPublished certificate_published ∷ moment_item the.DirKeyExpires certificate_expires
     ∷ with_object the.DirSigningKey [] (codes "RSA PUBLIC KEY") authority.signing_key ∷ []
 
 -- its last items, up to the certification's object

@@ -11,5 +11,5 @@ number_after number zero = number
 number_after number (suc draws) = next_number (number_after number draws)
 
 -- what is drawn so many draws after a number: the upper half of the next one
-abbrev pub drawn : ℕ → ℕ → ℕ
-drawn number draws = next_number (number_after number draws) / 4294967296
+abbrev pub drawn_number : ℕ → ℕ → ℕ
+drawn_number number draws = next_number (number_after number draws) / 4294967296

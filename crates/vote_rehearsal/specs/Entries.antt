@@ -9,8 +9,8 @@ use Rattle.flag_rules.specs.Names.{names_of}
 use Rattle.flag_rules.specs.declared.flags.Flags.{Flags}
 use Rattle.vote_terms.specs.declared.entry.EntryFacts.{EntryFacts}
 use Rattle.vote_terms.specs.declared.entry.MicroFacts.{MicroFacts}
-use Rattle.vote_rehearsal.specs.Draws.{drawn}
-use Rattle.vote_rehearsal.specs.Relays.{numbered}
+use Rattle.vote_rehearsal.specs.Draws.{drawn_number}
+use Rattle.vote_rehearsal.specs.Relays.{numbered_word}
 use Rattle.vote_rehearsal.specs.declared.relay.Relay.{Relay}
 
 -- whether an authority that drew this lists the relay
@@ -65,7 +65,7 @@ micro_of relay = record { methods = only_method; digest = relay.micro }
 -- address is 10.0.0.0 and its number
 unfoldable pub entry_of : Relay → ℕ → ℕ → EntryFacts
 entry_of relay authority draw = record {
-  nickname = numbered (codes "relay") relay.number;
+  nickname = numbered_word (codes "relay") relay.number;
   identity = relay.identity;
   digest = relay.digest;
   published = 1767222000;
@@ -76,7 +76,7 @@ entry_of relay authority draw = record {
   flags = names_of (flags_drawn draw);
   version = None;
   protocols = None;
-  bandwidths = Some (bandwidths_drawn (drawn relay.start 0) draw authority);
+  bandwidths = Some (bandwidths_drawn (drawn_number relay.start 0) draw authority);
   policy = Some (policy_of relay.number);
   micros = micro_of relay ∷ [];
   ed = opinion_drawn draw relay.ed;
@@ -85,7 +85,7 @@ entry_of relay authority draw = record {
 -- the entry of a relay in the vote of the authority with a number, if it has one
 abbrev pub entry_in : ℕ → Relay → List EntryFacts
 entry_in authority relay =
-    let draw = drawn relay.start authority in
+    let draw = drawn_number relay.start authority in
     if lists draw then entry_of relay authority draw ∷ [] else []
 
 -- the entries of relays in the vote of the authority with a number

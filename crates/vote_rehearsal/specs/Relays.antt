@@ -15,12 +15,12 @@ use Rattle.vote_rehearsal.specs.declared.relay.Relay.{Relay}
 -- ---- names
 
 -- a word and a number
-abbrev pub numbered : List ℕ → ℕ → List ℕ
-numbered word number = word ++ decimal number
+abbrev pub numbered_word : List ℕ → ℕ → List ℕ
+numbered_word word number = word ++ decimal number
 
 -- a word, a number and the seed
-abbrev pub seeded : List ℕ → ℕ → ℕ → List ℕ
-seeded word number seed = numbered word number ++ hyphen ∷ decimal seed
+abbrev pub seeded_word : List ℕ → ℕ → ℕ → List ℕ
+seeded_word word number seed = numbered_word word number ++ hyphen ∷ decimal seed
 
 -- ---- one relay
 
@@ -34,10 +34,10 @@ abbrev pub relay_at : ℕ → ℕ → ℕ → Relay
 relay_at seed number start = record {
   number = number;
   start = start;
-  identity = record { 0 = sha1 (seeded (codes "relay-") number seed) };
-  digest = record { 0 = sha1 (seeded (codes "desc-") number seed) };
-  ed = sha256 (seeded (codes "ed-") number seed);
-  micro = record { 0 = sha256 (seeded (codes "micro-") number seed) };
+  identity = record { 0 = sha1 (seeded_word (codes "relay-") number seed) };
+  digest = record { 0 = sha1 (seeded_word (codes "desc-") number seed) };
+  ed = sha256 (seeded_word (codes "ed-") number seed);
+  micro = record { 0 = sha256 (seeded_word (codes "micro-") number seed) };
 }
 
 -- the relay with a number

@@ -13,7 +13,7 @@ use Rattle.vote_terms.specs.declared.facts.SignatureFacts.{SignatureFacts}
 use Rattle.vote_terms.specs.declared.facts.VoteFacts.{VoteFacts}
 use Rattle.vote_terms.specs.declared.lists.VoteLists.{VoteLists}
 use Rattle.vote_text.specs.Made.{made_signed, signature_rest}
-use Rattle.vote_rehearsal.specs.Relays.{numbered}
+use Rattle.vote_rehearsal.specs.Relays.{numbered_word}
 use Rattle.vote_rehearsal.specs.Entries.{entries_of, only_method}
 use Rattle.vote_rehearsal.specs.Certificates.{certificate_bytes, certificate_of}
 use Rattle.vote_rehearsal.specs.declared.authority.Authority.{Authority}
@@ -63,7 +63,7 @@ signature_by cert signature = record {
 
 -- the nickname of the authority with a number
 abbrev pub nickname_of : ℕ → List ℕ
-nickname_of number = numbered (codes "auth") number
+nickname_of number = numbered_word (codes "auth") number
 
 -- the name of its host
 abbrev pub host_of : ℕ → List ℕ

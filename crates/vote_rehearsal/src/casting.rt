@@ -1,7 +1,7 @@
 // The votes of a rehearsal: read, checked and held.
 ghost use Rattle.std.specs.Prelude.{◌≡◌, ◌≤◌, ◌<◌, ◌+◌, ◌^◌, IfOk, length, option_map, option_to_list};
 ghost use Rattle.std.specs.List.{fold};
-ghost use Rattle.vote_terms.specs.Held.{placed};
+ghost use Rattle.vote_terms.specs.Held.{votes_with};
 ghost use Rattle.vote_rehearsal.specs.Casting as casting;
 ghost use Rattle.vote_rehearsal.specs.Private.{MakeRoster};
 
@@ -73,7 +73,7 @@ fn cast_by(
 /// Holds a vote, if there is one.
 fn place_if(accepted: &mut Accepted, vote: Option<HeldVote>)
     requires { length accepted.old.votes < accepted.old.room }
-    ensures votes { accepted.new.votes ≡ fold placed accepted.old.votes (option_to_list vote) }
+    ensures votes { accepted.new.votes ≡ fold votes_with accepted.old.votes (option_to_list vote) }
     ensures room { accepted.new.room ≡ accepted.old.room }
     ensures few { length accepted.new.votes ≤ length accepted.old.votes + 1 }
 {

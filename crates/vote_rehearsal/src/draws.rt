@@ -31,7 +31,7 @@ pub(crate) fn number_after(number: u64, draws: u32) -> u64
 
 /// What is drawn so many draws after a number.
 pub(crate) fn drawn(number: u64, draws: u32) -> u32
-    ensures { result ≡ terms.drawn number draws }
+    ensures { result ≡ terms.drawn_number number draws }
 {
     (next_number(number_after(number, draws)) / 4_294_967_296) as u32
 }

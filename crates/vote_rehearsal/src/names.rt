@@ -10,7 +10,7 @@ use std::alloc::Global;
 /// # Errors
 /// `Memory` is want of memory.
 pub(crate) fn numbered(alloc: Global, word: &[u8], number: u32) -> Result<Vec<u8>, Memory>
-    ensures { IfOk result (λ name. name.items ≡ relay_terms.numbered word.now number) }
+    ensures { IfOk result (λ name. name.items ≡ relay_terms.numbered_word word.now number) }
 {
     let mut name = Vec::new(alloc);
     name.extend_from_slice(word)?;
@@ -23,7 +23,7 @@ pub(crate) fn numbered(alloc: Global, word: &[u8], number: u32) -> Result<Vec<u8
 /// # Errors
 /// `Memory` is want of memory.
 pub(crate) fn seeded(alloc: Global, word: &[u8], number: u32, seed: u64) -> Result<Vec<u8>, Memory>
-    ensures { IfOk result (λ name. name.items ≡ relay_terms.seeded word.now number seed) }
+    ensures { IfOk result (λ name. name.items ≡ relay_terms.seeded_word word.now number seed) }
 {
     let mut name = numbered(alloc, word, number)?;
     name.push(b'-')?;

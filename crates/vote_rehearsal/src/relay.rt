@@ -33,7 +33,7 @@ pub(crate) struct Relay {
 /// # Errors
 /// `Memory` is want of memory.
 fn sha1_of(alloc: Global, word: &[u8], number: u16, seed: u64) -> Result<[u8; 20], Memory>
-    ensures { IfOk result (λ digest. digest ≡ sha1 (relay_terms.seeded word.now number seed)) }
+    ensures { IfOk result (λ digest. digest ≡ sha1 (relay_terms.seeded_word word.now number seed)) }
 {
     let text = seeded(alloc, word, number as u32, seed)?;
     Ok(Sha1::digest(&text))
@@ -44,7 +44,7 @@ fn sha1_of(alloc: Global, word: &[u8], number: u16, seed: u64) -> Result<[u8; 20
 /// # Errors
 /// `Memory` is want of memory.
 fn sha256_of(alloc: Global, word: &[u8], number: u16, seed: u64) -> Result<[u8; 32], Memory>
-    ensures { IfOk result (λ digest. digest ≡ sha256 (relay_terms.seeded word.now number seed)) }
+    ensures { IfOk result (λ digest. digest ≡ sha256 (relay_terms.seeded_word word.now number seed)) }
 {
     let text = seeded(alloc, word, number as u32, seed)?;
     Ok(Sha256::digest(&text))

@@ -6,15 +6,15 @@ use Rattle.std.proofs.lemmas.Bool.{false≢true}
 use Rattle.dir_values.specs.Digests.{identity_below}
 use Rattle.dir_values.specs.declared.digest.Fingerprint.{Fingerprint}
 use Rattle.vote_terms.specs.Votes.{ReadVote, rank_of}
-use Rattle.vote_terms.specs.Held.{outranks, same_authority, placed, held, IsHeld, SameMembers, RanksApart, HeldAgree, RanksAgree}
+use Rattle.vote_terms.specs.Held.{outranks, same_authority, votes_with, held, IsHeld, SameMembers, RanksApart, HeldAgree, RanksAgree}
 use Rattle.vote_terms.proofs.Orders.{Below, below_trans, not_itself, not_both, other_way, same_one, above_trans, above_itself, above_other}
 
 -- what putting a vote among others comes to at the first of them
 data Step (w : ReadVote) (ws : List ReadVote) (v : ReadVote) : Type 0 where
-  goes_on : Below w.says.identity v.says.identity → placed (w ∷ ws) v ≡ w ∷ placed ws v → Step w ws v
-  replaces : w.says.identity ≡ v.says.identity → outranks v w ≡ true → placed (w ∷ ws) v ≡ v ∷ ws → Step w ws v
-  stays : w.says.identity ≡ v.says.identity → outranks v w ≡ false → placed (w ∷ ws) v ≡ w ∷ ws → Step w ws v
-  stands_before : Below v.says.identity w.says.identity → placed (w ∷ ws) v ≡ v ∷ w ∷ ws → Step w ws v
+  goes_on : Below w.says.identity v.says.identity → votes_with (w ∷ ws) v ≡ w ∷ votes_with ws v → Step w ws v
+  replaces : w.says.identity ≡ v.says.identity → outranks v w ≡ true → votes_with (w ∷ ws) v ≡ v ∷ ws → Step w ws v
+  stays : w.says.identity ≡ v.says.identity → outranks v w ≡ false → votes_with (w ∷ ws) v ≡ w ∷ ws → Step w ws v
+  stands_before : Below v.says.identity w.says.identity → votes_with (w ∷ ws) v ≡ v ∷ w ∷ ws → Step w ws v
 
 step_by : (a b c : Bool) (w : ReadVote) (ws : List ReadVote) (v : ReadVote) → identity_below w.says.identity v.says.identity ≡ a → same_authority w v ≡ b → outranks v w ≡ c → Step w ws v
 step_by true b c w ws v e f o = goes_on e (rw e refl)
@@ -54,7 +54,7 @@ before : (a b c : Fingerprint) → a ≡ b → Below a c → Below b c
 before a b c e h = let P : Fingerprint → Type 0 = λ x. Below x c in subst P e h
 
 -- only the vote that was put is new
-pub only : (ws : List ReadVote) (v x : ReadVote) → In x (placed ws v) → In x ws ⊎ (x ≡ v)
+pub only : (ws : List ReadVote) (v x : ReadVote) → In x (votes_with ws v) → In x ws ⊎ (x ≡ v)
 only [] v x h = ⊎_elim (λ (e : x ≡ v). inr e) (λ t. absurd t) h
 only (w ∷ ws) v x h = elim (step w ws v) [
   | goes_on lt e ↦ ⊎_elim (λ (i : x ≡ w). inl (inl i)) (λ t. ⊎_elim (λ (i : In x ws). inl (inr i)) (λ i. inr i) (only ws v x t)) (subst (λ l. In x l) e h)
@@ -64,10 +64,10 @@ only (w ∷ ws) v x h = elim (step w ws v) [
 ]
 
 -- a vote that was there is there still, or the new one outranks it
-pub kept : (ws : List ReadVote) (v x : ReadVote) → In x ws → In x (placed ws v) ⊎ ((x.says.identity ≡ v.says.identity) × (outranks v x ≡ true) × In v (placed ws v))
+pub kept : (ws : List ReadVote) (v x : ReadVote) → In x ws → In x (votes_with ws v) ⊎ ((x.says.identity ≡ v.says.identity) × (outranks v x ≡ true) × In v (votes_with ws v))
 kept [] v x h = absurd h
 kept (w ∷ ws) v x h = elim (step w ws v) [
-  | goes_on lt e ↦ rw e (⊎_elim (λ (i : x ≡ w). inl (inl i)) (λ t. ⊎_elim (λ (i : In x (placed ws v)). inl (inr i)) (λ i. inr (i.0, i.1, inr i.2)) (kept ws v x t)) h)
+  | goes_on lt e ↦ rw e (⊎_elim (λ (i : x ≡ w). inl (inl i)) (λ t. ⊎_elim (λ (i : In x (votes_with ws v)). inl (inr i)) (λ i. inr (i.0, i.1, inr i.2)) (kept ws v x t)) h)
   | replaces q o e ↦ rw e (⊎_elim (λ (i : x ≡ w). inr (rw i q, rw i o, inl refl)) (λ t. inl (inr t)) h)
   | stays q o e ↦ rw e (inl h)
   | stands_before lt e ↦ rw e (inl (inr h))
@@ -77,16 +77,16 @@ kept (w ∷ ws) v x h = elim (step w ws v) [
 lost_to_itself : (v : ReadVote) → outranks v v ≡ false
 lost_to_itself v = above_itself (rank_of v)
 
-there : (ws : List ReadVote) (v : ReadVote) → (h : ReadVote) × In h (placed ws v) × (h.says.identity ≡ v.says.identity) × (outranks v h ≡ false)
-there [] v = (v, inl refl, refl, lost_to_itself v)
-there (w ∷ ws) v = elim (step w ws v) [
-  | goes_on lt e ↦ let r = there ws v in (r.0, rw e (inr r.1), r.2, r.3)
+one_placed_is_not_outranked : (ws : List ReadVote) (v : ReadVote) → (h : ReadVote) × In h (votes_with ws v) × (h.says.identity ≡ v.says.identity) × (outranks v h ≡ false)
+one_placed_is_not_outranked [] v = (v, inl refl, refl, lost_to_itself v)
+one_placed_is_not_outranked (w ∷ ws) v = elim (step w ws v) [
+  | goes_on lt e ↦ let r = one_placed_is_not_outranked ws v in (r.0, rw e (inr r.1), r.2, r.3)
   | replaces q o e ↦ (v, rw e (inl refl), refl, lost_to_itself v)
   | stays q o e ↦ (w, rw e (inl refl), q, o)
   | stands_before lt e ↦ (v, rw e (inl refl), refl, lost_to_itself v)
 ]
 
-pub ascends : (ws : List ReadVote) (v : ReadVote) → Ascends ws → Ascends (placed ws v)
+pub ascends : (ws : List ReadVote) (v : ReadVote) → Ascends ws → Ascends (votes_with ws v)
 ascends [] v a = (λ x t. absurd t, tt)
 ascends (w ∷ ws) v a = elim (step w ws v) [
   | goes_on lt e ↦ rw e (λ x t. ⊎_elim (λ (i : In x ws). a.0 x i) (λ (i : x ≡ v). rw i lt) (only ws v x t), ascends ws v a.1)
@@ -106,13 +106,13 @@ pub record Stands (seen : ReadVote → Type 0) (votes : List ReadVote) : Type 0 
   pub apart : Ascends votes
 
 one_of : (b : Bool) (seen : ReadVote → Type 0) (votes : List ReadVote) (v x h : ReadVote) → outranks x v ≡ b → In h votes → h.says.identity ≡ x.says.identity → outranks x h ≡ false
-    → (g : ReadVote) × In g (placed votes v) × (g.says.identity ≡ x.says.identity) × (outranks x g ≡ false)
-one_of true seen votes v x h o i q r = ⊎_elim (λ (k : In h (placed votes v)). (h, k, q, r)) (λ k. absurd (false≢true (sym r ∙ ranks x v h o k.1))) (kept votes v h i)
-one_of false seen votes v x h o i q r = ⊎_elim (λ (k : In h (placed votes v)). (h, k, q, r)) (λ k. (v, k.2, sym k.0 ∙ q, o)) (kept votes v h i)
+    → (g : ReadVote) × In g (votes_with votes v) × (g.says.identity ≡ x.says.identity) × (outranks x g ≡ false)
+one_of true seen votes v x h o i q r = ⊎_elim (λ (k : In h (votes_with votes v)). (h, k, q, r)) (λ k. absurd (false≢true (sym r ∙ ranks x v h o k.1))) (kept votes v h i)
+one_of false seen votes v x h o i q r = ⊎_elim (λ (k : In h (votes_with votes v)). (h, k, q, r)) (λ k. (v, k.2, sym k.0 ∙ q, o)) (kept votes v h i)
 
-one_more : (seen : ReadVote → Type 0) (votes : List ReadVote) (v : ReadVote) → Stands seen votes → Stands (λ x. seen x ⊎ (x ≡ v)) (placed votes v)
-one_more seen votes v s = record {
-  each = λ x t. ⊎_elim (λ (i : seen x). let r = s.each x i in one_of _ seen votes v x r.0 refl r.1 r.2 r.3) (λ (i : x ≡ v). rw i (there votes v)) t;
+one_more_vote_stands : (seen : ReadVote → Type 0) (votes : List ReadVote) (v : ReadVote) → Stands seen votes → Stands (λ x. seen x ⊎ (x ≡ v)) (votes_with votes v)
+one_more_vote_stands seen votes v s = record {
+  each = λ x t. ⊎_elim (λ (i : seen x). let r = s.each x i in one_of _ seen votes v x r.0 refl r.1 r.2 r.3) (λ (i : x ≡ v). rw i (one_placed_is_not_outranked votes v)) t;
   from = λ h t. ⊎_elim (λ (i : In h votes). inl (s.from h i)) (λ (i : h ≡ v). inr i) (only votes v h t);
   apart = ascends votes v s.apart;
 }
@@ -120,13 +120,13 @@ one_more seen votes v s = record {
 alike : (seen other : ReadVote → Type 0) (votes : List ReadVote) → ((x : ReadVote) → seen x → other x) → ((x : ReadVote) → other x → seen x) → Stands seen votes → Stands other votes
 alike seen other votes to back s = record { each = λ x i. s.each x (back x i); from = λ h i. to h (s.from h i); apart = s.apart }
 
-all : (list : List ReadVote) (seen : ReadVote → Type 0) (votes : List ReadVote) → Stands seen votes → Stands (λ x. seen x ⊎ In x list) (fold placed votes list)
+all : (list : List ReadVote) (seen : ReadVote → Type 0) (votes : List ReadVote) → Stands seen votes → Stands (λ x. seen x ⊎ In x list) (fold votes_with votes list)
 all [] seen votes s = alike seen (λ x. seen x ⊎ ⊥) votes (λ x i. inl i) (λ x i. ⊎_elim (λ (k : seen x). k) (λ k. absurd k) i) s
 all (v ∷ list) seen votes s =
-    alike (λ x. (seen x ⊎ (x ≡ v)) ⊎ In x list) (λ x. seen x ⊎ ((x ≡ v) ⊎ In x list)) (fold placed (placed votes v) list)
+    alike (λ x. (seen x ⊎ (x ≡ v)) ⊎ In x list) (λ x. seen x ⊎ ((x ≡ v) ⊎ In x list)) (fold votes_with (votes_with votes v) list)
     (λ x i. ⊎_elim (λ (j : seen x ⊎ (x ≡ v)). ⊎_elim (λ (k : seen x). inl k) (λ k. inr (inl k)) j) (λ j. inr (inr j)) i)
     (λ x i. ⊎_elim (λ (j : seen x). inl (inl j)) (λ j. ⊎_elim (λ (k : x ≡ v). inl (inr k)) (λ k. inr k) j) i)
-    (all list (λ x. seen x ⊎ (x ≡ v)) (placed votes v) (one_more seen votes v s))
+    (all list (λ x. seen x ⊎ (x ≡ v)) (votes_with votes v) (one_more_vote_stands seen votes v s))
 
 single : (votes : List ReadVote) (g h : ReadVote) → Ascends votes → In g votes → In h votes → g.says.identity ≡ h.says.identity → g ≡ h
 single [] g h a i j q = absurd i
@@ -138,7 +138,7 @@ pub stands : (list : List ReadVote) → Stands (λ x. ⊥ ⊎ In x list) (held l
 stands list = all list (λ _. ⊥) [] (record { each = λ x i. absurd i; from = λ h i. absurd i; apart = tt })
 
 -- what is new after a put outranks each vote of its authority that was there
-pub newer : (ws : List ReadVote) (v x : ReadVote) → Ascends ws → In x (placed ws v)
+pub newer : (ws : List ReadVote) (v x : ReadVote) → Ascends ws → In x (votes_with ws v)
     → In x ws ⊎ ((x ≡ v) × ((h : ReadVote) → In h ws → h.says.identity ≡ v.says.identity → outranks v h ≡ true))
 newer [] v x a i = ⊎_elim (λ (e : x ≡ v). inr (e, λ h j q. absurd j)) (λ j. absurd j) i
 newer (w ∷ ws) v x a i = elim (step w ws v) [
@@ -170,10 +170,10 @@ Early seen v votes = (g : ReadVote) → In g votes → g.says.identity ≡ v.say
 abbrev Met : ReadVote → List ReadVote → Type 0
 Met v votes = (h : ReadVote) × In h votes × (h.says.identity ≡ v.says.identity) × (outranks v h ≡ false)
 
-still_met : (votes : List ReadVote) (v w : ReadVote) → Met v votes → Met v (placed votes w)
+still_met : (votes : List ReadVote) (v w : ReadVote) → Met v votes → Met v (votes_with votes w)
 still_met votes v w m = one_of _ (λ _. ⊥) votes w v m.0 refl m.1 m.2 m.3
 
-still_early : (seen : ReadVote → Type 0) (votes : List ReadVote) (v w : ReadVote) → Ascends votes → Met v votes → Early seen v votes → Early seen v (placed votes w)
+still_early : (seen : ReadVote → Type 0) (votes : List ReadVote) (v w : ReadVote) → Ascends votes → Met v votes → Early seen v votes → Early seen v (votes_with votes w)
 still_early seen votes v w a m e g i q =
     ⊎_elim (λ (j : In g votes). e g j q)
     (λ j.
@@ -182,23 +182,23 @@ still_early seen votes v w a m e g i q =
     inr (rw j.0 beats))
     (newer votes w g a i)
 
-early_after : (list : List ReadVote) (seen : ReadVote → Type 0) (votes : List ReadVote) (v : ReadVote) → Ascends votes → Met v votes → Early seen v votes → Early seen v (fold placed votes list)
+early_after : (list : List ReadVote) (seen : ReadVote → Type 0) (votes : List ReadVote) (v : ReadVote) → Ascends votes → Met v votes → Early seen v votes → Early seen v (fold votes_with votes list)
 early_after [] seen votes v a m e = e
-early_after (w ∷ list) seen votes v a m e = early_after list seen (placed votes w) v (ascends votes w a) (still_met votes v w m) (still_early seen votes v w a m e)
+early_after (w ∷ list) seen votes v a m e = early_after list seen (votes_with votes w) v (ascends votes w a) (still_met votes v w m) (still_early seen votes v w a m e)
 
-fold_split : (xs ys start : List ReadVote) → fold placed start (xs ++ ys) ≡ fold placed (fold placed start xs) ys
+fold_split : (xs ys start : List ReadVote) → fold votes_with start (xs ++ ys) ≡ fold votes_with (fold votes_with start xs) ys
 fold_split [] ys start = refl
-fold_split (x ∷ xs) ys start = fold_split xs ys (placed start x)
+fold_split (x ∷ xs) ys start = fold_split xs ys (votes_with start x)
 
 -- of votes of equal rank the first is held
 first_held : (before_it after_it : List ReadVote) (h v : ReadVote) → In h (held (before_it ++ v ∷ after_it)) → h.says.identity ≡ v.says.identity → outranks h v ≡ false → (h ≡ v) ⊎ In h before_it
 first_held before_it after_it h v i q o =
     let s = stands before_it in
     let start = held before_it in
-    let known : Early (λ x. (x ≡ v) ⊎ In x before_it) v (placed start v) =
+    let known : Early (λ x. (x ≡ v) ⊎ In x before_it) v (votes_with start v) =
     λ g j _. ⊎_elim (λ (k : In g start). inl (inr (⊎_elim (λ (n : ⊥). absurd n) (λ n. n) (s.from g k)))) (λ k. inl (inl k)) (only start v g j) in
-    let last = early_after after_it (λ x. (x ≡ v) ⊎ In x before_it) (placed start v) v (ascends start v s.apart) (there start v) known in
-    let here : In h (fold placed (placed start v) after_it) = subst (λ (l : List ReadVote). In h l) (fold_split before_it (v ∷ after_it) []) i in
+    let last = early_after after_it (λ x. (x ≡ v) ⊎ In x before_it) (votes_with start v) v (ascends start v s.apart) (one_placed_is_not_outranked start v) known in
+    let here : In h (fold votes_with (votes_with start v) after_it) = subst (λ (l : List ReadVote). In h l) (fold_split before_it (v ∷ after_it) []) i in
     ⊎_elim (λ (k : (h ≡ v) ⊎ In h before_it). k) (λ k. absurd (false≢true (sym o ∙ k))) (last h here q)
 
 in_or : (h v : ReadVote) (before_it : List ReadVote) → (h ≡ v) ⊎ In h before_it → (h ≡ v) ⊎ Contains before_it h

@@ -5,7 +5,7 @@ use Rattle.std.proofs.lemmas.Bool.{false≢true}
 use Rattle.dir_values.specs.declared.digest.Fingerprint.{Fingerprint}
 use Rattle.dir_values.specs.Digests.{identity_below, same_identity}
 use Rattle.vote_terms.specs.Votes.{ReadVote}
-use Rattle.vote_terms.specs.Held.{placed, held, rival, vote_of, same_authority, VotesAscend, HeldAscend}
+use Rattle.vote_terms.specs.Held.{votes_with, held, rival, vote_of, same_authority, VotesAscend, HeldAscend}
 use Rattle.vote_terms.proofs.Orders.{Below, below_trans, not_itself, other_way, same_one}
 use Rattle.vote_terms.proofs.HeldLaw.{In, in_to, at_index, Ascends, ascends, stands}
 
@@ -20,8 +20,8 @@ pub to_pairs : (votes : List ReadVote) → Ascends votes → VotesAscend votes
 to_pairs [] a = λ i j d lt within. absurd (omega (arith, within))
 to_pairs (w ∷ ws) a = AllPairs-cons Comes w ws (all_behind w ws a.0) (to_pairs ws a.1)
 
-pub behind : (w : ReadVote) (ws : List ReadVote) → VotesAscend (w ∷ ws) → (x : ReadVote) → In x ws → Comes w x
-behind w ws a x i =
+pub first_comes_before_rest : (w : ReadVote) (ws : List ReadVote) → VotesAscend (w ∷ ws) → (x : ReadVote) → In x ws → Comes w x
+first_comes_before_rest w ws a x i =
     let c = in_to ws x i in
     let comes : Comes w (get_or ws c.0 x) = a 0 (suc c.0) x (omega arith) (omega (arith, c.1)) in
     ap (λ (y : ReadVote). identity_below w.says.identity y.says.identity) (sym c.2) ∙ comes
@@ -31,11 +31,11 @@ rest_ascends w ws a = λ i j d lt within. a (suc i) (suc j) d (omega (arith, lt)
 
 pub from_pairs : (votes : List ReadVote) → VotesAscend votes → Ascends votes
 from_pairs [] a = tt
-from_pairs (w ∷ ws) a = (behind w ws a, from_pairs ws (rest_ascends w ws a))
+from_pairs (w ∷ ws) a = (first_comes_before_rest w ws a, from_pairs ws (rest_ascends w ws a))
 
 -- votes that ascend do so still with one more
-pub placed_ascends : (votes : List ReadVote) (v : ReadVote) → VotesAscend votes → VotesAscend (placed votes v)
-placed_ascends votes v a = to_pairs (placed votes v) (ascends votes v (from_pairs votes a))
+pub placed_ascends : (votes : List ReadVote) (v : ReadVote) → VotesAscend votes → VotesAscend (votes_with votes v)
+placed_ascends votes v a = to_pairs (votes_with votes v) (ascends votes v (from_pairs votes a))
 
 pub held_ascend : HeldAscend
 held_ascend list = to_pairs (held list) (stands list).apart
@@ -66,4 +66,4 @@ rival_by false false w ws v e f behind_it more =
 -- among votes that ascend, what a vote is placed against is the vote of its authority
 pub rival_is : (votes : List ReadVote) (v : ReadVote) → VotesAscend votes → rival votes v ≡ vote_of votes v.says.identity
 rival_is [] v a = refl
-rival_is (w ∷ ws) v a = rival_by _ _ w ws v refl refl (behind w ws a) (rival_is ws v (rest_ascends w ws a))
+rival_is (w ∷ ws) v a = rival_by _ _ w ws v refl refl (first_comes_before_rest w ws a) (rival_is ws v (rest_ascends w ws a))

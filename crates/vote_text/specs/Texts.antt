@@ -13,7 +13,7 @@ use Rattle.authority_certs.specs.Texts.{cert_items}
 use Rattle.value_groups.specs.Values.{random_text}
 use Rattle.vote_terms.specs.declared.facts.SignatureFacts.{SignatureFacts}
 use Rattle.vote_terms.specs.declared.facts.VoteFacts.{VoteFacts}
-use Rattle.frame_values.specs.Items.{bare, with_object, item_if, timed}
+use Rattle.frame_values.specs.Items.{bare, with_object, item_if, moment_item}
 use Rattle.vote_text.specs.Entries.{entries_items}
 use Rattle.vote_text.specs.Lists.{param_items, protocol_items, version_items}
 
@@ -56,8 +56,8 @@ kind_items facts =
 -- its times
 abbrev pub time_items : VoteFacts → List NewItem
 time_items facts =
-    timed the.Published facts.published ∷ timed the.ValidAfter facts.valid_after
-    ∷ timed the.FreshUntil facts.fresh_until ∷ timed the.ValidUntil facts.valid_until ∷ bare the.VotingDelay (delays_text facts) ∷ []
+    moment_item the.Published facts.published ∷ moment_item the.ValidAfter facts.valid_after
+    ∷ moment_item the.FreshUntil facts.fresh_until ∷ moment_item the.ValidUntil facts.valid_until ∷ bare the.VotingDelay (delays_text facts) ∷ []
 
 -- its flags
 abbrev pub flag_items : VoteFacts → List NewItem

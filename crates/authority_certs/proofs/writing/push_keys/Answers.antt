@@ -2,7 +2,7 @@ use Rattle.std.proofs.Common.{◌++◌, [], List, ℕ}
 use Rattle.std.specs.Prelude.{codes}
 use Rattle.dirdoc_grammar.specs.Writing.{item_text}
 use Rattle.frame_terms.specs.declared.keyword.Keyword.TheVariants as the
-use Rattle.frame_values.specs.Items.{timed, with_object}
+use Rattle.frame_values.specs.Items.{moment_item, with_object}
 use Rattle.frame_values.proofs.ItemsTexts.{link, last}
 use Rattle.authority_certs.proofs.writing.push_keys.Goals as goal
 
@@ -11,8 +11,8 @@ returns-clause-ok c =
     let facts = c.args.cert.now in
     let out = c.args.out.now.items in
     let text1 : List ℕ = item_text (with_object the.DirIdentityKey [] (codes "RSA PUBLIC KEY") facts.identity_key) in
-    let text2 : List ℕ = item_text (timed the.DirKeyPublished facts.published) in
-    let text3 : List ℕ = item_text (timed the.DirKeyExpires facts.expires) in
+    let text2 : List ℕ = item_text (moment_item the.DirKeyPublished facts.published) in
+    let text3 : List ℕ = item_text (moment_item the.DirKeyExpires facts.expires) in
     let text4 : List ℕ = item_text (with_object the.DirSigningKey [] (codes "RSA PUBLIC KEY") facts.signing_key) in
     let at1 = c.push_with_object.new.out.items in
     let at2 = c.push_timed.new.out.items in

@@ -3,7 +3,7 @@ use Rattle.dir_values.specs.Arguments.{Argument}
 use Rattle.dir_values.specs.FlagSets.{has_flag}
 use Rattle.dir_values.proofs.ArgumentWords.{arguments_words}
 use Rattle.item_terms.specs.Words.{words_of}
-use Rattle.consensus_calc.specs.Marks.{marked}
+use Rattle.consensus_calc.specs.Marks.{flag_marks}
 use Rattle.consensus_calc.proofs.Marking.{marked_more, marked_none, marked_start, length-marked, length_start, marks_of_set}
 use Rattle.consensus_calc.proofs.marks.mark.Goals as goal
 
@@ -13,7 +13,7 @@ arguments-init c =
     let words = map (λ (a : Argument). a.text) c.at-arguments.result in
     let unset : c.unmark.new.marks.items ≡ replicate (length known) false = c.in_ok-unmark.ensures ∙ ap (λ (n : ℕ). replicate n false) c.len.ensures.value in
     record {
-      marks = ap (λ (ms : List Bool). marked known ms words) unset ∙ marked_start known words
+      marks = ap (λ (ms : List Bool). flag_marks known ms words) unset ∙ marked_start known words
           ∙ ap (λ (ws : List (List ℕ)). map (λ flag. has_flag ws flag) known) (ap (λ (l : List Argument). map (λ (a : Argument). a.text) l) c.at-arguments.ensures ∙ arguments_words 0 c.args.text.now);
       long = ap (λ (l : List Bool). length l) unset ∙ length_start known;
     }
@@ -25,8 +25,8 @@ arguments-preserved c =
     let word = c.in-Some.argument.text.now in
     let rest = map (λ (a : Argument). a.text) c.next.new.self in
     record {
-      marks = ap (λ (ms : List Bool). marked known ms rest) c.mark_one.ensures ∙ marked_more known marks word rest
-          ∙ ap (λ (l : List Argument). marked known marks (map (λ (a : Argument). a.text) l)) (sym c.in-Some.ensures.taken) ∙ c.arguments.invariant.marks;
+      marks = ap (λ (ms : List Bool). flag_marks known ms rest) c.mark_one.ensures ∙ marked_more known marks word rest
+          ∙ ap (λ (l : List Argument). flag_marks known marks (map (λ (a : Argument). a.text) l)) (sym c.in-Some.ensures.taken) ∙ c.arguments.invariant.marks;
       long = ap (λ (l : List Bool). length l) c.mark_one.ensures ∙ length-marked known marks (word ∷ []) c.arguments.invariant.long;
     }
 
@@ -35,5 +35,5 @@ returns c =
     let known = c.args.known.now in
     let marks = c.arguments.marks.items in
     sym (marked_none known marks c.arguments.invariant.long)
-    ∙ ap (λ (l : List Argument). marked known marks (map (λ (a : Argument). a.text) l)) (sym c.in_default.ensures.taken.0) ∙ c.arguments.invariant.marks
+    ∙ ap (λ (l : List Argument). flag_marks known marks (map (λ (a : Argument). a.text) l)) (sym c.in_default.ensures.taken.0) ∙ c.arguments.invariant.marks
     ∙ marks_of_set known (words_of c.args.text.now)

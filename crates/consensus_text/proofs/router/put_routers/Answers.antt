@@ -1,10 +1,10 @@
 use Rattle.consensus_terms.specs.Flavours.{router_at}
 use Rattle.consensus_terms.specs.Routers.{listed_lines}
 use Rattle.consensus_terms.specs.declared.router.Routerline.{Routerline}
-use Rattle.text_page.proofs.Pages.{one_more}
+use Rattle.text_page.proofs.Pages.{one_more_piece_put}
 use Rattle.consensus_text.proofs.router.put_routers.Goals as goal
 
 pub routers-preserved : goal.routers-preserved
 routers-preserved c =
-    one_more (λ (r : Routerline). listed_lines c.args.flavour (router_at c.args.moment r)) _ _ _ c.args.routers.now
+    one_more_piece_put (λ (r : Routerline). listed_lines c.args.flavour (router_at c.args.moment r)) _ _ _ c.args.routers.now
     c.routers.router-index c.router-item.result c.routers-test.true c.router-item.is c.routers.invariant c.put_router.ensures

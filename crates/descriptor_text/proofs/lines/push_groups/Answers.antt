@@ -2,7 +2,7 @@ use Rattle.std.proofs.Common.{rules, ◌≡◌, ◌∙◌, ◌++◌, ◌∷◌, 
 use Rattle.std.proofs.lemmas.Grind.{common_steps}
 use Rattle.std.specs.Prelude.{slice_range}
 use Rattle.dir_bytes.specs.FieldTexts.{hex_text}
-use Rattle.descriptor_text.proofs.LeftOver.{first_group, groups_behind, no_more, one_more}
+use Rattle.descriptor_text.proofs.LeftOver.{first_group, groups_behind, no_more, one_more_group_behind}
 use Rattle.descriptor_text.proofs.lines.push_groups.Goals as goal
 
 pub groups-init : goal.groups-init
@@ -28,7 +28,7 @@ groups-preserved c =
     record {
       text = ap (λ (l : List ℕ). l ++ behind) written
           ∙ append_assoc rest (32 ∷ group) behind
-          ∙ ap (λ (l : List ℕ). rest ++ l) (sym (one_more bytes i c.groups-test.true))
+          ∙ ap (λ (l : List ℕ). rest ++ l) (sym (one_more_group_behind bytes i c.groups-test.true))
           ∙ c.groups.invariant.text;
       front = grind (arith, common_steps, written, c.groups.invariant.front);
     }

@@ -2,7 +2,7 @@ use Rattle.std.proofs.Common.{rules, ◌≡◌, ℕ, ◌+◌, ◌++◌, ◌∷�
 use Rattle.std.specs.List.{slice_split}
 use Rattle.dir_values.specs.declared.port_range.PortRange.{PortRange}
 use Rattle.dir_values.specs.Ports.{is_comma}
-use Rattle.dir_values.proofs.PortParts.{ranges_after, one_more, last_one, no_more}
+use Rattle.dir_values.proofs.PortParts.{ranges_after, one_more_range_spelled, last_one, no_more}
 use Rattle.dir_values.proofs.PortTexts.{list_after, spelled_apart}
 use Rattle.dir_values.proofs.port_list.range_list.Goals as goal
 
@@ -42,4 +42,4 @@ parts-preserved c =
     ap (λ (l : List PortRange). ranges_after (range.high + 2) l rest) written
     ∙ ap (λ (l : List ℕ). ranges_after (range.high + 2) (before ++ range ∷ []) (slice_split is_comma l))
     c.after-left.ensures.value
-    ∙ sym (one_more c.parts.next before c.parts.left.now range (search rules) (search rules)) ∙ c.parts.invariant
+    ∙ sym (one_more_range_spelled c.parts.next before c.parts.left.now range (search rules) (search rules)) ∙ c.parts.invariant

@@ -1,7 +1,7 @@
 use Rattle.std.proofs.Common.{◌≡◌, refl, sym, inl, ◌∙◌, arith}
 use Rattle.item_terms.specs.Words.{begins_dash}
 use Rattle.std.proofs.Common.{false}
-use Rattle.dirdoc_grammar.specs.Seen.{seen}
+use Rattle.dirdoc_grammar.specs.Seen.{seen_item}
 use Rattle.dirdoc_grammar.proofs.ObjectSteps.{one_turn, stops_inside, line_stops, ends_object, breaks_object}
 use Rattle.dirdoc_grammar.proofs.object.lines_of.Goals as goal
 
@@ -20,9 +20,9 @@ returns-in-Err-end_of_object-clause-object c =
 pub lines-preserved : goal.lines-preserved
 lines-preserved c =
     let plain : begins_dash c.in-Ok.text.now ≡ false = sym c.begins_dash.ensures ∙ c.if-begins_dash.false in
-    one_turn c.args.limit c.args.first c.lines.place c.args.bytes.now c.in-Ok.text.now c.args.words.now (seen c.args.item) c.lines.invariant c.lines-test.true c.in-Ok.ensures plain
+    one_turn c.args.limit c.args.first c.lines.place c.args.bytes.now c.in-Ok.text.now c.args.words.now (seen_item c.args.item) c.lines.invariant c.lines-test.true c.in-Ok.ensures plain
 
 pub returns-clause-object : goal.returns-clause-object
 returns-clause-object c =
     let within = c.lines.invariant.within in
-    stops_inside c.args.limit c.args.first c.lines.place c.args.bytes.now c.args.words.now (seen c.args.item) _ _ c.lines.invariant refl refl refl (inl (omega (arith, within, c.lines-test.false)))
+    stops_inside c.args.limit c.args.first c.lines.place c.args.bytes.now c.args.words.now (seen_item c.args.item) _ _ c.lines.invariant refl refl refl (inl (omega (arith, within, c.lines-test.false)))

@@ -1,7 +1,7 @@
 use Rattle.std.proofs.Common.{rules, ◌≡◌, ℕ, ◌≤◌, ◌-◌, ◌∙◌, sym, ap, Bool, true, false, List, reverse, arith}
 use Rattle.std.specs.Prelude.{not}
 use Rattle.dir_values.specs.declared.port_range.PortRange.{PortRange}
-use Rattle.exit_summary.specs.Policies.{accepted}
+use Rattle.exit_summary.specs.Policies.{accepts_port}
 use Rattle.exit_summary.specs.PortRanges.{ranges_down, with_ports}
 use Rattle.exit_summary.proofs.Stretches.{pass_step, fail_step, whole}
 use Rattle.exit_summary.proofs.ranges.sides_of.Goals as goal
@@ -9,8 +9,8 @@ use Rattle.exit_summary.proofs.ranges.sides_of.Goals.{then-stretch+in_ok-add_por
 
 pub stretches-preserved : goal.stretches-preserved
 stretches-preserved c =
-    let passes : ℕ → Bool = accepted c.args.items.now in
-    let fails : ℕ → Bool = λ port. not (accepted c.args.items.now port) in
+    let passes : ℕ → Bool = accepts_port c.args.items.now in
+    let fails : ℕ → Bool = λ port. not (accepts_port c.args.items.now port) in
     let first = c.stretch_to-stretch.result.first in
     let port = c.stretches.port in
     let same = c.stretch_to-stretch.ensures.same in
@@ -51,7 +51,7 @@ stretches-preserved c =
 
 pub returns-clause-accepted : goal.returns-clause-accepted
 returns-clause-accepted c =
-    let passes : ℕ → Bool = accepted c.args.items.now in
+    let passes : ℕ → Bool = accepts_port c.args.items.now in
     let before = reverse c.stretches.accepted.items in
     let none : c.stretches.port ≡ 0 = let h = c.stretches-test.false in omega (arith, h) in
     c.reverse.ensures.items ∙ sym (whole passes before)
@@ -59,7 +59,7 @@ returns-clause-accepted c =
 
 pub returns-clause-rejected : goal.returns-clause-rejected
 returns-clause-rejected c =
-    let fails : ℕ → Bool = λ port. not (accepted c.args.items.now port) in
+    let fails : ℕ → Bool = λ port. not (accepts_port c.args.items.now port) in
     let before = reverse c.stretches.rejected.items in
     let none : c.stretches.port ≡ 0 = let h = c.stretches-test.false in omega (arith, h) in
     c.reverse-2.ensures.items ∙ sym (whole fails before)

@@ -2,7 +2,7 @@ use Rattle.std.proofs.Common.{rules, ◌≡◌, ℕ, Bool, ◌≤◌, ◌∙◌,
 use Rattle.std.specs.Prelude.{not, IfOk}
 use Rattle.std.proofs.lemmas.Bool.Decides.{nat_tests}
 use Rattle.dir_values.specs.Ports.{Ports}
-use Rattle.exit_summary.specs.Policies.{accepted}
+use Rattle.exit_summary.specs.Policies.{accepts_port}
 use Rattle.exit_summary.specs.Summaries.{of_ranges, shorter, summary_of}
 use Rattle.exit_summary.proofs.RangeLaws.{are_ranges_of}
 use Rattle.exit_summary.proofs.SummaryLaws.{both_sides}
@@ -11,11 +11,11 @@ use Rattle.exit_summary.proofs.summaries.summary.Goals as goal
 pub new-requires : goal.new-requires
 new-requires c =
     let some : 1 ≤ length c.in_ok-sides.sides.accepted.items = grind (arith, nat_tests) in
-    are_ranges_of (accepted c.args.items.now) c.in_ok-sides.sides.accepted.items (search rules) some
+    are_ranges_of (accepts_port c.args.items.now) c.in_ok-sides.sides.accepted.items (search rules) some
 
 pub new-requires-2 : goal.new-requires-2
 new-requires-2 c =
-    let fails : ℕ → Bool = λ port. not (accepted c.args.items.now port) in
+    let fails : ℕ → Bool = λ port. not (accepts_port c.args.items.now port) in
     let some : 1 ≤ length c.in_ok-sides.sides.rejected.items = grind (arith, nat_tests) in
     are_ranges_of fails c.in_ok-sides.sides.rejected.items (search rules) some
 

@@ -1,5 +1,5 @@
 use Rattle.std.proofs.Common.{◌≡◌, ℕ, ◌≤◌}
-use Rattle.exit_summary.specs.Policies.{accepted, most_rejected}
+use Rattle.exit_summary.specs.Policies.{accepts_port, most_rejected}
 use Rattle.exit_summary.proofs.Walks.{accepted_from}
 use Rattle.exit_summary.proofs.walk.stretch_to.Given as goal
 
@@ -9,5 +9,5 @@ invariant-loop-i l = record {
   within : l.first ≤ l.port;
   few : l.rejected ≤ most_rejected;
   same : (other : ℕ) → l.first ≤ other → other ≤ l.port
-      → accepted l.items other ≡ accepted_from l.rejected l.items l.i other;
+      → accepts_port l.items other ≡ accepted_from l.rejected l.items l.i other;
 }

@@ -3,7 +3,7 @@ use Rattle.std.specs.Prelude.{not, ◌==◌, map, filter}
 use Rattle.std.specs.List.{flat_map}
 use Rattle.dir_values.specs.FlagSets as flag_sets
 use Rattle.dir_values.proofs.Flags.{Ascend-as_set}
-use Rattle.list_values.specs.Maps.{Ascend, named, names_of}
+use Rattle.list_values.specs.Maps.{Ascend, named_value, names_of}
 use Rattle.list_values.specs.Masks.{all_listed}
 use Rattle.field_votes.specs.Lists.{all_names, listed_numbers, is_listed_protocol}
 use Rattle.field_votes.specs.Private.{listed_mask}
@@ -24,4 +24,4 @@ returns c =
     let lists = c.args.lists.now in
     let names : c.deref.result.now ≡ all_names lists = c.deref.ensures.value ∙ c.in_ok-names.ensures in
     c.new.ensures ∙ ap all_listed c.in_ok-items.ensures ∙ listed_among lists c.deref.result.now
-    ∙ ap (λ (l : List (List ℕ)). map (λ (name : List ℕ). named name (listed_numbers lists name)) (filter (is_listed_protocol lists) l)) names
+    ∙ ap (λ (l : List (List ℕ)). map (λ (name : List ℕ). named_value name (listed_numbers lists name)) (filter (is_listed_protocol lists) l)) names

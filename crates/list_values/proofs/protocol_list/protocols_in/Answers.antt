@@ -6,7 +6,7 @@ use Rattle.dir_values.proofs.ArgumentWords.{arguments_words}
 use Rattle.list_values.specs.declared.named.Named.{Named}
 use Rattle.list_values.specs.Maps.{with_value}
 use Rattle.list_values.specs.Masks.{all_listed, numbers_of}
-use Rattle.list_values.specs.NumberSets.{united}
+use Rattle.list_values.specs.NumberSets.{united_numbers}
 use Rattle.list_values.specs.Protocols.{with_protocol, numbers_at, numbers_in}
 use Rattle.list_values.proofs.ListedProtocols.{listed-with_value}
 use Rattle.list_values.proofs.NumberLists.{united_masks}
@@ -24,12 +24,12 @@ arguments-preserved c =
     let map = c.arguments.map in
     let before = all_listed map in
     let name = c.left_side-name.result.now in
-    let numbers : numbers_of _ ≡ united (numbers_at before name) (numbers_in word) =
-    united_masks c.mask_at.result c.mask_or_none.result ∙ ap₂ united c.mask_at.ensures c.mask_or_none.ensures in
+    let numbers : numbers_of _ ≡ united_numbers (numbers_at before name) (numbers_in word) =
+    united_masks c.mask_at.result c.mask_or_none.result ∙ ap₂ united_numbers c.mask_at.ensures c.mask_or_none.ensures in
     let with_it : all_listed c.put.new.self ≡ with_protocol before word =
     ap all_listed c.in_ok-put.ensures ∙ listed-with_value map name _
     ∙ ap (with_value before name) numbers
-    ∙ ap (λ (n : List ℕ). with_value before n (united (numbers_at before n) (numbers_in word))) c.left_side-name.ensures in
+    ∙ ap (λ (n : List ℕ). with_value before n (united_numbers (numbers_at before n) (numbers_in word))) c.left_side-name.ensures in
     ap (λ (m : List (Named (List ℕ))). fold with_protocol m (texts_of c.next.new.self)) with_it
     ∙ sym (ap (λ (l : List Argument). fold with_protocol before (texts_of l)) c.in-Some.ensures.taken)
     ∙ c.arguments.invariant

@@ -1,6 +1,6 @@
 use Rattle.std.proofs.Common.{sym, subst, ◌∙◌}
 use Rattle.mirror_core.specs.Inputs.{Stand}
-use Rattle.mirror_core.proofs.Standing.{one_more, one_there, some_left, stands_more}
+use Rattle.mirror_core.proofs.Standing.{one_more_document_at_most, one_there, some_left, stands_more}
 use Rattle.mirror_core.proofs.inputs.read_all.Goals as goal
 
 pub documents-preserved : goal.documents-preserved
@@ -14,7 +14,7 @@ documents-preserved g c =
           (one_there document_of bytes c.documents.place c.in-Some.begin c.in-Ok.next c.in-Ok.document c.in-Ok-copy_between.text
           c.in-Some.ensures.value c.in-Ok.ensures c.in-Ok-copy_between.ensures));
       within = c.in-Ok.ensures.within;
-      few = one_more c.documents.all.items c.push_back.new.self.items _ c.documents.place c.in-Ok.next c.in_ok-push_back-in-Ok.ensures.items
+      few = one_more_document_at_most c.documents.all.items c.push_back.new.self.items _ c.documents.place c.in-Ok.next c.in_ok-push_back-in-Ok.ensures.items
           c.documents.invariant.few c.in-Ok.ensures.further;
     }
 

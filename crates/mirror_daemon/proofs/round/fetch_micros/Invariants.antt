@@ -2,7 +2,7 @@ use Rattle.std.proofs.Common.{◌≤◌}
 use Rattle.key_port.specs.Answers.{rules}
 use Rattle.mirror_core.specs.States.{Mirrored}
 use Rattle.mirror_daemon.specs.Keeping.{ComesOf}
-use Rattle.mirror_daemon.specs.Lacking.{lacking}
+use Rattle.mirror_daemon.specs.Lacking.{lacking_count}
 use Rattle.mirror_daemon.proofs.round.fetch_micros.Given as goal
 
 abbrev pub invariant-batches : goal.invariant-batches
@@ -12,4 +12,4 @@ invariant-batches g l = record {
 }
 
 abbrev pub decreases-batches : goal.decreases-batches
-decreases-batches g l = lacking l.mirror
+decreases-batches g l = lacking_count l.mirror

@@ -1,5 +1,5 @@
 use Rattle.std.proofs.Common.{[], ◌∷◌, ◌++◌, ap, sym, ◌∙◌, arith, map}
-use Rattle.period_lock.specs.Kept.{gathered, part_of}
+use Rattle.period_lock.specs.Kept.{gathered_view, part_of}
 use Rattle.period_lock.specs.Turns.{IsOf}
 use Rattle.period_lock.proofs.Parting.{join_allowed}
 use Rattle.period_lock.proofs.Meeting.{free_of, all_but_last, parts_shift, joined_is}
@@ -48,7 +48,7 @@ loop-pass-preserved g c =
     free c.loop-pass.invariant.seat c.join_seat.ensures.2 in
     record {
       fits = c.join_seat.ensures.0 ∙ ap (λ p. p.table) c.pass.view_is ∙ here.1.0;
-      seat = after ∙ ap (λ m. (gathered start m.0.own m.0.others, [])) (sym after);
+      seat = after ∙ ap (λ m. (gathered_view start m.0.own m.0.others, [])) (sym after);
       parts = ap (λ m. map part_of c.pop.new.self.items ++ m.0.own ∷ m.0.others) after
           ∙ ap (λ p. map part_of c.pop.new.self.items ++ part_of p ∷ all.me.0.own ∷ all.me.0.others) c.pass.view_is
           ∙ parts_shift c.loop-pass.left.items c.pop.new.self.items c.in-Some.pass (all.me.0.own ∷ all.me.0.others)

@@ -1,13 +1,13 @@
 use Rattle.std.proofs.Common.{◌≡◌, [], ◌∷◌, ◌++◌, map, vec_len}
 use Rattle.period_lock.specs.Turns.{AreOf}
-use Rattle.period_lock.specs.Kept.{gathered, part_of}
+use Rattle.period_lock.specs.Kept.{gathered_view, part_of}
 use Rattle.period_lock.proofs.closing.gather.Given as goal
 
 abbrev pub invariant-loop-pass : goal.invariant-loop-pass
 invariant-loop-pass g l = record {
   fits : l.all.table_id ≡ l.fn.table.shared.table_id;
   seat : l.all.me ≡ (
-    gathered (g.T.Storied.start_of l.table.shared.key.begun.value) l.all.me.0.own l.all.me.0.others,
+    gathered_view (g.T.Storied.start_of l.table.shared.key.begun.value) l.all.me.0.own l.all.me.0.others,
     [],
   );
   parts : map part_of l.left.items ++ l.all.me.0.own ∷ l.all.me.0.others ≡ map part_of

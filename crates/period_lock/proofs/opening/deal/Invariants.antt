@@ -1,6 +1,6 @@
 use Rattle.std.proofs.Common.{◌≡◌, ◌-◌, ◌≤◌, [], vec_capacity}
 use Rattle.period_lock.specs.Turns.{AreDealt}
-use Rattle.period_lock.specs.Kept.{gathered, fresh_part, fresh_parts}
+use Rattle.period_lock.specs.Kept.{gathered_view, fresh_part, fresh_parts}
 use Rattle.period_lock.proofs.opening.deal.Given as goal
 
 abbrev pub invariant-loop-number : goal.invariant-loop-number
@@ -8,7 +8,7 @@ invariant-loop-number g l =
     let start = g.T.Storied.start_of l.table.shared.key.begun.value in record {
       fits : l.first.table_id ≡ l.fn.first.table_id;
       seat : l.first.me ≡ (
-        gathered start (fresh_part (l.count - 1)) (fresh_parts l.number (l.count - 1 - l.number)),
+        gathered_view start (fresh_part (l.count - 1)) (fresh_parts l.number (l.count - 1 - l.number)),
         [],
       );
       dealt : AreDealt (record { table = l.table.shared.table_id; start = start; passes = l.table.shared.key.passes })

@@ -1,7 +1,7 @@
 use Rattle.std.proofs.Common.{[], ◌∷◌, ◌++◌, Some, ap, sym, ◌∙◌, subst}
 use Rattle.atomic_table.specs.Table.{opening}
 use Rattle.period_lock.specs.Kept.{Kept, first_view}
-use Rattle.period_lock.proofs.Parting.{begins}
+use Rattle.period_lock.proofs.Parting.{opening_is_kept}
 use Rattle.period_lock.proofs.opening.open.Goals as goal
 
 pub new-requires : goal.new-requires
@@ -14,5 +14,5 @@ new-requires g c =
     (λ slots. Kept g.T.Storied.stands front start count
     (opening (c.args.front ∷ 0 ∷ []) slots (first_view start count)))
     (sym items)
-    (begins g.T.Storied.stands front start count c.args.value c.args.front c.requires.passes c.requires.front
+    (opening_is_kept g.T.Storied.stands front start count c.args.value c.args.front c.requires.passes c.requires.front
     c.requires.stands)

@@ -3,7 +3,7 @@ use Rattle.flag_rules.specs.Relays.{ruled_relays}
 use Rattle.vote_pool.specs.Kept.{signer_of}
 use Rattle.vote_maker.specs.Listings.{judged_relays}
 use Rattle.vote_maker.specs.Private.{entries_from, entry_if, is_listed, keys_after}
-use Rattle.vote_maker.proofs.EntriesInTurn.{one_more}
+use Rattle.vote_maker.proofs.EntriesInTurn.{one_more_entry_listed}
 use Rattle.vote_maker.proofs.listing.entries_between.Goals as goal
 
 pub relays-preserved : goal.relays-preserved
@@ -24,7 +24,7 @@ relays-preserved g c =
     let put : c.push_entry_if.new.out.items ≡ out ++ entry_if c.args.newest listed d known flags = search rules in
     record {
       entries =
-          one_more c.args.newest descriptors c.args.known.now c.args.rulings.now c.args.flags.now i d known ruling flags keys
+          one_more_entry_listed c.args.newest descriptors c.args.known.now c.args.rulings.now c.args.flags.now i d known ruling flags keys
           c.note_relay.new.keys listed out c.push_entry_if.new.out.items
           (entries_from c.args.newest c.args.keys.now (drop c.args.start judged)) within c.requires.many
           c.entry-entry.ensures c.known_at.ensures c.ruling_at.ensures c.flags_at.ensures its after put

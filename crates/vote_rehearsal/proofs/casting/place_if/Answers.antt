@@ -1,9 +1,9 @@
 use Rattle.std.proofs.Common.{length, ap, arith}
 use Rattle.vote_doc.specs.Holdings.{Holding}
-use Rattle.vote_doc.proofs.Placing.{one_more}
+use Rattle.vote_doc.proofs.Placing.{placed_adds_at_most_one}
 use Rattle.vote_rehearsal.proofs.casting.place_if.Goals as goal
 
 pub returns-in-Some-clause-few : goal.returns-in-Some-clause-few
 returns-in-Some-clause-few c =
     let same = ap (λ (h : Holding). length h.votes) c.place.ensures.votes in
-    omega (arith, same, one_more c.args.accepted.now.votes c.in-Some.vote)
+    omega (arith, same, placed_adds_at_most_one c.args.accepted.now.votes c.in-Some.vote)

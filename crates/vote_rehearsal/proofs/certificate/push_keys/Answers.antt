@@ -2,7 +2,7 @@ use Rattle.std.proofs.Common.{◌++◌, [], List, ℕ}
 use Rattle.std.specs.Prelude.{codes}
 use Rattle.dirdoc_grammar.specs.Writing.{item_text}
 use Rattle.frame_terms.specs.declared.keyword.Keyword.TheVariants as the
-use Rattle.frame_values.specs.Items.{timed, with_object}
+use Rattle.frame_values.specs.Items.{moment_item, with_object}
 use Rattle.frame_values.proofs.ItemsTexts.{link, last}
 use Rattle.vote_rehearsal.specs.Certificates.{certificate_expires, certificate_published}
 use Rattle.vote_rehearsal.proofs.certificate.push_keys.Goals as goal
@@ -12,8 +12,8 @@ returns c =
     let its = c.args.authority.now in
     let out = c.args.out.now.items in
     let text1 : List ℕ = item_text (with_object the.DirIdentityKey [] (codes "RSA PUBLIC KEY") its.identity_key) in
-    let text2 : List ℕ = item_text (timed the.DirKeyPublished certificate_published) in
-    let text3 : List ℕ = item_text (timed the.DirKeyExpires certificate_expires) in
+    let text2 : List ℕ = item_text (moment_item the.DirKeyPublished certificate_published) in
+    let text3 : List ℕ = item_text (moment_item the.DirKeyExpires certificate_expires) in
     let text4 : List ℕ = item_text (with_object the.DirSigningKey [] (codes "RSA PUBLIC KEY") its.signing_key) in
     let at1 = c.push_with_object.new.out.items in
     let at2 = c.push_timed.new.out.items in

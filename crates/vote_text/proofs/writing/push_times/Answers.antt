@@ -1,7 +1,7 @@
 use Rattle.std.proofs.Common.{◌++◌, [], List, ℕ}
 use Rattle.dirdoc_grammar.specs.Writing.{item_text}
 use Rattle.frame_terms.specs.declared.keyword.Keyword.TheVariants as the
-use Rattle.frame_values.specs.Items.{bare, timed}
+use Rattle.frame_values.specs.Items.{bare, moment_item}
 use Rattle.vote_text.specs.Texts.{delays_text}
 use Rattle.frame_values.proofs.ItemsTexts.{link, last}
 use Rattle.vote_text.proofs.writing.push_times.Goals as goal
@@ -10,10 +10,10 @@ pub returns-clause-ok : goal.returns-clause-ok
 returns-clause-ok c =
     let facts = c.args.facts.now in
     let out = c.args.out.now.items in
-    let text1 : List ℕ = item_text (timed the.Published facts.published) in
-    let text2 : List ℕ = item_text (timed the.ValidAfter facts.valid_after) in
-    let text3 : List ℕ = item_text (timed the.FreshUntil facts.fresh_until) in
-    let text4 : List ℕ = item_text (timed the.ValidUntil facts.valid_until) in
+    let text1 : List ℕ = item_text (moment_item the.Published facts.published) in
+    let text2 : List ℕ = item_text (moment_item the.ValidAfter facts.valid_after) in
+    let text3 : List ℕ = item_text (moment_item the.FreshUntil facts.fresh_until) in
+    let text4 : List ℕ = item_text (moment_item the.ValidUntil facts.valid_until) in
     let text5 : List ℕ = item_text (bare the.VotingDelay (delays_text facts)) in
     let at1 = c.push_timed.new.out.items in
     let at2 = c.push_timed-2.new.out.items in

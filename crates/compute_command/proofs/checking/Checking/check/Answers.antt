@@ -1,7 +1,7 @@
 use Rattle.std.proofs.Common.{◌≡◌, ◌∙◌, ◌+◌, Some, ap, refl, sym}
 use Rattle.key_port.specs.Answers.{rules}
 use Rattle.vote_terms.specs.Votes.{ReadVote}
-use Rattle.vote_terms.specs.Held.{placed}
+use Rattle.vote_terms.specs.Held.{votes_with}
 use Rattle.vote_doc.specs.Holdings.{Holding}
 use Rattle.compute_command.specs.declared.refusal.AcceptRefusal.{AcceptRefusal}
 use Rattle.compute_command.proofs.Checks.{first_refused, held_too, none_if, still_refused, tells_on, tells_refused}
@@ -20,7 +20,7 @@ returns-in-Ok-clause-checked g c =
     let its = rules g.V.Verifier.may_accept g.V.Verifier.may_refuse in
     let wanted = c.args.wanted.now in
     let old = c.args.self.now.kept in
-    let put : ReadVote → Holding = λ v. record old { votes = placed old.votes v } in
+    let put : ReadVote → Holding = λ v. record old { votes = votes_with old.votes v } in
     let held : c.into_held.result ≡ c.args.vote = c.into_held.ensures.vote ∙ c.in-Ok.ensures.accepted.0 in
     λ votes is.
     held_too its wanted votes c.args.vote
