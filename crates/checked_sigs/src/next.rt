@@ -7,16 +7,16 @@ use detached_doc::{Detached, held_signatures, write};
 use dir_bytes::{Memory, Text};
 use dir_values::{Digest1, Digest2};
 use key_port::Verifier;
-use period_core::{Made, Station};
+use period_core::{Made, PeriodState};
 use std::alloc::Global;
 
 /// The signatures over a consensus that an authority holds.
 fn signatures_over<V: Verifier>(
-    station: &Station<V>,
+    state: &PeriodState<V>,
     alloc: Global,
     made: &Made,
 ) -> Result<Detached, Memory>
-    ensures { IfOk result (λ detached. detached ≡ next.signatures_over station.now made.now) }
+    ensures { IfOk result (λ detached. detached ≡ next.signatures_over state.now made.now) }
 {
     let ns = Digest1(*made.sha1());
     let microdesc = Digest2(*made.sha256());
@@ -25,8 +25,8 @@ fn signatures_over<V: Verifier>(
         made.facts(),
         &ns,
         &microdesc,
-        station.lines(Flavour::Ns),
-        station.lines(Flavour::Microdesc),
+        state.lines(Flavour::Ns),
+        state.lines(Flavour::Microdesc),
     )
 }
 
@@ -35,14 +35,14 @@ fn signatures_over<V: Verifier>(
 /// # Errors
 /// `Memory` is want of memory.
 pub fn next_signatures<V: Verifier>(
-    station: &Station<V>,
+    state: &PeriodState<V>,
     alloc: Global,
 ) -> Result<Option<Text>, Memory>
-    ensures { IfOk result (λ text. text ≡ next.next_signatures_of station.now) }
+    ensures { IfOk result (λ text. text ≡ next.next_signatures_of state.now) }
 {
-    match station.computed() {
+    match state.computed() {
         Some(made) => {
-            let detached = signatures_over(station, alloc, made)?;
+            let detached = signatures_over(state, alloc, made)?;
             Ok(Some(Text::new(write(alloc, &detached)?)))
         }
         None => Ok(None),

@@ -6,7 +6,7 @@ use count_terms::Newest;
 use dir_bytes::Memory;
 use dir_values::{Fingerprint, Roster};
 use key_port::TestKeys;
-use period_core::Station;
+use period_core::PeriodState;
 use period_terms::Advance;
 use serve_board::{Board, Pass};
 use std::alloc::Global;
@@ -29,10 +29,10 @@ fn board_of(alloc: Global) -> Result<(Board<TestKeys>, Vec<Pass<TestKeys>>), Fai
     let all = [own, Fingerprint([2; 20]), Fingerprint([3; 20])];
     let roster = Roster::new(all.to_vec(alloc)?)?;
     let config = Config::new(3600, 300, 300)?;
-    let Ok(station) = Station::start(alloc, roster, own, Newest::Method33, config, START) else {
+    let Ok(state) = PeriodState::start(alloc, roster, own, Newest::Method33, config, START) else {
         return Err(Fail::new("no station"));
     };
-    Ok(Board::new(alloc, station, Pool::new(alloc)?, 2)?)
+    Ok(Board::new(alloc, state, Pool::new(alloc)?, 2)?)
 }
 
 /// What the authority does at a moment when no vote was ever offered.

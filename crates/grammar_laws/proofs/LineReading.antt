@@ -86,8 +86,8 @@ blanks_read limit place (line ∷ blanks) rest h =
 abbrev pub with_lines : Object → List Line → Object
 with_lines object body = record { words = object.words; start = object.start; text = object.text ++ text_of body }
 
-one_more : (object : Object) (line : Line) (body : List Line) → with_lines (with_line object line.text) body ≡ with_lines object (line ∷ body)
-one_more object line body =
+one_more_line_in_object : (object : Object) (line : Line) (body : List Line) → with_lines (with_line object line.text) body ≡ with_lines object (line ∷ body)
+one_more_line_in_object object line body =
     ap (λ (t : List ℕ). record { words = object.words; start = object.start; text = t })
     (append_assoc (object.text ++ line.text) (10 ∷ []) (text_of body) ∙ append_assoc object.text line.text (10 ∷ text_of body))
 
@@ -100,7 +100,7 @@ body_read limit place item begin object (line ∷ body) rest h =
     reads limit place (object_lines item begin object) line (body ++ rest) None (object_lines item begin (with_line object line.text)) (body_step limit place item begin object line h.0)
     ∙ body_read limit (place + size line) item begin (with_line object line.text) body rest h.1
     ∙ ap (λ (k : ℕ). contents_of limit k (object_lines item begin (with_lines (with_line object line.text) body)) rest) (omega arith)
-    ∙ ap (λ (o : Object). contents_of limit (place + (size line + sizes body)) (object_lines item begin o) rest) (one_more object line body)
+    ∙ ap (λ (o : Object). contents_of limit (place + (size line + sizes body)) (object_lines item begin o) rest) (one_more_line_in_object object line body)
 
 -- what is left after an item that ends before this place
 abbrev pub whole_at : ℕ → ℕ → Item → Object → List Line → Contents

@@ -8,8 +8,8 @@ use Rattle.vote_schedule.specs.Schedules.{Schedule}
 use Rattle.period_terms.specs.declared.state.State.{State}
 use Rattle.period_terms.specs.Schedules.{next_valid_after}
 use Rattle.period_terms.specs.Histories.{start_in}
-use Rattle.period_core.specs.declared.station.StartFault.{StartFault}
-use Rattle.period_core.specs.declared.station.StartFault.TheVariants.{OwnNotInRoster, EndOfTime, Memory}
+use Rattle.period_core.specs.declared.state.StartFault.{StartFault}
+use Rattle.period_core.specs.declared.state.StartFault.TheVariants.{OwnNotInRoster, EndOfTime, Memory}
 
 -- a moment that is answered is later than this one, and within the calendar
 abbrev pub IsLater : ℕ → Option ℕ → Type 0

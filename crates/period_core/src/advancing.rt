@@ -14,7 +14,7 @@ ghost use Rattle.period_terms.specs.declared.event.Signing.TheVariants as given;
 use crate::made::Made;
 use crate::next::next_period;
 use crate::owning::Own;
-use crate::station::Station;
+use crate::state::PeriodState;
 use consensus_calc::{CalcFault, compute};
 use consensus_terms::Consensus;
 use dir_bytes::Memory;
@@ -24,7 +24,7 @@ use period_terms::{Advance, Change, ChangeKind, ShortBytes, Stage};
 use std::alloc::Global;
 use vote_schedule::freeze;
 
-impl<V: Verifier> Station<V> {
+impl<V: Verifier> PeriodState<V> {
     /// A change of this kind.
     pub(crate) fn change(
         &self,

@@ -3,7 +3,7 @@ ghost use Rattle.std.specs.Prelude.{◌≡◌, IfOk, option_map};
 ghost use Rattle.period_terms.specs.Readings as readings;
 ghost use Rattle.period_terms.specs.States as states;
 
-use crate::station::Station;
+use crate::state::PeriodState;
 use consensus_terms::Flavour;
 use dir_bytes::{Memory, Text};
 use dir_values::{Digest1, Fingerprint};
@@ -24,7 +24,7 @@ fn named_by<'a>(held: &'a Accepted, digest: &Digest1) -> Option<&'a HeldVote>
     None
 }
 
-impl<V: Verifier> Station<V> {
+impl<V: Verifier> PeriodState<V> {
     /// The text of a flavour that was published last.
     fn current(&self, flavour: Flavour) -> Option<&[u8]>
         ensures { option_map (λ r. r.now) result ≡ readings.current_of flavour self.now }

@@ -3,7 +3,7 @@ ghost use Rattle.std.specs.Prelude.{◌≡◌};
 ghost use Rattle.vote_terms.specs.Votes as votes;
 ghost use Rattle.period_core.specs.Judging as judging;
 
-use crate::station::Station;
+use crate::state::PeriodState;
 use key_port::Verifier;
 use period_terms::{Offer, Via};
 use vote_doc::HeldVote;
@@ -56,7 +56,7 @@ fn compare(held: Option<Rank>, rank: Rank, full: bool) -> Judged
     }
 }
 
-impl<V: Verifier> Station<V> {
+impl<V: Verifier> PeriodState<V> {
     /// What is told of a vote that comes this way at a moment.
     pub(crate) fn judge(&self, held: &HeldVote, via: Via, now: u64) -> Judged
         ensures { result ≡ judging.judged_vote self.now held.now via now }

@@ -14,10 +14,10 @@ mod publishing;
 mod reading;
 mod signing;
 mod signing_in;
-mod station;
+mod state;
 mod view;
 mod weighing;
 
 pub use made::Made;
 pub use period_terms::{CheckedSig, PeriodView};
-pub use station::{StartFault, Station};
+pub use state::{PeriodState, StartFault};

@@ -6,12 +6,12 @@ ghost use Rattle.period_terms.specs.Offers.{most_vote_changes};
 ghost use Rattle.period_core.specs.Judging.{Beats};
 
 use crate::judging::Judged;
-use crate::station::Station;
+use crate::state::PeriodState;
 use key_port::Verifier;
 use period_terms::{Change, ChangeKind, Offer, ShortBytes, Via};
 use vote_doc::{CheckedVote, HeldVote};
 
-impl<V: Verifier> Station<V> {
+impl<V: Verifier> PeriodState<V> {
     /// Holds a vote of a member, in place of that of its authority, which it outranks.
     fn keep(&mut self, held: HeldVote)
         requires member { has_member self.old.roster held.says.identity ≡ true }

@@ -9,7 +9,7 @@ ghost use Rattle.consensus_terms.specs.declared.flavour.Flavour.TheVariants as f
 ghost use Rattle.period_terms.specs.declared.stage.Stage.TheVariants as stage;
 
 use crate::signing::{Unsigned, sign_both};
-use crate::station::Station;
+use crate::state::PeriodState;
 use consensus_terms::{Flavour, SignatureLine};
 use dir_bytes::{Memory, Text};
 use dir_values::Fingerprint;
@@ -30,7 +30,7 @@ pub enum Own {
     Memory,
 }
 
-impl<V: Verifier> Station<V> {
+impl<V: Verifier> PeriodState<V> {
     /// The signing key of its own vote, if that is held.
     fn own_key(&self) -> Option<&[u8]>
         ensures { option_map (λ r. r.now) result ≡ option_map (λ vote. vote.says.certificate.signing_key) (states.vote_of self.now.votes self.now.own) }

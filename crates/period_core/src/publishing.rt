@@ -9,7 +9,7 @@ ghost use Rattle.period_core.specs.Signing.{Comes, IsQuiet};
 ghost use Rattle.period_terms.specs.declared.stage.Stage.TheVariants as stage;
 
 use crate::made::Made;
-use crate::station::Station;
+use crate::state::PeriodState;
 use consensus_terms::{Flavour, SignatureLine};
 use consensus_text::write_signed;
 use dir_bytes::{Memory, Text};
@@ -45,7 +45,7 @@ fn digests_of(made: &Made, ns: bool, microdesc: bool) -> ShortBytes
     }
 }
 
-impl<V: Verifier> Station<V> {
+impl<V: Verifier> PeriodState<V> {
     /// The authority holds no vote of its own, and does not sign.
     pub(crate) fn pass_over(&mut self)
         requires { self.old.stage ≡ stage.Computed }

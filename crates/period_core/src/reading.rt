@@ -7,7 +7,7 @@ ghost use Rattle.period_terms.specs.States as states;
 ghost use Rattle.vote_terms.specs.Votes.{rank_of};
 
 use crate::made::Made;
-use crate::station::Station;
+use crate::state::PeriodState;
 use consensus_terms::{Flavour, SignatureLine};
 use count_terms::Newest;
 use dir_values::{Fingerprint, Roster};
@@ -19,7 +19,7 @@ use vote_terms::Rank;
 
 const MOST_VOTE_CHANGES: u64 = 65_535;
 
-impl<V: Verifier> Station<V> {
+impl<V: Verifier> PeriodState<V> {
     /// When the period begins.
     pub fn valid_after(&self) -> u64
         ensures { result ≡ self.now.valid_after }

@@ -7,7 +7,7 @@ ghost use Rattle.period_core.specs.Standing.{AreHeld};
 ghost use Rattle.period_core.specs.Weighing as weighing;
 ghost use Rattle.consensus_terms.specs.declared.flavour.Flavour.TheVariants as flavour;
 
-use crate::station::Station;
+use crate::state::PeriodState;
 use crate::weighing::Weighed;
 use consensus_terms::{Flavour, SignatureLine};
 use dir_values::Fingerprint;
@@ -28,7 +28,7 @@ pub(crate) fn has_key(held: &Accepted, authority: &Fingerprint, key: &[u8]) -> b
     false
 }
 
-impl<V: Verifier> Station<V> {
+impl<V: Verifier> PeriodState<V> {
     /// Holds a signature of the ns flavour over a digest, of a member of whom none is held.
     fn hold_ns(&mut self, line: SignatureLine, digest: ShortBytes)
         requires member { has_member self.old.roster line.identity ≡ true }

@@ -3,7 +3,7 @@ ghost use Rattle.std.specs.Prelude.{◌≡◌, IfOk, map};
 ghost use Rattle.period_core.specs.Views as views;
 
 use crate::made::Made;
-use crate::station::Station;
+use crate::state::PeriodState;
 use detached_sigs::SignerKey;
 use dir_bytes::{Memory, Seq, Text};
 use dir_values::{Digest1, Digest2};
@@ -32,7 +32,7 @@ fn keys_of(alloc: Global, held: &Accepted) -> Result<Vec<SignerKey>, Memory>
     Ok(keys)
 }
 
-impl<V: Verifier> Station<V> {
+impl<V: Verifier> PeriodState<V> {
     /// What signatures over a consensus are checked against.
     fn view_over(&self, alloc: Global, made: &Made) -> Result<PeriodView, Memory>
         ensures { IfOk result (λ view. view ≡ views.view_over self.now made.now) }

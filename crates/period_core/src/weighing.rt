@@ -4,7 +4,7 @@ ghost use Rattle.period_terms.specs.States as states;
 ghost use Rattle.period_core.specs.Weighing as weighing;
 
 use crate::signing_in::has_key;
-use crate::station::Station;
+use crate::state::PeriodState;
 use consensus_terms::Flavour;
 use dir_values::Fingerprint;
 use key_port::Verifier;
@@ -19,7 +19,7 @@ pub enum Weighed {
     Fits,
 }
 
-impl<V: Verifier> Station<V> {
+impl<V: Verifier> PeriodState<V> {
     /// The digest of what is computed, in a flavour.
     fn ours(&self, flavour: Flavour) -> Option<ShortBytes>
         ensures { result ≡ option_map (states.digest_of flavour) self.now.computed }

@@ -17,7 +17,8 @@ use Rattle.period_terms.specs.Advances.{advance}
 use Rattle.period_terms.specs.SignIns.{sign_in}
 use Rattle.period_terms.specs.Steps.{step}
 use Rattle.period_terms.specs.Histories.{IsStart, run, accepted_after, accepted_with, accepted}
-use Rattle.period_laws.specs.Periods.{HeldAreHeld, AcceptedAreWanted, ComputedOfAccepted, RanksAreOne, StationsAgree}
+use Rattle.period_laws.specs.Periods.{HeldAreHeld, AcceptedAreWanted, ComputedOfAccepted, RanksAreOne}
+use Rattle.period_laws.specs.Periods.{PeriodStatesAgree}
 use Rattle.period_laws.proofs.Members.{in_from}
 use Rattle.period_laws.proofs.Rows.{offering, advancing, signing_in}
 use Rattle.period_laws.proofs.AcceptedSteps.{StandsAt, none_is, vote_stands, moment_stands, signature_stands}
@@ -84,7 +85,7 @@ one_rank one other events others alike a b ca cb e =
     (subst (λ (x : List ReadVote). Contains x a) (are_held one events alike.first) ca)
     (subst (λ (x : List ReadVote). Contains x b) (are_held other others alike.second) cb) e
 
-pub one_text : StationsAgree
+pub one_text : PeriodStatesAgree
 one_text one other events others alike apart =
     let l = accepted one events in
     let m = accepted other others in

@@ -151,7 +151,7 @@ quiet acc moments.SignerFault e = refl
 quiet acc moments.VerifierFault e = refl
 quiet acc (moments.OwnSignatureRefused digest) e = refl
 
--- the station goes on to another stage, with what is computed as it was
+-- the state goes on to another stage, with what is computed as it was
 goes_on : (newest : Newest) (roster : List Fingerprint) (acc : List ReadVote) (s : State) (stage next : Stage)
     → s.stage ≡ stage
     → (is_set next ≡ false → is_set stage ≡ false)

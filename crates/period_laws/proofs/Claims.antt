@@ -1,4 +1,4 @@
--- What a station signs and publishes.
+-- What an authority signs and publishes.
 use Rattle.std.proofs.Common.{◌≡◌, ℕ, ◌<◌, ◌≤◌, ◌⊎◌, ◌&&◌, Bool, true, false, List, [], ◌∷◌, ◌++◌}
 use Rattle.std.proofs.Common.{length, count_by, Option, Some, refl, sym, ◌∙◌, subst, ⊎_elim}
 use Rattle.std.proofs.Common.{◌≢◌}
@@ -33,11 +33,11 @@ use Rattle.period_laws.proofs.Rows.{begins}
 use Rattle.period_laws.proofs.Digests.{among_more}
 use Rattle.period_laws.proofs.Soundness.{Lined, SoundAt}
 use Rattle.period_laws.proofs.Soundness.{quiet}
-use Rattle.period_laws.proofs.StationSteps.{signed_is_own}
+use Rattle.period_laws.proofs.PeriodStateSteps.{signed_is_own}
 
--- ---- what a station signs
+-- ---- what an authority signs
 
--- what a station signs now: of this period, over the digest of what is computed, and before it signed anything else
+-- what an authority signs now: of this period, over the digest of what is computed, and before it signed anything else
 pub record New (s : State) (x : SignedDigest) : Type 0 where
   pub own : x.authority ≡ s.own
   pub period : x.period ≡ s.valid_after
@@ -74,7 +74,7 @@ new_in s (Advanced now given) x i = new_at s given (advance s now given) (advanc
 new_in s (SignedIn signature) x i = absurd i
 new_in s Read x i = absurd i
 
--- ---- what a station publishes
+-- ---- what an authority publishes
 
 -- more than half of a roster signed what was published
 abbrev pub Backed : List Fingerprint → List SignedDigest → Publication → Type 0
@@ -112,14 +112,14 @@ backed_by roster signed v computed c flavour lines is k e =
 pub published_by : (b : Bool) (s : State) (flavour : Flavour) (c : Consensus) (p : Publication)
     → In p (publication s b flavour c)
     → (b ≡ true) × (p ≡ record {
-      station = s.own;
+      authority = s.own;
       flavour = flavour;
       period = s.valid_after;
       text = unsigned flavour c;
     })
 published_by true s flavour c p i =
     ⊎_elim (λ (e : p ≡ record {
-      station = s.own;
+      authority = s.own;
       flavour = flavour;
       period = s.valid_after;
       text = unsigned flavour c;
@@ -142,7 +142,7 @@ quiet_too s moments.SignerFault e p i = i
 quiet_too s moments.VerifierFault e p i = i
 quiet_too s (moments.OwnSignatureRefused digest) e p i = i
 
--- what a station publishes, more than half of the roster signed
+-- what an authority publishes, more than half of the roster signed
 pub published_at : (roster : List Fingerprint) (signed : List SignedDigest) (member : Fingerprint) (s : State)
     (given : Signing) (o : Outcome Advance) → Advancing s given o
     → SoundAt roster signed member s → (p : Publication) → In p (publishes_at s o.answer) → Backed roster signed p

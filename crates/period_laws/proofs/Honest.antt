@@ -21,41 +21,41 @@ use Rattle.period_terms.specs.Steps.{step}
 use Rattle.period_laws.specs.Worlds as w
 use Rattle.period_laws.specs.Worlds.{World, WorldEvent, At, Elsewhere, SignedDigest, Publication, signed_by}
 use Rattle.period_laws.specs.Worlds.{signs_in, publishes_in}
-use Rattle.period_laws.specs.Worlds.{published_as, is_among, may_come, IsWorldStart, StationsSignOnce}
+use Rattle.period_laws.specs.Worlds.{published_as, is_among, may_come, IsWorldStart, PeriodStatesSignOnce}
 use Rattle.period_laws.specs.Worlds.{SignedTwice, PublishedAgree, AllHonestAgree}
 use Rattle.period_laws.proofs.Members.{In, in_from, in_to, in_either, shared}
 use Rattle.period_laws.proofs.Digests.{member_of, has, and_true, itself}
 use Rattle.period_laws.proofs.Soundness.{has_signed, Ours, SoundAt, sound_more}
 use Rattle.period_laws.proofs.Soundness.{no_claim}
-use Rattle.period_laws.proofs.StationSteps.{step_keeps}
+use Rattle.period_laws.proofs.PeriodStateSteps.{step_keeps}
 use Rattle.period_laws.proofs.Claims.{New, new_in, Backed, backed_more, some_is, published_in}
 
 -- ---- the world
 
 -- what holds of a world
 record Holds (world : World) : Type 0 where
-  each : (member : Fingerprint) (s : State) → world.stations member ≡ Some s → SoundAt world.roster world.signed
+  each : (member : Fingerprint) (s : State) → world.states member ≡ Some s → SoundAt world.roster world.signed
       member s
-  once : (a b : SignedDigest) → In a world.signed → In b world.signed → is_some (world.stations a.authority) ≡ true
+  once : (a b : SignedDigest) → In a world.signed → In b world.signed → is_some (world.states a.authority) ≡ true
       → a.authority ≡ b.authority → a.flavour ≡ b.flavour → a.period ≡ b.period → a.digest ≡ b.digest
   backed : (p : Publication) → In p world.published → Backed world.roster world.signed p
 
--- a station is that of the member to which something came, or one that was there
-station_by : (b : Bool) (stations : Fingerprint → Option State) (member other : Fingerprint) (next t : State)
+-- a state is that of the member to which something came, or one that was there
+state_by : (b : Bool) (states : Fingerprint → Option State) (member other : Fingerprint) (next t : State)
     → same_identity other member ≡ b
-    → cond b (Some next) (stations other) ≡ Some t → ((other ≡ member) × (next ≡ t)) ⊎
-    ((same_identity other member ≡ false) × (stations other ≡ Some t))
-station_by true stations member other next t e h = inl (same_one other member e, cc)
-station_by false stations member other next t e h = inr (e, h)
+    → cond b (Some next) (states other) ≡ Some t → ((other ≡ member) × (next ≡ t)) ⊎
+    ((same_identity other member ≡ false) × (states other ≡ Some t))
+state_by true states member other next t e h = inl (same_one other member e, cc)
+state_by false states member other next t e h = inr (e, h)
 
--- who has a station had one
-had_station : (b : Bool) (stations : Fingerprint → Option State) (member other : Fingerprint) (s next : State)
-    → stations member ≡ Some s → same_identity other member ≡ b
-    → is_some (cond b (Some next) (stations other)) ≡ true → is_some (stations other) ≡ true
-had_station true stations member other s next at e h =
-    subst (λ (x : Fingerprint). is_some (stations x) ≡ true) (sym (same_one other member e))
+-- who has a state had one
+had_state : (b : Bool) (states : Fingerprint → Option State) (member other : Fingerprint) (s next : State)
+    → states member ≡ Some s → same_identity other member ≡ b
+    → is_some (cond b (Some next) (states other)) ≡ true → is_some (states other) ≡ true
+had_state true states member other s next at e h =
+    subst (λ (x : Fingerprint). is_some (states x) ≡ true) (sym (same_one other member e))
     (ap (λ (x : Option State). is_some x) at)
-had_station false stations member other s next at e h = h
+had_state false states member other s next at e h = h
 
 -- what was signed before and what is signed now are of different periods
 apart_now : (roster : List Fingerprint) (signed : List SignedDigest) (member : Fingerprint) (s : State)
@@ -71,7 +71,7 @@ both_now s a b m n f =
     m.digest ∙ ap (λ (x : Flavour). digest_of x m.c) f ∙ ap (λ (x : Consensus). digest_of b.flavour x)
     (some_is m.c n.c s.computed m.is n.is) ∙ sym n.digest
 
-moved_holds : (world : World) (member : Fingerprint) (s : State) (event : Event) → world.stations member ≡ Some s
+moved_holds : (world : World) (member : Fingerprint) (s : State) (event : Event) → world.states member ≡ Some s
     → may_come world.signed event ≡ true
     → Holds world → Holds (w.moved_world world member s (step s event))
 moved_holds world member s event at h k =
@@ -89,9 +89,9 @@ moved_holds world member s event at h k =
           (sym j.0 ∙ (let n = new_in s event x i in subst (λ (y : Fingerprint). same_identity y member ≡ true)
           (sym here.own_is ∙ sym n.own ∙ mine) (itself member)))))
           (k.each other t j.1))
-          (station_by _ world.stations member other (step s event).after t refl e);
+          (state_by _ world.states member other (step s event).after t refl e);
       once = λ a b i j there e f p.
-          let there_before = had_station _ world.stations member a.authority s (step s event).after at refl there in
+          let there_before = had_state _ world.states member a.authority s (step s event).after at refl there in
           ⊎_elim
           (λ (m : In a world.signed). ⊎_elim
           (λ (n : In b world.signed). k.once a b m n there_before e f p)
@@ -109,25 +109,25 @@ moved_holds world member s event at h k =
           (in_either world.published (publishes_in s (step s event).answer) p i));
     }
 
-came_by : (b : Bool) (world : World) (member : Fingerprint) (s : State) (event : Event) → world.stations member ≡ Some
+came_by : (b : Bool) (world : World) (member : Fingerprint) (s : State) (event : Event) → world.states member ≡ Some
     s → may_come world.signed event ≡ b
     → Holds world → Holds (cond b (w.moved_world world member s (step s event)) world)
 came_by true world member s event at h k = moved_holds world member s event at h k
 came_by false world member s event at h k = k
 
-came_holds : (station : Option State) (world : World) (member : Fingerprint) (event : Event) → world.stations member ≡
-    station → Holds world
-    → Holds (w.came world member event station)
+came_holds : (state : Option State) (world : World) (member : Fingerprint) (event : Event) → world.states member ≡
+    state → Holds world
+    → Holds (w.came world member event state)
 came_holds None world member event at k = k
 came_holds (Some s) world member event at k = came_by _ world member s event at refl k
 
--- who has a station signs nowhere else
+-- who has a state signs nowhere else
 elsewhere_by : (b : Bool) (world : World) (one : SignedDigest)
-    → (has_member world.roster one.authority && not (is_some (world.stations one.authority))) ≡ b
+    → (has_member world.roster one.authority && not (is_some (world.states one.authority))) ≡ b
     → Holds world → Holds (cond b (record world { signed = world.signed ++ one ∷ [] }) world)
 elsewhere_by true world one e k =
-    let alone : not (is_some (world.stations one.authority)) ≡ true =
-    (and_true (has_member world.roster one.authority) (not (is_some (world.stations one.authority))) e).1 in
+    let alone : not (is_some (world.states one.authority)) ≡ true =
+    (and_true (has_member world.roster one.authority) (not (is_some (world.states one.authority))) e).1 in
     record {
       each = λ other t at. sound_more world.roster world.signed (one ∷ []) other t
           (λ x i mine. ⊎_elim
@@ -147,20 +147,20 @@ elsewhere_by true world one e k =
       backed = λ p i. backed_more world.roster world.signed (one ∷ []) p (k.backed p i);
     }
   where
-    alone_is : (x y : Fingerprint) → not (is_some (world.stations x)) ≡ true → is_some (world.stations y) ≡ true
+    alone_is : (x y : Fingerprint) → not (is_some (world.states x)) ≡ true → is_some (world.states y) ≡ true
         → x ≡ y → ⊥
     alone_is x y n there e = false≢true (sym (ap not there)
-        ∙ subst (λ (z : Fingerprint). not (is_some (world.stations z)) ≡ true) e n)
+        ∙ subst (λ (z : Fingerprint). not (is_some (world.states z)) ≡ true) e n)
 
-    free : (x y : Fingerprint) (t : State) → not (is_some (world.stations x)) ≡ true → world.stations y ≡ Some t
+    free : (x y : Fingerprint) (t : State) → not (is_some (world.states x)) ≡ true → world.states y ≡ Some t
         → x ≡ y → ⊥
     free x y t n at e =
         false≢true (sym (ap (λ (o : Option State). not (is_some o)) at)
-        ∙ subst (λ (z : Fingerprint). not (is_some (world.stations z)) ≡ true) e n)
+        ∙ subst (λ (z : Fingerprint). not (is_some (world.states z)) ≡ true) e n)
 elsewhere_by false world one e k = k
 
 happens_holds : (world : World) (event : WorldEvent) → Holds world → Holds (w.happens world event)
-happens_holds world (At member event) k = came_holds (world.stations member) world member event refl k
+happens_holds world (At member event) k = came_holds (world.states member) world member event refl k
 happens_holds world (Elsewhere one) k = elsewhere_by _ world one refl k
 
 run_holds : (events : List WorldEvent) (world : World) → Holds world → Holds (w.run_world world events)
@@ -200,13 +200,13 @@ after_all world events begin = run_holds events world (start_holds world begin)
 
 -- ---- the laws
 
-pub sign_once : StationsSignOnce
+pub sign_once : PeriodStatesSignOnce
 sign_once world events begin a b i j there e f p =
     (after_all world events begin).once a b (in_from (w.run_world world events).signed a i)
     (in_from (w.run_world world events).signed b j) there e f p
 
 -- two different digests of a flavour and a period that more than half signed each were signed by someone without a
--- station
+-- state
 twice_in : (world : World) → Holds world → (p q : Publication) → In p world.published → In q world.published
     → p.flavour ≡ q.flavour → p.period ≡ q.period → published_as p ≢ published_as q → SignedTwice world p.flavour
     p.period (published_as p) (published_as q)
@@ -225,7 +225,7 @@ twice_in world k p q i j f e apart =
     record {
       authority = r.0;
       member = has world.roster r.0 r.1;
-      alone = false_from_ne_true (is_some (world.stations r.0))
+      alone = false_from_ne_true (is_some (world.states r.0))
           (λ there. apart (k.once (signed_by r.0 p.flavour p.period (published_as p))
           (signed_by r.0 p.flavour p.period (published_as q)) one other there refl refl refl));
       first = in_to world.signed (signed_by r.0 p.flavour p.period (published_as p)) one;

@@ -3,7 +3,7 @@ pub mod Rows
 pub mod LaterPeriods
 pub mod Digests
 pub mod Soundness
-pub mod StationSteps
+pub mod PeriodStateSteps
 pub mod Claims
 pub mod Honest
 pub mod AcceptedSteps

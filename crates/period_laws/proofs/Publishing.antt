@@ -25,7 +25,7 @@ use Rattle.period_laws.specs.Publications.{of_flavour, publishes_then}
 use Rattle.period_laws.proofs.Rows.{Offering, Advancing, SigningIn, refused, had, kept, stays, freezes, computes}
 use Rattle.period_laws.proofs.Rows.{gives_up, passes_over, signs, publishes, misses, begins, refuses, keeps}
 
--- what a moment of a signed station publishes of a flavour
+-- what a moment of a signed state publishes of a flavour
 pub record Publishes (s : State) (flavour : Flavour) (text : List ℕ) (answer : Advance) : Type 0 where
   pub ns : Bool
   pub microdesc : Bool

@@ -1,4 +1,4 @@
--- What holds of a member's station in a world.
+-- What holds of a member's state in a world.
 use Rattle.std.proofs.Common.{◌≡◌, ℕ, ◌<◌, ◌≤◌, ◌⊎◌, ◌&&◌, Bool, true, false, List, [], ◌∷◌, ◌++◌}
 use Rattle.std.proofs.Common.{Option, Some, None, refl, sym, ap, ◌∙◌, inl, inr, ⊎_elim}
 use Rattle.std.proofs.Common.{arith, ◌≢◌}
@@ -55,7 +55,7 @@ pub record Lined (signed : List SignedDigest) (valid_after : ℕ) (computed : Op
   pub is : computed ≡ Some c
   pub signs : is_among signed (signed_by line.identity flavour valid_after (digest_of flavour c)) ≡ true
 
--- what holds of a member's station
+-- what holds of a member's state
 pub record Sound (roster : List Fingerprint) (signed : List SignedDigest) (member : Fingerprint)
     (own : Fingerprint) (members : List Fingerprint) (schedule : Schedule) (valid_after : ℕ) (stage : Stage)
     (computed : Option Consensus)
@@ -104,13 +104,13 @@ pub nothing_more : (roster : List Fingerprint) (signed : List SignedDigest) (mem
     → SoundAt roster signed member s → SoundAt roster (signed ++ []) member s
 nothing_more roster signed member s k = sound_more roster signed [] member s (λ x i e. i) k
 
--- ---- what a station does
+-- ---- what a state does
 
 pub no_claim : (stage : Stage) (v : ℕ) (computed : Option Consensus) (x : SignedDigest) → has_signed stage ≡ false
     → (x.period < v) ⊎ Ours v stage computed x → x.period < v
 no_claim stage v computed x h k = ⊎_elim (λ (j : x.period < v). j) (λ j. absurd (false≢true (sym h ∙ j.signed))) k
 
--- the station goes on to another stage, with what is computed and held as it was
+-- the state goes on to another stage, with what is computed and held as it was
 pub goes_on : (roster : List Fingerprint) (signed : List SignedDigest) (member : Fingerprint) (s : State)
     (stage next : Stage) → s.stage ≡ stage
     → (has_signed stage ≡ true → has_signed next ≡ true) → (is_set next ≡ false → is_set stage ≡ false)
@@ -135,7 +135,7 @@ goes_on roster signed member s stage next at to_signed unset k = record {
   micro_lines = k.micro_lines;
 }
 
--- what one outcome of a station keeps
+-- what one outcome of a state keeps
 abbrev pub Keeps : List Fingerprint → List SignedDigest → Fingerprint → State → Outcome Advance → Type 0
 Keeps roster signed member s o = SoundAt roster (signed ++ signs_at s o.answer) member o.after
 

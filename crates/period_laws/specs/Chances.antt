@@ -48,7 +48,7 @@ SignaturesAreKept = (state : State) (signature : OfferedSignature) (c : Consensu
     → has_line (lines_of signature.flavour state) signature.authority ≡ false → is_ended state.stage ≡ false
     → (sign_in state signature).answer ≡ signs.Kept (state.front + 1)
 
--- Of a frozen station with the votes of more than half of the roster the consensus is computed.
+-- Of a frozen state with the votes of more than half of the roster the consensus is computed.
 abbrev pub MajoritiesCompute : Type 0
 MajoritiesCompute = (state : State) (now : ℕ) (given : Signing) → state.stage ≡ Frozen
     → over (length state.votes) (length state.roster) ≡ true

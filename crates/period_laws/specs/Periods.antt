@@ -100,8 +100,8 @@ pub record HoldTheSame (one other : State) : Type 0 where
   pub texts : (c d : Consensus) → one.computed ≡ Some c → other.computed ≡ Some d → (flavour : Flavour)
       → unsigned flavour c ≡ unsigned flavour d
 
-abbrev pub StationsAgree : Type 0
-StationsAgree = (one other : State) (events others : List Event) → AreAlike one other events others
+abbrev pub PeriodStatesAgree : Type 0
+PeriodStatesAgree = (one other : State) (events others : List Event) → AreAlike one other events others
     → RanksApart (accepted one events)
     → HoldTheSame (run one events) (run other others)
 

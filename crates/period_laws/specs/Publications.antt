@@ -61,7 +61,7 @@ abbrev pub PublishNone : Flavour → List Entry → Type 0
 PublishNone flavour [] = Unit {0}
 PublishNone flavour (entry ∷ entries) = (publishes flavour entry.answer ≡ false) × PublishNone flavour entries
 
--- an advance of a station and its answer
+-- an advance of a state and its answer
 abbrev pub advance_entry : ℕ → Signing → Advance → Entry
 advance_entry now given answer = record { event = Advanced now given; answer = answers.Moment answer }
 
@@ -86,7 +86,7 @@ pub record IsLastPublished (start : State) (story : List Entry) (flavour : Flavo
   -- and more than half had signed
   pub most : over (signers flavour (after start before)) (length start.roster) ≡ true
 
--- What is known of a station of which a consensus is published in a flavour.
+-- What is known of a state of which a consensus is published in a flavour.
 pub record MayPublish (rules : Rules) (start : State) (story : List Entry) (flavour : Flavour) (c : Consensus) :
     Type 0 where
   -- it is that of the accepted votes of the period alone

@@ -28,26 +28,26 @@ pub record SignedDigest : Type 0 where
   pub period : ℕ
   pub digest : List ℕ
 
--- that a station published a text of a flavour, for the period that begins then, with signatures behind it
+-- that an authority published a text of a flavour, for the period that begins then, with signatures behind it
 pub record Publication : Type 0 where
-  pub station : Fingerprint
+  pub authority : Fingerprint
   pub flavour : Flavour
   pub period : ℕ
   pub text : List ℕ
 
--- A world: one roster, a station for each of some members, all that was ever signed, and all that stations published.
+-- A world: one roster, a state for each of some members, all that was ever signed, and all that was published.
 pub record World : Type 0 where
   pub roster : List Fingerprint
-  -- the station of a member, where it has one
-  pub stations : Fingerprint → Option State
+  -- the state of a member, where it has one
+  pub states : Fingerprint → Option State
   pub signed : List SignedDigest
   pub published : List Publication
 
 -- What may happen next.
 pub data WorldEvent : Type 0 where
-  -- anything comes to the station of a member
+  -- anything comes to the state of a member
   At : (member : Fingerprint) → (event : Event) → WorldEvent
-  -- a member without a station signs
+  -- a member without a state signs
   Elsewhere : (signed : SignedDigest) → WorldEvent
 
 -- ---- what was signed
@@ -95,7 +95,7 @@ signs_both authority period None = []
 signs_both authority period (Some c) =
     signed_by authority Ns period (digest_of Ns c) ∷ signed_by authority Microdesc period (digest_of Microdesc c) ∷ []
 
--- what a station signs where a moment was answered so
+-- what an authority signs where a moment was answered so
 abbrev pub signs_at : State → Advance → List SignedDigest
 signs_at state moments.Nothing = []
 signs_at state moments.Frozen = []
@@ -111,7 +111,7 @@ signs_at state moments.SignerFault = []
 signs_at state moments.VerifierFault = []
 signs_at state (moments.OwnSignatureRefused digest) = []
 
--- what a station signs where it answered so
+-- what an authority signs where it answered so
 abbrev pub signs_in : State → Answer → List SignedDigest
 signs_in state (answers.Vote answer) = []
 signs_in state (answers.Moment answer) = signs_at state answer
@@ -122,7 +122,7 @@ signs_in state answers.Reading = []
 abbrev pub publication : State → Bool → Flavour → Consensus → List Publication
 publication state passed flavour c =
     if passed
-    then record { station = state.own; flavour = flavour; period = state.valid_after; text = unsigned flavour c } ∷ []
+    then record { authority = state.own; flavour = flavour; period = state.valid_after; text = unsigned flavour c } ∷ []
     else []
 
 -- these flavours of a consensus, where they are published
@@ -130,7 +130,7 @@ abbrev pub publications : State → Bool → Bool → Option Consensus → List 
 publications state ns microdesc None = []
 publications state ns microdesc (Some c) = publication state ns Ns c ++ publication state microdesc Microdesc c
 
--- what a station publishes where a moment was answered so
+-- what an authority publishes where a moment was answered so
 abbrev pub publishes_at : State → Advance → List Publication
 publishes_at state moments.Nothing = []
 publishes_at state moments.Frozen = []
@@ -146,41 +146,41 @@ publishes_at state moments.SignerFault = []
 publishes_at state moments.VerifierFault = []
 publishes_at state (moments.OwnSignatureRefused digest) = []
 
--- what a station publishes where it answered so
+-- what an authority publishes where it answered so
 abbrev pub publishes_in : State → Answer → List Publication
 publishes_in state (answers.Vote answer) = []
 publishes_in state (answers.Moment answer) = publishes_at state answer
 publishes_in state (answers.Signature answer) = []
 publishes_in state answers.Reading = []
 
--- stations, with this one for a member
-abbrev pub with_station : (Fingerprint → Option State) → Fingerprint → State → Fingerprint → Option State
-with_station stations member state other = if same_identity other member then Some state else stations other
+-- states, with this one for a member
+abbrev pub with_state : (Fingerprint → Option State) → Fingerprint → State → Fingerprint → Option State
+with_state states member state other = if same_identity other member then Some state else states other
 
--- the world after an outcome at a member's station
+-- the world after an outcome at a member's state
 abbrev pub moved_world : World → Fingerprint → State → Outcome Answer → World
 moved_world world member state outcome = record {
   roster = world.roster;
-  stations = with_station world.stations member outcome.after;
+  states = with_state world.states member outcome.after;
   signed = world.signed ++ signs_in state outcome.answer;
   published = world.published ++ publishes_in state outcome.answer;
 }
 
--- the world after something came to a member's station; to a member without one nothing comes
+-- the world after something came to a member's state; to a member without one nothing comes
 abbrev pub came : World → Fingerprint → Event → Option State → World
 came world member event None = world
 came world member event (Some state) =
     if may_come world.signed event then moved_world world member state (step state event) else world
 
--- the world after something was signed by a member, unless that has a station
+-- the world after something was signed by a member, unless that has a state
 abbrev pub signed_elsewhere : World → SignedDigest → World
 signed_elsewhere world one =
-    if has_member world.roster one.authority && not (is_some (world.stations one.authority))
+    if has_member world.roster one.authority && not (is_some (world.states one.authority))
     then record world { signed = world.signed ++ one ∷ [] } else world
 
 -- the world after it happened
 abbrev pub happens : World → WorldEvent → World
-happens world (At member event) = came world member event (world.stations member)
+happens world (At member event) = came world member event (world.states member)
 happens world (Elsewhere one) = signed_elsewhere world one
 
 -- the world after all of it happened, one after the other
@@ -188,11 +188,11 @@ abbrev pub run_world : World → List WorldEvent → World
 run_world world [] = world
 run_world world (event ∷ events) = run_world (happens world event) events
 
--- Each station begins, with its member as its own, and nothing is signed or published.
+-- Each state begins, with its member as its own, and nothing is signed or published.
 pub record IsWorldStart (world : World) : Type 0 where
-  pub start : (member : Fingerprint) (state : State) → world.stations member ≡ Some state → IsStart state
-  pub own : (member : Fingerprint) (state : State) → world.stations member ≡ Some state → state.own ≡ member
-  pub roster : (member : Fingerprint) (state : State) → world.stations member ≡ Some state → state.roster ≡ world.roster
+  pub start : (member : Fingerprint) (state : State) → world.states member ≡ Some state → IsStart state
+  pub own : (member : Fingerprint) (state : State) → world.states member ≡ Some state → state.own ≡ member
+  pub roster : (member : Fingerprint) (state : State) → world.states member ≡ Some state → state.roster ≡ world.roster
   pub signed : world.signed ≡ []
   pub published : world.published ≡ []
 
@@ -202,22 +202,22 @@ pub record IsWorldStart (world : World) : Type 0 where
 abbrev pub published_as : Publication → List ℕ
 published_as one = text_digest one.flavour one.text
 
--- A station that never restarts signs at most one digest for a flavour and a period.
-abbrev pub StationsSignOnce : Type 0
-StationsSignOnce = (world : World) (events : List WorldEvent) → IsWorldStart world
+-- An authority that never restarts signs at most one digest for a flavour and a period.
+abbrev pub PeriodStatesSignOnce : Type 0
+PeriodStatesSignOnce = (world : World) (events : List WorldEvent) → IsWorldStart world
     → (a b : SignedDigest) → Contains (run_world world events).signed a → Contains (run_world world events).signed b
-    → is_some ((run_world world events).stations a.authority) ≡ true
+    → is_some ((run_world world events).states a.authority) ≡ true
     → a.authority ≡ b.authority → a.flavour ≡ b.flavour → a.period ≡ b.period → a.digest ≡ b.digest
 
--- Someone of the roster, who has no station, signed both of two digests for one flavour and period.
+-- Someone of the roster, who has no state, signed both of two digests for one flavour and period.
 pub record SignedTwice (world : World) (flavour : Flavour) (period : ℕ) (one other : List ℕ) : Type 0 where
   pub authority : Fingerprint
   pub member : has_member world.roster authority ≡ true
-  pub alone : is_some (world.stations authority) ≡ false
+  pub alone : is_some (world.states authority) ≡ false
   pub first : Contains world.signed (signed_by authority flavour period one)
   pub second : Contains world.signed (signed_by authority flavour period other)
 
--- Where two stations published texts with different digests for one flavour and period, someone without a station
+-- Where two authorities published texts with different digests for one flavour and period, someone without a state
 -- signed both.
 abbrev pub PublishedAgree : Type 0
 PublishedAgree = (world : World) (events : List WorldEvent) → IsWorldStart world
@@ -226,11 +226,11 @@ PublishedAgree = (world : World) (events : List WorldEvent) → IsWorldStart wor
     → p.flavour ≡ q.flavour → p.period ≡ q.period → published_as p ≢ published_as q
     → SignedTwice (run_world world events) p.flavour p.period (published_as p) (published_as q)
 
--- Where every member has a station, the texts that are published for one flavour and period have one digest.
+-- Where every member has a state, the texts that are published for one flavour and period have one digest.
 abbrev pub AllHonestAgree : Type 0
 AllHonestAgree = (world : World) (events : List WorldEvent) → IsWorldStart world
     → ((member : Fingerprint) → has_member (run_world world events).roster member ≡ true
-    → is_some ((run_world world events).stations member) ≡ true)
+    → is_some ((run_world world events).states member) ≡ true)
     → (p q : Publication) → Contains (run_world world events).published p
     → Contains (run_world world events).published q
     → p.flavour ≡ q.flavour → p.period ≡ q.period → published_as p ≡ published_as q

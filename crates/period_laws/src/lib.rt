@@ -5,7 +5,7 @@ mod chances;
 mod checked;
 mod kept;
 mod short_forms;
-mod stations;
+mod states;
 mod times;
 mod worlds;
 
@@ -18,12 +18,12 @@ pub use checked::{
 };
 pub use kept::{changes_tell, steps_keep_it};
 pub use short_forms::{base_is_last_begin, forms_are_stored};
-pub use stations::{
+pub use states::{
     accepted_are_wanted, computed_of_accepted, front_counts, front_of_history, given_is_told,
     held_are_held, history_goes_on, history_is_one, history_leads, lines_are_accepted,
-    published_is_signed, ranks_are_one, signed_is_published, stations_agree, texts_stand,
+    published_is_signed, ranks_are_one, signed_is_published, period_states_agree, texts_stand,
 };
 pub use times::next_is_next;
 pub use worlds::{
-    all_honest_agree, equal_digests_equal_texts, published_agree, stations_sign_once,
+    all_honest_agree, equal_digests_equal_texts, published_agree, period_states_sign_once,
 };

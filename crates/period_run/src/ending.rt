@@ -6,7 +6,7 @@ use dir_bytes::Text;
 use dir_values::Fingerprint;
 use hex::{encode, encode_upper};
 use key_port::TestKeys;
-use period_core::Station;
+use period_core::PeriodState;
 use period_terms::{Change, ChangeKind, Name};
 use sha2::{Digest, Sha256};
 use std::alloc::{AllocError, Global};
@@ -53,9 +53,9 @@ fn change_text(alloc: Global, change: &Change) -> Result<String, AllocError> {
 }
 
 // Prints the changes since the period began.
-fn print_changes(rt: &HostRuntime, station: &Station<TestKeys>) -> Result<()> {
-    let mut number = station.base();
-    for change in station.changes() {
+fn print_changes(rt: &HostRuntime, state: &PeriodState<TestKeys>) -> Result<()> {
+    let mut number = state.base();
+    for change in state.changes() {
         number = number.saturating_add(1);
         let change = change_text(rt.alloc(), change)?;
         println!(rt; "end -> change {number} {change}")?;
@@ -89,11 +89,11 @@ fn bytes_of(text: &Option<Text>) -> Option<&[u8]> {
 // Prints the document of a flavour that would be published now.
 fn print_next(
     rt: &HostRuntime,
-    station: &Station<TestKeys>,
+    state: &PeriodState<TestKeys>,
     name: &str,
     flavour: Flavour,
 ) -> Result<()> {
-    match station.next_consensus(rt.alloc(), flavour) {
+    match state.next_consensus(rt.alloc(), flavour) {
         Ok(text) => print_document(rt, name, bytes_of(&text)),
         Err(_) => bail!("no memory"),
     }
@@ -102,29 +102,29 @@ fn print_next(
 // Prints the document of a flavour that was published last.
 fn print_current(
     rt: &HostRuntime,
-    station: &Station<TestKeys>,
+    state: &PeriodState<TestKeys>,
     name: &str,
     flavour: Flavour,
 ) -> Result<()> {
-    print_document(rt, name, station.document(&Name::Current(flavour)))
+    print_document(rt, name, state.document(&Name::Current(flavour)))
 }
 
 // Prints the document of the signatures that are held.
-fn print_signatures(rt: &HostRuntime, station: &Station<TestKeys>) -> Result<()> {
-    match next_signatures(station, rt.alloc()) {
+fn print_signatures(rt: &HostRuntime, state: &PeriodState<TestKeys>) -> Result<()> {
+    match next_signatures(state, rt.alloc()) {
         Ok(text) => print_document(rt, "next-signatures", bytes_of(&text)),
         Err(_) => bail!("no memory"),
     }
 }
 
 /// Prints the changes since the period began, and the documents.
-pub fn print_end(rt: &HostRuntime, station: &Station<TestKeys>) -> Result<()> {
-    let front = station.front();
+pub fn print_end(rt: &HostRuntime, state: &PeriodState<TestKeys>) -> Result<()> {
+    let front = state.front();
     println!(rt; "end -> front {front}")?;
-    print_changes(rt, station)?;
-    print_next(rt, station, "next ns", Flavour::Ns)?;
-    print_current(rt, station, "current ns", Flavour::Ns)?;
-    print_next(rt, station, "next microdesc", Flavour::Microdesc)?;
-    print_current(rt, station, "current microdesc", Flavour::Microdesc)?;
-    print_signatures(rt, station)
+    print_changes(rt, state)?;
+    print_next(rt, state, "next ns", Flavour::Ns)?;
+    print_current(rt, state, "current ns", Flavour::Ns)?;
+    print_next(rt, state, "next microdesc", Flavour::Microdesc)?;
+    print_current(rt, state, "current microdesc", Flavour::Microdesc)?;
+    print_signatures(rt, state)
 }

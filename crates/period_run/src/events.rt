@@ -8,7 +8,7 @@ use anyhow::{Result, bail};
 use count_terms::Newest;
 use dir_values::Roster;
 use key_port::TestKeys;
-use period_core::Station;
+use period_core::PeriodState;
 use period_terms::Via;
 use vote_schedule::Config;
 
@@ -41,16 +41,16 @@ fn config_in(words: &[&str]) -> Result<Config> {
     )
 }
 
-/// The station that a line begins.
-pub fn started(rt: &HostRuntime, line: &str) -> Result<Station<TestKeys>> {
+/// The state that a line begins.
+pub fn started(rt: &HostRuntime, line: &str) -> Result<PeriodState<TestKeys>> {
     let words = words_of(rt.alloc(), line)?;
     let words = words.as_slice();
     let roster = roster_in(rt, word_after(words, "roster")?)?;
     let own = authority_of(rt, word_after(words, "own")?)?.identity;
     let config = config_in(words)?;
     let now = number_after(words, "now")?;
-    match Station::start(rt.alloc(), roster, own, Newest::Method33, config, now) {
-        Ok(station) => Ok(station),
+    match PeriodState::start(rt.alloc(), roster, own, Newest::Method33, config, now) {
+        Ok(state) => Ok(state),
         Err(_) => bail!("no start"),
     }
 }
@@ -66,14 +66,14 @@ fn via_of(word: &str) -> Result<Via> {
 }
 
 // A vote is offered.
-fn offer(rt: &HostRuntime, station: &mut Station<TestKeys>, words: &[&str]) -> Result<String> {
+fn offer(rt: &HostRuntime, state: &mut PeriodState<TestKeys>, words: &[&str]) -> Result<String> {
     let authority = authority_of(rt, word_after(words, "offer")?)?;
     let published = number_after(words, "published")?;
     let period = number_after(words, "period")?;
     let via = via_of(word_after(words, "via")?)?;
     let now = number_after(words, "now")?;
     let vote = vote_of(rt.alloc(), &authority, published, period)?;
-    let answer = station.offer(vote, via, now);
+    let answer = state.offer(vote, via, now);
     Ok(offer_text(rt.alloc(), answer)?)
 }
 
@@ -87,36 +87,36 @@ fn signer_of(rt: &HostRuntime, fails: bool) -> Result<TestKeys> {
 }
 
 // The clock is at a moment.
-fn advance(rt: &HostRuntime, station: &mut Station<TestKeys>, words: &[&str]) -> Result<String> {
+fn advance(rt: &HostRuntime, state: &mut PeriodState<TestKeys>, words: &[&str]) -> Result<String> {
     let mut signer = signer_of(rt, words.contains(&"signer-fails"))?;
     let mut verifier = TestKeys::new(Vec::new(rt.alloc()));
     let now = number_after(words, "now")?;
-    match station.advance(rt.alloc(), now, &mut signer, &mut verifier) {
+    match state.advance(rt.alloc(), now, &mut signer, &mut verifier) {
         Ok(answer) => Ok(advance_text(rt.alloc(), &answer)?),
         Err(_) => bail!("no memory"),
     }
 }
 
 // A signature is offered.
-fn sign_in(rt: &HostRuntime, station: &mut Station<TestKeys>, words: &[&str]) -> Result<String> {
+fn sign_in(rt: &HostRuntime, state: &mut PeriodState<TestKeys>, words: &[&str]) -> Result<String> {
     let [_, number, flavour, over, ..] = words else {
         bail!("no signature");
     };
     let authority = authority_of(rt, number)?;
     let period = number_after(words, "period")?;
-    let signature = signature_of(rt.alloc(), station, &authority, flavour, over, period)?;
-    let answer = station.sign_in(signature);
+    let signature = signature_of(rt.alloc(), state, &authority, flavour, over, period)?;
+    let answer = state.sign_in(signature);
     Ok(sign_in_text(rt.alloc(), &answer)?)
 }
 
-/// What a line brings to a station, and the answer.
-pub fn answer_to(rt: &HostRuntime, station: &mut Station<TestKeys>, line: &str) -> Result<String> {
+/// What a line brings to a state, and the answer.
+pub fn answer_to(rt: &HostRuntime, state: &mut PeriodState<TestKeys>, line: &str) -> Result<String> {
     let words = words_of(rt.alloc(), line)?;
     let words = words.as_slice();
     match words.first() {
-        Some(&"offer") => offer(rt, station, words),
-        Some(&"advance") => advance(rt, station, words),
-        Some(&"sign-in") => sign_in(rt, station, words),
+        Some(&"offer") => offer(rt, state, words),
+        Some(&"advance") => advance(rt, state, words),
+        Some(&"sign-in") => sign_in(rt, state, words),
         _ => bail!("no such event"),
     }
 }

@@ -8,7 +8,7 @@ use dir_bytes::{Seq, Text};
 use dir_values::{Digest1, Digest2};
 use hex::encode_upper;
 use key_port::TestKeys;
-use period_core::Station;
+use period_core::PeriodState;
 use period_terms::{CheckedSig, PeriodView};
 use std::alloc::{AllocError, Global};
 
@@ -19,8 +19,8 @@ struct Digests {
     microdesc: Digest2,
 }
 
-// The digests that a station has computed; zeros where nothing is computed, or where these are wanted.
-fn digests_of(alloc: Global, station: &Station<TestKeys>, over: &str) -> Result<Digests> {
+// The digests that a state has computed; zeros where nothing is computed, or where these are wanted.
+fn digests_of(alloc: Global, state: &PeriodState<TestKeys>, over: &str) -> Result<Digests> {
     let zeros = Digests {
         ns: Digest1([0; 20]),
         microdesc: Digest2([0; 32]),
@@ -28,7 +28,7 @@ fn digests_of(alloc: Global, station: &Station<TestKeys>, over: &str) -> Result<
     if over != "ours" {
         return Ok(zeros);
     }
-    match station.view(alloc) {
+    match state.view(alloc) {
         Ok(Some(view)) => Ok(Digests {
             ns: view.ns,
             microdesc: view.microdesc,
@@ -99,17 +99,17 @@ fn checked(alloc: Global, text: &[u8], view: &PeriodView) -> Result<CheckedSig<T
     }
 }
 
-/// The signature of an authority in a flavour, over the station's digest or over zeros, for the period that begins then: read and
+/// The signature of an authority in a flavour, over the state's digest or over zeros, for the period that begins then: read and
 /// checked.
 pub fn signature_of(
     alloc: Global,
-    station: &Station<TestKeys>,
+    state: &PeriodState<TestKeys>,
     authority: &Authority,
     flavour: &str,
     over: &str,
     valid_after: u64,
 ) -> Result<CheckedSig<TestKeys>> {
-    let digests = digests_of(alloc, station, over)?;
+    let digests = digests_of(alloc, state, over)?;
     let time = time_text(alloc, valid_after)?;
     let head = head_text(alloc, &time, &digests)?;
     let line = line_text(alloc, authority, flavour, &digests)?;

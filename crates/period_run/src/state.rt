@@ -1,7 +1,7 @@
 // The state of an authority, as its changes tell it.
 use dir_values::Fingerprint;
 use key_port::TestKeys;
-use period_core::Station;
+use period_core::PeriodState;
 use period_terms::{Change, ChangeKind};
 use std::alloc::{AllocError, Global};
 
@@ -48,26 +48,26 @@ fn signatures(changes: &[Change], own: &Fingerprint, size: usize) -> u64 {
 }
 
 // The period: how many changes there are, and when it begins.
-fn period_text(alloc: Global, station: &Station<TestKeys>) -> Result<String, AllocError> {
-    let front = station.front();
-    let base = station.base();
-    let valid_after = station.valid_after();
+fn period_text(alloc: Global, state: &PeriodState<TestKeys>) -> Result<String, AllocError> {
+    let front = state.front();
+    let base = state.base();
+    let valid_after = state.valid_after();
     format!(in alloc; "front {front} base {base} valid-after {valid_after}")
 }
 
 // How many votes and signatures are held.
-fn held_text(alloc: Global, station: &Station<TestKeys>) -> Result<String, AllocError> {
-    let own = station.own();
-    let votes = station.votes().len();
-    let ns = signatures(station.changes(), &own, 20);
-    let microdesc = signatures(station.changes(), &own, 32);
+fn held_text(alloc: Global, state: &PeriodState<TestKeys>) -> Result<String, AllocError> {
+    let own = state.own();
+    let votes = state.votes().len();
+    let ns = signatures(state.changes(), &own, 20);
+    let microdesc = signatures(state.changes(), &own, 32);
     format!(in alloc; "votes {votes} ns {ns} microdesc {microdesc}")
 }
 
 /// The state: the stage, how many changes there are, the period, and how many votes and signatures are held.
-pub fn state_text(alloc: Global, station: &Station<TestKeys>) -> Result<String, AllocError> {
-    let stage = stage_name(station.changes());
-    let period = period_text(alloc, station)?;
-    let held = held_text(alloc, station)?;
+pub fn state_text(alloc: Global, state: &PeriodState<TestKeys>) -> Result<String, AllocError> {
+    let stage = stage_name(state.changes());
+    let period = period_text(alloc, state)?;
+    let held = held_text(alloc, state)?;
     format!(in alloc; "{stage} {period} {held}")
 }

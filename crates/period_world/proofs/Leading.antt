@@ -1,4 +1,4 @@
--- A call at a station leads a world on.
+-- A call at a state leads a world on.
 use Rattle.std.proofs.Common.{Result, Ok, Err, IfOk, refl}
 use Rattle.dir_bytes.specs.declared.fault.Memory.{Memory}
 use Rattle.dir_values.specs.declared.digest.Fingerprint.{Fingerprint}
@@ -13,7 +13,7 @@ pub leads_on : (may_give : Relation) (rules : Rules) (old new : State) (coming :
     → TakesOne may_give rules old coming answer new → LeadsOn may_give rules old coming answer new
 leads_on may_give rules old new coming answer takes =
     λ (world : World) (member : Fingerprint) at may.
-    (old, record { station = at; may = may; takes = takes }, refl)
+    (old, record { period_state = at; may = may; takes = takes }, refl)
 
 pub leads_so : (may_give : Relation) (rules : Rules) (old new : State) (coming : Arrival)
     (result : Result Answer Memory) → IfOk result (λ answer. TakesOne may_give rules old coming answer new)

@@ -1,4 +1,4 @@
--- Calls at several stations are what happens in a world.
+-- Calls at several authorities are what happens in a world.
 use Rattle.std.proofs.Common.{◌≡◌, Bool, true, cond, List, [], ◌∷◌, Option, Some, refl, sym, ap, ◌∙◌}
 use Rattle.dir_values.specs.declared.digest.Fingerprint.{Fingerprint}
 use Rattle.key_port.specs.Answers.{Relation, Rules}
@@ -27,8 +27,8 @@ moved_so : (world : World) (member : Fingerprint) (s : State) (answer : Answer) 
     → w.moved_world world member s (record { answer = answer; after = after }) ≡ w.moved_world world member s o
 moved_so world member s answer after o e f = rw (e, f) refl
 
--- where something may come to a station, it is answered there
-comes_there : (world : World) (member : Fingerprint) (s : State) (event : Event) → world.stations member ≡ Some s
+-- where something may come to a state, it is answered there
+comes_there : (world : World) (member : Fingerprint) (s : State) (event : Event) → world.states member ≡ Some s
     → may_come world.signed event ≡ true
     → w.moved_world world member s (step s event) ≡ w.happens world (At member event)
 comes_there world member s event at may =
@@ -40,7 +40,7 @@ call_happens : (may_give : Relation) (rules : Rules) (world : World) (call : Cal
     (k : IsCall may_give rules world call s) → called_world world call s ≡ w.happens world (At call.member k.takes.event)
 call_happens may_give rules world call s k =
     moved_so world call.member s call.answer call.after (step s k.takes.event) k.takes.answered k.takes.after
-    ∙ comes_there world call.member s k.takes.event k.station
+    ∙ comes_there world call.member s k.takes.event k.period_state
     (comes world.signed call.coming k.takes.event k.takes.is k.may)
 
 one_happens : (may_give : Relation) (rules : Rules) (world : World) (one : Happening) (next : World)

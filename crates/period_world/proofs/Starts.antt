@@ -1,4 +1,4 @@
--- A station that begins is in a state that is a start.
+-- The state in which an authority begins is a start.
 use Rattle.std.proofs.Common.{◌≡◌, ℕ, List, Result, Ok, Err, refl, IfOk}
 use Rattle.count_terms.specs.declared.newest.Newest.{Newest}
 use Rattle.dir_values.specs.declared.digest.Fingerprint.{Fingerprint}
@@ -6,7 +6,7 @@ use Rattle.dir_values.specs.Rosters.{IsRoster}
 use Rattle.vote_schedule.specs.Schedules.{Schedule, IsSchedule}
 use Rattle.period_terms.specs.declared.state.State.{State}
 use Rattle.period_terms.specs.Histories.{IsStart}
-use Rattle.period_core.specs.declared.station.StartFault.{StartFault}
+use Rattle.period_core.specs.declared.state.StartFault.{StartFault}
 use Rattle.period_core.specs.Starting.{Starts}
 
 pub starts_so : (roster : List Fingerprint) (own : Fingerprint) (newest : Newest) (schedule : Schedule) (now : ℕ)

@@ -12,4 +12,4 @@ pub use calling::take_among;
 pub use coming::Coming;
 pub use receiving::{take, take_all};
 pub use starting::begin;
-pub use world_calls::{begun_are_worlds, calls_are_worlds, stations_take_all};
+pub use world_calls::{begun_are_worlds, calls_are_worlds, period_states_take_all};

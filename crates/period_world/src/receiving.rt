@@ -6,7 +6,7 @@ ghost use Rattle.period_world.specs.Calls.{TakesOne, TakesAll};
 use crate::coming::Coming;
 use dir_bytes::Memory;
 use key_port::{Signer, Verifier};
-use period_core::Station;
+use period_core::PeriodState;
 use period_terms::{Answer, CheckedSig};
 use std::alloc::Global;
 use std::collections::VecDeque;
@@ -18,50 +18,50 @@ use vote_doc::CheckedVote;
 /// `Memory` is want of memory; all is then as it was.
 pub fn take<N: Signer, V: Verifier>(
     alloc: Global,
-    station: &mut Station<V>,
+    state: &mut PeriodState<V>,
     coming: Coming<CheckedVote<V>, CheckedSig<V>>,
     signer: &mut N,
     verifier: &mut V,
 ) -> Result<Answer, Memory>
     ensures step { IfOk result
-        (λ answer. TakesOne N.may_give (rules V.may_accept V.may_refuse) station.old coming answer station.new) }
-    ensures err { OnErr result (station.new ≡ station.old) }
+        (λ answer. TakesOne N.may_give (rules V.may_accept V.may_refuse) state.old coming answer state.new) }
+    ensures err { OnErr result (state.new ≡ state.old) }
 {
     match coming {
         Coming::Vote { vote, via, now } => {
             let _ = vote.vote();
-            Ok(Answer::Vote(station.offer(vote, via, now)))
+            Ok(Answer::Vote(state.offer(vote, via, now)))
         }
-        Coming::Moment { now } => match station.advance(alloc, now, signer, verifier) {
+        Coming::Moment { now } => match state.advance(alloc, now, signer, verifier) {
             Ok(answer) => Ok(Answer::Moment(answer)),
             Err(fault) => Err(fault),
         },
         Coming::Signature { signature } => {
             let _ = signature.signature();
             let _ = signature.key_digest();
-            Ok(Answer::Signature(station.sign_in(signature)))
+            Ok(Answer::Signature(state.sign_in(signature)))
         }
     }
 }
 
-/// Takes all that comes, in its order: the station after it, and the answers.
+/// Takes all that comes, in its order: the state after it, and the answers.
 ///
 /// # Errors
 /// `Memory` is want of memory.
 pub fn take_all<N: Signer, V: Verifier>(
     alloc: Global,
-    station: Station<V>,
+    state: PeriodState<V>,
     coming: VecDeque<Coming<CheckedVote<V>, CheckedSig<V>>>,
     signer: &mut N,
     verifier: &mut V,
-) -> Result<(Station<V>, Vec<Answer>), Memory>
-    ensures { IfOk result (λ taken. TakesAll N.may_give (rules V.may_accept V.may_refuse) station coming.items taken.1.items taken.0) }
+) -> Result<(PeriodState<V>, Vec<Answer>), Memory>
+    ensures { IfOk result (λ taken. TakesAll N.may_give (rules V.may_accept V.may_refuse) state coming.items taken.1.items taken.0) }
 {
-    let mut station = station;
+    let mut state = state;
     let mut coming = coming;
     let mut answers = Vec::new(alloc);
     'coming: while let Some(one) = coming.pop_front() {
-        answers.push(take(alloc, &mut station, one, signer, verifier)?)?;
+        answers.push(take(alloc, &mut state, one, signer, verifier)?)?;
     }
-    Ok((station, answers))
+    Ok((state, answers))
 }

@@ -6,14 +6,14 @@ ghost use Rattle.period_terms.specs.Histories.{IsStart};
 use count_terms::Newest;
 use dir_values::{Fingerprint, Roster};
 use key_port::Verifier;
-use period_core::{StartFault, Station};
+use period_core::{PeriodState, StartFault};
 use std::alloc::Global;
 use vote_schedule::Config;
 
 /// An authority of the roster that knows this newest method and begins at a moment, in a state that is a start.
 ///
 /// # Errors
-/// Those of `Station::start`.
+/// Those of `PeriodState::start`.
 pub fn begin<V: Verifier>(
     alloc: Global,
     roster: Roster,
@@ -21,11 +21,11 @@ pub fn begin<V: Verifier>(
     newest: Newest,
     config: Config,
     now: u64,
-) -> Result<Station<V>, StartFault>
+) -> Result<PeriodState<V>, StartFault>
     ensures starts { Starts roster own newest config now result }
     ensures start { IfOk result (λ state. IsStart state) }
 {
     let _ = roster.len();
     let _ = config.interval();
-    Station::start(alloc, roster, own, newest, config, now)
+    PeriodState::start(alloc, roster, own, newest, config, now)
 }

@@ -1,17 +1,17 @@
 // What calls at several authorities make of a world.
-ghost use Rattle.period_world.specs.WorldCalls.{BegunAreWorlds, CallsAreWorlds, StationsTakeAll};
+ghost use Rattle.period_world.specs.WorldCalls.{BegunAreWorlds, CallsAreWorlds, PeriodStatesTakeAll};
 
-/// Stations of one roster that began are the start of a world.
+/// States of one roster that began are the start of a world.
 pub fn begun_are_worlds()
     ensures { BegunAreWorlds }
 {}
 
-/// Where calls at the stations of a world lead, what happens in a world leads.
+/// Where calls at the states of a world lead, what happens in a world leads.
 pub fn calls_are_worlds()
     ensures { CallsAreWorlds }
 {}
 
-/// Among the calls at other stations, a station took what came to it, one after the other, as it does alone.
-pub fn stations_take_all()
-    ensures { StationsTakeAll }
+/// Among the calls at other states, a state took what came to it, one after the other, as it does alone.
+pub fn period_states_take_all()
+    ensures { PeriodStatesTakeAll }
 {}

@@ -8,7 +8,7 @@ use Rattle.serve_answers.specs.Finding.{AddsNothing}
 
 -- a pass that is as it was
 pub same_adds : (a : Parts) → AddsNothing a a
-same_adds a = record { goes = goes_same a; station = refl; pool = refl }
+same_adds a = record { goes = goes_same a; state = refl; pool = refl }
 
 -- and one of which that is told
 pub still_adds : (a b : Parts) → b ≡ a → AddsNothing a b
@@ -26,6 +26,6 @@ module _ (rules : Rules) (board : Locks) (before then : Parts) where
       → AddsNothing before then
   sees_adds right answer sees = record {
     goes = goes_sees rules board before then right answer sees;
-    station = sees.takes.mine;
+    state = sees.takes.mine;
     pool = ap (λ k. k.mine) sees.pool;
   }

@@ -19,7 +19,7 @@ module _ (rules : Rules) (board : Locks) (before then : Parts) (flavour : Flavou
       → IsPublished rules board before then flavour found
   stood None sees = tt
   stood (Some text) sees =
-      λ begin. were_published rules board.station.start (entries then.station.seen) begin sees.takes.is_story flavour
+      λ begin. were_published rules board.state.start (entries then.state.seen) begin sees.takes.is_story flavour
       text (sym sees.takes.right_there)
 
   -- a copy of the current consensus is of one that was published

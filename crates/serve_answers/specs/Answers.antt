@@ -62,7 +62,7 @@ module _ (rules : Rules) (board : Locks) (before then : Parts) (faults faults_th
     pub vote : ReadVote
     pub refusal : VoteRefusal
     pub is : IsVote body vote
-    pub refused : votes.RefusedBy rules board.station.start.roster vote.says.valid_after vote refusal
+    pub refused : votes.RefusedBy rules board.state.start.roster vote.says.valid_after vote refusal
     pub still : Still answer (reply_to_vote refusal)
 
   module _ (asks asks_then last : ℕ) where
@@ -71,7 +71,7 @@ module _ (rules : Rules) (board : Locks) (before then : Parts) (faults faults_th
       pub vote : ReadVote
       pub offer : Offer
       pub is : IsVote body vote
-      pub accepted : IsAcceptable rules board.station.start.roster vote.says.valid_after vote
+      pub accepted : IsAcceptable rules board.state.start.roster vote.says.valid_after vote
       pub asked : Rose asks asks_then
       pub makes : Makes rules board before then (Offered vote Upload last) (Vote offer)
       pub told : answer ≡ reply_to_offer offer
@@ -86,7 +86,7 @@ module _ (rules : Rules) (board : Locks) (before then : Parts) (faults faults_th
   pub record RefusesDescriptor (body : List ℕ) (answer : Reply) : Type 0 where
     pub descriptor : Descriptor
     pub refusal : DescriptorRefusal
-    pub is : IsDescriptor board.station.start.newest body descriptor
+    pub is : IsDescriptor board.state.start.newest body descriptor
     pub refused : descriptors.RefusedBy rules descriptor refusal
     pub still : Still answer (reply_to_descriptor refusal)
 
@@ -94,12 +94,12 @@ module _ (rules : Rules) (board : Locks) (before then : Parts) (faults faults_th
     -- An uploaded descriptor that holds, and what comes of it by the rules.
     pub record RulesDescriptor (body : List ℕ) (answer : Reply) : Type 0 where
       pub descriptor : Descriptor
-      pub is : IsDescriptor board.station.start.newest body descriptor
+      pub is : IsDescriptor board.state.start.newest body descriptor
       pub verified : descriptors.IsVerified rules descriptor
       pub ruled : TakesRuled rules board before then allows descriptor answer
 
     -- what comes of a descriptor that is uploaded
     abbrev pub TakesDescriptor : List ℕ → Reply → Type 0
     TakesDescriptor body answer =
-        (NoneIs (IsDescriptor board.station.start.newest body) × Still answer (reply.Refused word.Document))
+        (NoneIs (IsDescriptor board.state.start.newest body) × Still answer (reply.Refused word.Document))
         ⊎ (RefusesDescriptor body answer ⊎ RulesDescriptor body answer)

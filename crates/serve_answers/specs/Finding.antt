@@ -31,11 +31,11 @@ flavour_of form.Microdesc = flavour.Microdesc
 -- The pass has gone on, and has added nothing.
 pub record AddsNothing (before then : Parts) : Type 0 where
   pub goes : Goes before then
-  pub station : then.station.mine ≡ before.station.mine
+  pub state : then.state.mine ≡ before.state.mine
   pub pool : then.pool.mine ≡ before.pool.mine
 
 module _ (rules : Rules) (board : Locks) (before then : Parts) where
-  -- what is read of the station after one list, or there was no memory
+  -- what is read of the state after one list, or there was no memory
   abbrev pub Reads : (State → Option (List ℕ)) → Result (Option (List ℕ)) Memory → Type 0
   Reads document (Ok found) = Sees rules board before then (λ state answer. answer ≡ document state) found
   Reads document (Err fault) = AddsNothing before then
@@ -45,7 +45,7 @@ module _ (rules : Rules) (board : Locks) (before then : Parts) where
   abbrev pub IsPublished : Flavour → Option (List ℕ) → Type 0
   IsPublished flavour None = Unit {0}
   IsPublished flavour (Some text) =
-      IsStart board.station.start → WasPublished rules board.station.start (entries then.station.seen) flavour text
+      IsStart board.state.start → WasPublished rules board.state.start (entries then.state.seen) flavour text
 
   -- the current consensus of a flavour is read, and was published, or there was no memory
   abbrev pub ReadsCurrent : Flavour → Result (Option (List ℕ)) Memory → Type 0
@@ -69,14 +69,14 @@ module _ (rules : Rules) (board : Locks) (before then : Parts) where
   FindsMicros None result = FindsNothing result
   FindsMicros (Some digests) result = Finds (λ pool. unless_empty (micros_with pool.descriptors digests)) result
 
-  -- What is found of what is asked for by a path: the document of the station or of the pool after one list, by one
+  -- What is found of what is asked for by a path: the document of the state or of the pool after one list, by one
   -- reading; nothing where none is asked for.
   abbrev pub FindsAsked : Asked → List ℕ → Result (Option (List ℕ)) Memory → Type 0
   FindsAsked asked.PostVote path result = FindsNothing result
   FindsAsked asked.PostSignatures path result = FindsNothing result
   FindsAsked asked.PostDescriptor path result = FindsNothing result
   FindsAsked asked.OwnVote path result =
-      Reads (λ state. document_of state (names.Vote board.station.start.own)) result
+      Reads (λ state. document_of state (names.Vote board.state.start.own)) result
   FindsAsked (asked.VoteOf authority) path result =
       Reads (λ state. document_of state (names.Vote record { 0 = authority })) result
   FindsAsked (asked.VoteByDigest digest) path result =

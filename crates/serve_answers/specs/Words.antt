@@ -1,4 +1,4 @@
--- The reply to each answer of a station and of a pool, and to each reason why an upload is refused.
+-- The reply to each answer of a state and of a pool, and to each reason why an upload is refused.
 use Rattle.authority_certs.specs.declared.checking.CertAnswer.{CertAnswer}
 use Rattle.authority_certs.specs.declared.checking.CertAnswer.TheVariants as certs
 use Rattle.descriptor_doc.specs.declared.checking.DescriptorRefusal.{DescriptorRefusal}

@@ -113,7 +113,7 @@ fn find_asked<R: Wait, V: Verifier>(
     }
 }
 
-/// What is found of what is asked for by a path: a document of the station or of the pool, if it is held. A path that asks for no
+/// What is found of what is asked for by a path: a document of the state or of the pool, if it is held. A path that asks for no
 /// document finds none.
 ///
 /// # Errors

@@ -5,7 +5,7 @@ ghost use Rattle.checked_sigs.specs.Next.{next_signatures_of};
 use checked_sigs::next_signatures;
 use dir_bytes::{Memory, Text};
 use key_port::Verifier;
-use period_core::Station;
+use period_core::PeriodState;
 use serve_board::Question;
 use std::alloc::Global;
 
@@ -15,12 +15,12 @@ pub(crate) struct AskNextSignatures {
     pub(crate) alloc: Global,
 }
 
-impl<V: Verifier> Question<Station<V>> for AskNextSignatures {
+impl<V: Verifier> Question<PeriodState<V>> for AskNextSignatures {
     type Reply = Result<Option<Text>, Memory>;
 
     ghost finds = { λ before state reply then. MatchResult reply (λ text. text ≡ next_signatures_of state) (λ _. Unit {0}) };
 
-    fn ask(&mut self, value: &Station<V>) -> Result<Option<Text>, Memory> {
+    fn ask(&mut self, value: &PeriodState<V>) -> Result<Option<Text>, Memory> {
         next_signatures(value, self.alloc)
     }
 }

@@ -8,7 +8,7 @@ use dir_bytes::{Memory, Text};
 use dir_values::Fingerprint;
 use http_words::unless_empty;
 use key_port::Verifier;
-use period_core::Station;
+use period_core::PeriodState;
 use serve_board::Question;
 use std::alloc::Global;
 use vote_doc::Accepted;
@@ -40,13 +40,13 @@ pub(crate) struct AskAllKeys {
     pub(crate) alloc: Global,
 }
 
-impl<V: Verifier> Question<Station<V>> for AskAllKeys {
+impl<V: Verifier> Question<PeriodState<V>> for AskAllKeys {
     type Reply = Result<Option<Text>, Memory>;
 
     ghost finds = { λ before state reply then.
         MatchResult reply (λ text. text ≡ found.unless_empty (lists.certificates_of state.votes)) (λ _. Unit {0}) };
 
-    fn ask(&mut self, value: &Station<V>) -> Result<Option<Text>, Memory> {
+    fn ask(&mut self, value: &PeriodState<V>) -> Result<Option<Text>, Memory> {
         Ok(unless_empty(certificates(self.alloc, value.votes())?))
     }
 }
@@ -58,13 +58,13 @@ pub(crate) struct AskKeys {
     pub(crate) authority: Fingerprint,
 }
 
-impl<V: Verifier> Question<Station<V>> for AskKeys {
+impl<V: Verifier> Question<PeriodState<V>> for AskKeys {
     type Reply = Result<Option<Text>, Memory>;
 
     ghost finds = { λ before state reply then.
         MatchResult reply (λ text. text ≡ found.unless_empty (lists.certificate_if (vote_of state.votes before.authority))) (λ _. Unit {0}) };
 
-    fn ask(&mut self, value: &Station<V>) -> Result<Option<Text>, Memory> {
+    fn ask(&mut self, value: &PeriodState<V>) -> Result<Option<Text>, Memory> {
         let bytes = certificate(self.alloc, value.votes(), &self.authority)?;
         Ok(unless_empty(bytes))
     }

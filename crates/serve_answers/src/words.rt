@@ -1,4 +1,4 @@
-// The reply to each answer of a station and of a pool, and to each reason why an upload is refused.
+// The reply to each answer of a state and of a pool, and to each reason why an upload is refused.
 ghost use Rattle.std.specs.Prelude.{◌≡◌};
 ghost use Rattle.serve_answers.specs.Words as words;
 

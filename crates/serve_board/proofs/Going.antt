@@ -60,35 +60,35 @@ module _ {S X : Type 0} where
 
 -- a pass that is as it was
 pub goes_same : (a : Parts) → Goes a a
-goes_same a = record { station = same_there a.station; pool = same_there a.pool }
+goes_same a = record { state = same_there a.state; pool = same_there a.pool }
 
 -- a pass that has gone on, and goes on
 pub goes_on : (a b c : Parts) → Goes a b → Goes b c → Goes a c
 goes_on a b c g h = record {
-  station = on_there a.station b.station c.station g.station h.station;
+  state = on_there a.state b.state c.state g.state h.state;
   pool = on_there a.pool b.pool c.pool g.pool h.pool;
 }
 
 module _ (rules : Rules) (board : Locks) (a b : Parts) where
-  -- by an event at the station
+  -- by an event at the state
   pub goes_makes : (event : Event) (answer : Answer) → Makes rules board a b event answer → Goes a b
   goes_makes event answer makes = record {
-    station = event_there _ _ _ _ event board.station a.station b.station answer makes.takes;
+    state = event_there _ _ _ _ event board.state a.state b.state answer makes.takes;
     pool = is_there a.pool b.pool makes.pool;
   }
 
-  -- by a reading of the station
+  -- by a reading of the state
   pub goes_sees : {A : Type 0} (right : State → A → Type 0) (answer : A) → Sees rules board a b right answer
       → Goes a b
   goes_sees right answer sees = record {
-    station = reading_there _ _ right board.station a.station b.station answer sees.takes;
+    state = reading_there _ _ right board.state a.state b.state answer sees.takes;
     pool = is_there a.pool b.pool sees.pool;
   }
 
   -- by a descriptor that is kept, or not
   pub goes_stores : (descriptor : Descriptor) (answer : Keep) → Stores rules board a b descriptor answer → Goes a b
   goes_stores descriptor answer stores = record {
-    station = is_there a.station b.station stores.station;
+    state = is_there a.state b.state stores.state;
     pool = event_there _ _ _ _ descriptor board.pool a.pool b.pool answer stores.takes;
   }
 
@@ -96,6 +96,6 @@ module _ (rules : Rules) (board : Locks) (a b : Parts) where
   pub goes_looks : {A : Type 0} (right : Pooled → A → Type 0) (answer : A) → Looks rules board a b right answer
       → Goes a b
   goes_looks right answer looks = record {
-    station = is_there a.station b.station looks.station;
+    state = is_there a.state b.state looks.state;
     pool = reading_there _ _ right board.pool a.pool b.pool answer looks.takes;
   }

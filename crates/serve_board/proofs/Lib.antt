@@ -1,5 +1,5 @@
 pub mod Standing
-pub mod Stations
+pub mod PeriodStates
 pub mod Stocks
 pub mod Told
 pub mod Places

@@ -11,12 +11,12 @@ use Rattle.serve_board.specs.Boards.{Locks, Parts, IsAt}
 
 module _ (board : Locks) (passes : List Parts) (at : All (IsAt board) passes) where
   -- the parts of passes of the board are passes of its locks
-  pub stations_of : (parts : List (Knowledge State Entry)) → parts ≡ map (λ (p : Parts). p.station) passes
-      → AreOf board.station parts
-  stations_of parts is =
-      All-same (IsOf board.station) parts (map (λ (p : Parts). p.station) passes) is
-      (All-map (IsOf board.station) (λ (p : Parts). p.station) passes
-      (All-weaker (IsAt board) (λ (p : Parts). IsOf board.station p.station) (λ p here. here.station) passes at))
+  pub states_of : (parts : List (Knowledge State Entry)) → parts ≡ map (λ (p : Parts). p.state) passes
+      → AreOf board.state parts
+  states_of parts is =
+      All-same (IsOf board.state) parts (map (λ (p : Parts). p.state) passes) is
+      (All-map (IsOf board.state) (λ (p : Parts). p.state) passes
+      (All-weaker (IsAt board) (λ (p : Parts). IsOf board.state p.state) (λ p here. here.state) passes at))
 
   pub pools_of : (parts : List (Knowledge Pooled Descriptor)) → parts ≡ map (λ (p : Parts). p.pool) passes
       → AreOf board.pool parts

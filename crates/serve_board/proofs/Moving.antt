@@ -23,7 +23,7 @@ use Rattle.serve_board.specs.Boards.{Locks, Parts, answer_at}
 use Rattle.serve_board.specs.Events.{MovesThere, moved_entry}
 use Rattle.serve_board.specs.Turns.{Stands}
 use Rattle.serve_board.proofs.Standing.{event_told, reading_told}
-use Rattle.serve_board.proofs.Stations.{steps_there, stands_more}
+use Rattle.serve_board.proofs.PeriodStates.{steps_there, stands_more}
 use Rattle.serve_board.proofs.Told.{told_may}
 
 -- what is told is what was given, as the answer and the state tell
@@ -85,12 +85,12 @@ module _ (may_give : Relation) (rules : Rules) (now : ℕ) where
 
   module _ {R E : Type 0} (board : Locks) (before : Parts) (then : Knowledge State Entry)
       (answers : State → List Entry → R → E → Type 0) (entry : R → E → Option Entry) (reply : R) (event : E)
-      (turn : TakesTurn answers entry board.station before.station then reply event) (owns : OwnsItsPart then) where
+      (turn : TakesTurn answers entry board.state before.state then reply event) (owns : OwnsItsPart then) where
     -- a turn whose event advances is an advance of the pass, or a reading
     pub advance_told : (answer : Result Advance Memory) (new : State)
-        → MovesThere may_give rules now board.station.start (entries turn.story) answer new
+        → MovesThere may_give rules now board.state.start (entries turn.story) answer new
         → entry reply event ≡ moved_entry now answer new
-        → boards.Advances rules board before (record { station = then; pool = before.pool }) may_give now answer
+        → boards.Advances rules board before (record { state = then; pool = before.pool }) may_give now answer
     advance_told (Ok answer) new moves same = record {
       given = given_told answer new;
       makes = record {
@@ -98,10 +98,10 @@ module _ (may_give : Relation) (rules : Rules) (now : ℕ) where
           story = turn.story;
           longer = turn.longer;
           answer_is = moves.0.answer_is;
-          seen = turn.seen ∙ ap (λ (x : Option Entry). turn.story ++ entry_by before.station.number x) same;
-          mine = turn.mine ∙ ap (λ (x : Option Entry). before.station.mine ++ entry_by before.station.number x) same;
+          seen = turn.seen ∙ ap (λ (x : Option Entry). turn.story ++ entry_by before.state.number x) same;
+          mine = turn.mine ∙ ap (λ (x : Option Entry). before.state.mine ++ entry_by before.state.number x) same;
           is_story =
-              (event_told after (IsCheckedHistory rules) board.station before.station then answers entry reply event turn
+              (event_told after (IsCheckedHistory rules) board.state before.state then answers entry reply event turn
               answer_at entry_if (Advanced now (given_told answer new)) (Moment answer) moves.0 same owns).is_story;
           owns = owns;
           number = turn.number;
@@ -113,7 +113,7 @@ module _ (may_give : Relation) (rules : Rules) (now : ℕ) where
     }
     advance_told (Err fault) new moves same = record {
       takes =
-          reading_told after (IsCheckedHistory rules) board.station before.station then answers entry reply event turn
+          reading_told after (IsCheckedHistory rules) board.state before.state then answers entry reply event turn
           (λ state answer. Unit {0}) fault (record { right_there = tt; is_story = moves }) same owns;
       pool = refl;
     }

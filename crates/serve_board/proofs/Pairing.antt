@@ -57,36 +57,36 @@ module _ {S X : Type 0} (lock : Lock S) where
       }
 
 -- passes of one number are a pair
-pub pair_of : (station : Lock State) (pool : Lock Pooled) (n : ℕ) (here : Knowledge State Entry)
-    (there : Knowledge Pooled Descriptor) → here ≡ newcomer station n → there ≡ newcomer pool n
-    → IsPair station pool (record { station = here; pool = there })
-pair_of station pool n here there h t =
+pub pair_of : (state : Lock State) (pool : Lock Pooled) (n : ℕ) (here : Knowledge State Entry)
+    (there : Knowledge Pooled Descriptor) → here ≡ newcomer state n → there ≡ newcomer pool n
+    → IsPair state pool (record { state = here; pool = there })
+pair_of state pool n here there h t =
     let number : here.number ≡ n = ap (λ (k : Knowledge State Entry). k.number) h in
     record {
-      here = h ∙ ap (λ (m : ℕ). newcomer station m) (sym number);
+      here = h ∙ ap (λ (m : ℕ). newcomer state m) (sym number);
       there = t ∙ ap (λ (m : ℕ). newcomer pool m) (sym number);
     }
 
 -- the number of one pass more is below all others'
-pub numbers_above : (n count : ℕ) (passes : List Parts) (new : Parts) → new.station.number ≡ n → count ≡ n + 1
-    → All (λ pass. count ≤ pass.station.number) passes → All (λ pass. n ≤ pass.station.number) (passes ++ new ∷ [])
+pub numbers_above : (n count : ℕ) (passes : List Parts) (new : Parts) → new.state.number ≡ n → count ≡ n + 1
+    → All (λ pass. count ≤ pass.state.number) passes → All (λ pass. n ≤ pass.state.number) (passes ++ new ∷ [])
 numbers_above n count passes new is one above =
-    All-push (λ (pass : Parts). n ≤ pass.station.number) passes new
-    (All-weaker (λ (pass : Parts). count ≤ pass.station.number) (λ (pass : Parts). n ≤ pass.station.number)
+    All-push (λ (pass : Parts). n ≤ pass.state.number) passes new
+    (All-weaker (λ (pass : Parts). count ≤ pass.state.number) (λ (pass : Parts). n ≤ pass.state.number)
     (λ pass below. omega (arith, below, one)) passes above)
     (omega (arith, is))
 
 -- and differs from them
-pub numbers_differ : (n count : ℕ) (passes : List Parts) (new : Parts) → new.station.number ≡ n → count ≡ n + 1
-    → All (λ pass. count ≤ pass.station.number) passes → DifferInNumber passes → DifferInNumber (passes ++ new ∷ [])
+pub numbers_differ : (n count : ℕ) (passes : List Parts) (new : Parts) → new.state.number ≡ n → count ≡ n + 1
+    → All (λ pass. count ≤ pass.state.number) passes → DifferInNumber passes → DifferInNumber (passes ++ new ∷ [])
 numbers_differ n count passes new is one above differ =
-    all_pairs_push (λ (a b : Parts). a.station.number ≢ b.station.number) passes new differ
+    all_pairs_push (λ (a b : Parts). a.state.number ≢ b.state.number) passes new differ
     (λ k d below same. absurd (omega (arith, above k d below, same, is, one)))
 
 -- a pair of new passes is a pass of the board
-of_pair : (board : Locks) (pass : Parts) → IsPair board.station board.pool pass → IsAt board pass
+of_pair : (board : Locks) (pass : Parts) → IsPair board.state board.pool pass → IsAt board pass
 of_pair board pass pair = record {
-  station =
+  state =
       (ap (λ (k : Knowledge State Entry). k.table) pair.here, ap (λ (k : Knowledge State Entry). k.start) pair.here);
   pool = (
     ap (λ (k : Knowledge Pooled Descriptor). k.table) pair.there,
@@ -94,7 +94,7 @@ of_pair board pass pair = record {
   );
 }
 
-pub are_at : (board : Locks) (passes : List Parts) → All (IsPair board.station board.pool) passes
+pub are_at : (board : Locks) (passes : List Parts) → All (IsPair board.state board.pool) passes
     → All (IsAt board) passes
 are_at board passes pairs =
-    All-weaker (IsPair board.station board.pool) (IsAt board) (of_pair board) passes pairs
+    All-weaker (IsPair board.state board.pool) (IsAt board) (of_pair board) passes pairs

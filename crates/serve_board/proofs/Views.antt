@@ -21,10 +21,10 @@ module _ (inside board : Locks) (parts before : Parts) (b : inside ≡ board) (p
 
   module _ (at : IsAt board before) where
     -- a pass of the board has passes of its locks inside
-    pub station_of : IsOf inside.station parts.station
-    station_of =
-        subst (λ (l : Locks). IsOf l.station parts.station) (sym b)
-        (subst (λ (q : Parts). IsOf board.station q.station) (sym p) at.station)
+    pub state_of : IsOf inside.state parts.state
+    state_of =
+        subst (λ (l : Locks). IsOf l.state parts.state) (sym b)
+        (subst (λ (q : Parts). IsOf board.state q.state) (sym p) at.state)
 
     pub pool_of : IsOf inside.pool parts.pool
     pool_of =
@@ -32,51 +32,51 @@ module _ (inside board : Locks) (parts before : Parts) (b : inside ≡ board) (p
         (subst (λ (q : Parts). IsOf board.pool q.pool) (sym p) at.pool)
 
     -- where one part goes on and is of the board, the pass is
-    pub at_station : (then : Knowledge State Entry) → IsOf inside.station then
-        → IsAt board (record { station = then; pool = parts.pool })
-    at_station then of = record {
-      station = subst (λ (l : Locks). IsOf l.station then) b of;
+    pub at_state : (then : Knowledge State Entry) → IsOf inside.state then
+        → IsAt board (record { state = then; pool = parts.pool })
+    at_state then of = record {
+      state = subst (λ (l : Locks). IsOf l.state then) b of;
       pool = subst (λ (q : Parts). IsOf board.pool q.pool) (sym p) at.pool;
     }
 
     pub at_pool : (then : Knowledge Pooled Descriptor) → IsOf inside.pool then
-        → IsAt board (record { station = parts.station; pool = then })
+        → IsAt board (record { state = parts.state; pool = then })
     at_pool then of = record {
-      station = subst (λ (q : Parts). IsOf board.station q.station) (sym p) at.station;
+      state = subst (λ (q : Parts). IsOf board.state q.state) (sym p) at.state;
       pool = subst (λ (l : Locks). IsOf l.pool then) b of;
     }
 
   module _ (rules : Rules) where
     -- an event or a reading of a part is one of the pass
     pub makes : (then : Knowledge State Entry) (event : Event) (answer : Answer)
-        → TakesEvent after (IsCheckedHistory rules) answer_at entry_if event inside.station parts.station then answer
-        → Makes rules board before (record { station = then; pool = parts.pool }) event answer
+        → TakesEvent after (IsCheckedHistory rules) answer_at entry_if event inside.state parts.state then answer
+        → Makes rules board before (record { state = then; pool = parts.pool }) event answer
     makes then event answer takes =
         seen_as
-        (λ (l : Locks) (q : Parts). Makes rules l q (record { station = then; pool = parts.pool }) event answer)
+        (λ (l : Locks) (q : Parts). Makes rules l q (record { state = then; pool = parts.pool }) event answer)
         (record { takes = takes; pool = refl })
 
     pub sees : {A : Type 0} (then : Knowledge State Entry) (right : State → A → Type 0) (answer : A)
-        → TakesReading after (IsCheckedHistory rules) right inside.station parts.station then answer
-        → Sees rules board before (record { station = then; pool = parts.pool }) right answer
+        → TakesReading after (IsCheckedHistory rules) right inside.state parts.state then answer
+        → Sees rules board before (record { state = then; pool = parts.pool }) right answer
     sees then right answer takes =
         seen_as
-        (λ (l : Locks) (q : Parts). Sees rules l q (record { station = then; pool = parts.pool }) right answer)
+        (λ (l : Locks) (q : Parts). Sees rules l q (record { state = then; pool = parts.pool }) right answer)
         (record { takes = takes; pool = refl })
 
     pub stores : (then : Knowledge Pooled Descriptor) (descriptor : Descriptor) (answer : Keep)
         → TakesEvent stock_after (AreKept rules) answer_to kept_if descriptor inside.pool parts.pool then answer
-        → Stores rules board before (record { station = parts.station; pool = then }) descriptor answer
+        → Stores rules board before (record { state = parts.state; pool = then }) descriptor answer
     stores then descriptor answer takes =
         seen_as
-        (λ (l : Locks) (q : Parts). Stores rules l q (record { station = parts.station; pool = then }) descriptor
+        (λ (l : Locks) (q : Parts). Stores rules l q (record { state = parts.state; pool = then }) descriptor
         answer)
-        (record { takes = takes; station = refl })
+        (record { takes = takes; state = refl })
 
     pub looks : {A : Type 0} (then : Knowledge Pooled Descriptor) (right : Pooled → A → Type 0) (answer : A)
         → TakesReading stock_after (AreKept rules) right inside.pool parts.pool then answer
-        → Looks rules board before (record { station = parts.station; pool = then }) right answer
+        → Looks rules board before (record { state = parts.state; pool = then }) right answer
     looks then right answer takes =
         seen_as
-        (λ (l : Locks) (q : Parts). Looks rules l q (record { station = parts.station; pool = then }) right answer)
-        (record { takes = takes; station = refl })
+        (λ (l : Locks) (q : Parts). Looks rules l q (record { state = parts.state; pool = then }) right answer)
+        (record { takes = takes; state = refl })

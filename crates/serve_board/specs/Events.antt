@@ -60,7 +60,7 @@ kept_entry None answer = None
 kept_entry (Some descriptor) None = None
 kept_entry (Some descriptor) (Some answer) = kept_if descriptor answer
 
--- the entry of the event that advances a station, as the answer and the state after it tell
+-- the entry of the event that advances a state, as the answer and the state after it tell
 abbrev pub moved_entry : ℕ → Result Advance Memory → State → Option Entry
 moved_entry now (Ok answer) then = entry_if (Advanced now (given_told answer then)) (Moment answer)
 moved_entry now (Err fault) then = None

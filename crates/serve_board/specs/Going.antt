@@ -12,5 +12,5 @@ pub record GoesOn {S X : Type 0} (before then : Knowledge S X) : Type 0 where
 
 -- A pass has gone on at both locks.
 pub record Goes (before then : Parts) : Type 0 where
-  pub station : GoesOn before.station then.station
+  pub state : GoesOn before.state then.state
   pub pool : GoesOn before.pool then.pool

@@ -7,11 +7,11 @@ ghost use Rattle.period_terms.specs.declared.event.Event.TheVariants as events;
 ghost use Rattle.serve_board.specs.Boards.{Advances, IsAt, IsNew, IsPlace, Looks, Makes, Sees, Stores, position_of_offer, position_of_sign_in};
 ghost use Rattle.serve_board.specs.Passes.{DifferInNumber};
 
-use crate::advancing::AdvanceStation;
+use crate::advancing::AdvancePeriodState;
 use crate::opening::pair;
 use crate::pass::Pass;
 use crate::period::Period;
-use crate::question::{AskPool, AskStation, Question};
+use crate::question::{AskPool, AskPeriodState, Question};
 use crate::reserve::{KeepEntry, Reserve};
 use crate::signing::OfferSignature;
 use crate::voting::OfferVote;
@@ -19,7 +19,7 @@ use count_terms::Newest;
 use dir_bytes::Memory;
 use dir_values::{Fingerprint, Roster};
 use key_port::{Signer, Verifier};
-use period_core::Station;
+use period_core::PeriodState;
 use period_lock::Shared;
 use period_terms::{Advance, CheckedSig, Offer, SignIn, Via};
 use std::alloc::Global;
@@ -28,11 +28,11 @@ use std::sync::Wait;
 use vote_doc::CheckedVote;
 use vote_pool::{Keep, Pool, PoolEntry};
 
-/// A station and a pool of descriptors, each under its own lock. Beside the locks stand the roster, the own identity and the
+/// A state and a pool of descriptors, each under its own lock. Beside the locks stand the roster, the own identity and the
 /// newest consensus method that is known, which no event changes.
 #[derive(Drop)]
 pub struct Board<V: Verifier> {
-    pub(crate) station: Shared<Period<V>>,
+    pub(crate) state: Shared<Period<V>>,
     pub(crate) pool: Shared<Reserve<V>>,
     pub(crate) roster: Roster,
     pub(crate) own: Fingerprint,
@@ -45,10 +45,10 @@ impl<V: Verifier> Model for Board<V> {
 
     ghost Value = { Locks };
 
-    ghost view = { λ b. record { station = b.station; pool = b.pool } };
+    ghost view = { λ b. record { state = b.state; pool = b.pool } };
 
-    ghost invariant = { λ b. (b.roster ≡ b.station.start.roster) × (b.own ≡ b.station.start.own)
-        × (b.newest ≡ b.station.start.newest) };
+    ghost invariant = { λ b. (b.roster ≡ b.state.start.roster) × (b.own ≡ b.state.start.own)
+        × (b.newest ≡ b.state.start.newest) };
 }
 
 impl<V: Verifier> Board<V> {
@@ -59,26 +59,26 @@ impl<V: Verifier> Board<V> {
     /// `Memory` is want of memory.
     pub fn new(
         alloc: Global,
-        station: Station<V>,
+        state: PeriodState<V>,
         pool: Pool<V>,
         passes: u32,
     ) -> Result<(Board<V>, Vec<Pass<V>>), Memory>
         requires { 0 < passes }
-        ensures start { IfOk result (λ r. (r.0.station.start ≡ station) × (r.0.pool.start ≡ pool)) }
-        ensures passes { IfOk result (λ r. (r.0.station.passes ≡ passes) × (r.0.pool.passes ≡ passes) × (length r.1.items ≡ passes)) }
+        ensures start { IfOk result (λ r. (r.0.state.start ≡ state) × (r.0.pool.start ≡ pool)) }
+        ensures passes { IfOk result (λ r. (r.0.state.passes ≡ passes) × (r.0.pool.passes ≡ passes) × (length r.1.items ≡ passes)) }
         ensures new { IfOk result (λ r. All (IsNew r.0) r.1.items) }
         ensures numbers { IfOk result (λ r. DifferInNumber r.1.items) }
         ensures at { IfOk result (λ r. All (IsAt r.0) r.1.items) }
     {
-        let roster = station.roster().copy(alloc)?;
-        let own = station.own();
-        let newest = station.newest();
+        let roster = state.roster().copy(alloc)?;
+        let own = state.own();
+        let newest = state.newest();
         let room = Vec::with_capacity(alloc, passes as usize)?;
-        let (station, stations) = Shared::new(alloc, Period { station }, passes)?;
+        let (state, states) = Shared::new(alloc, Period { period_state: state }, passes)?;
         let (pool, pools) = Shared::new(alloc, Reserve { pool }, passes)?;
-        let paired = pair(&station, &pool, stations, pools, room);
+        let paired = pair(&state, &pool, states, pools, room);
         let board = Board {
-            station,
+            state,
             pool,
             roster,
             own,
@@ -89,21 +89,21 @@ impl<V: Verifier> Board<V> {
 
     /// The authorities that the consensus is of.
     pub fn roster(&self) -> &Roster
-        ensures { result.now ≡ self.now.station.start.roster }
+        ensures { result.now ≡ self.now.state.start.roster }
     {
         &self.roster
     }
 
     /// The authority itself.
     pub fn own(&self) -> Fingerprint
-        ensures { result ≡ self.now.station.start.own }
+        ensures { result ≡ self.now.state.start.own }
     {
         self.own
     }
 
     /// The newest consensus method that the authority knows.
     pub fn newest(&self) -> Newest
-        ensures { result ≡ self.now.station.start.newest }
+        ensures { result ≡ self.now.state.start.newest }
     {
         self.newest
     }
@@ -131,7 +131,7 @@ impl<V: Verifier> Board<V> {
             via,
             now,
         };
-        match self.station.turn(rt, &mut pass.station, &mut event) {
+        match self.state.turn(rt, &mut pass.state, &mut event) {
             Some(answer) => answer,
             None => unreachable!(),
         }
@@ -148,13 +148,13 @@ impl<V: Verifier> Board<V> {
         let mut event = OfferSignature {
             signature: Some(signature),
         };
-        match self.station.turn(rt, &mut pass.station, &mut event) {
+        match self.state.turn(rt, &mut pass.state, &mut event) {
             Some(answer) => answer,
             None => unreachable!(),
         }
     }
 
-    /// Advances the station by one step, if the moment brings one.
+    /// Advances the state by one step, if the moment brings one.
     ///
     /// # Errors
     /// `Memory` is want of memory, and then nothing was changed.
@@ -175,18 +175,18 @@ impl<V: Verifier> Board<V> {
         ensures verifier_fault { result ≡ Ok Advance.VerifierFault → Rose (V.faults verifier.old) (V.faults verifier.new) }
         ensures verifier_faults { V.faults verifier.old ≤ V.faults verifier.new }
     {
-        let mut event = AdvanceStation {
+        let mut event = AdvancePeriodState {
             alloc,
             now,
             signer,
             verifier,
         };
-        let (answer, _) = self.station.turn(rt, &mut pass.station, &mut event);
+        let (answer, _) = self.state.turn(rt, &mut pass.state, &mut event);
         answer
     }
 
-    /// Asks a question of the station, which changes nothing there, and gives the question back.
-    pub fn ask<R: Wait, Q: Question<Station<V>>>(
+    /// Asks a question of the state, which changes nothing there, and gives the question back.
+    pub fn ask<R: Wait, Q: Question<PeriodState<V>>>(
         &self,
         rt: &R,
         pass: &mut Pass<V>,
@@ -197,8 +197,8 @@ impl<V: Verifier> Board<V> {
             (λ state answer. Q.finds question state answer result.1) result.0 }
         ensures at { IsAt self.now pass.new }
     {
-        let mut event = AskStation { question };
-        let reply = self.station.turn(rt, &mut pass.station, &mut event);
+        let mut event = AskPeriodState { question };
+        let reply = self.state.turn(rt, &mut pass.state, &mut event);
         (reply, event.question)
     }
 

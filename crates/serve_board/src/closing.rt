@@ -9,14 +9,14 @@ use crate::period::Period;
 use crate::reserve::Reserve;
 use dir_bytes::Memory;
 use key_port::Verifier;
-use period_core::Station;
+use period_core::PeriodState;
 use std::alloc::Global;
 use vote_pool::Pool;
 
 /// Room for the passes of both locks, which is taken before they are made use of: closing takes no memory.
 #[derive(Drop)]
 pub struct Rooms<V: Verifier> {
-    pub(crate) stations: Vec<period_lock::Pass<Period<V>>>,
+    pub(crate) states: Vec<period_lock::Pass<Period<V>>>,
     pub(crate) pools: Vec<period_lock::Pass<Reserve<V>>>,
 }
 
@@ -26,11 +26,11 @@ impl<V: Verifier> Rooms<V> {
     /// # Errors
     /// `Memory` is want of memory.
     pub fn new(alloc: Global, passes: usize) -> Result<Rooms<V>, Memory>
-        ensures empty { IfOk result (λ r. (r.stations.items ≡ []) × (r.pools.items ≡ [])) }
-        ensures room { IfOk result (λ r. (passes ≤ vec_capacity r.stations) × (passes ≤ vec_capacity r.pools)) }
+        ensures empty { IfOk result (λ r. (r.states.items ≡ []) × (r.pools.items ≡ [])) }
+        ensures room { IfOk result (λ r. (passes ≤ vec_capacity r.states) × (passes ≤ vec_capacity r.pools)) }
     {
         Ok(Rooms {
-            stations: Vec::with_capacity(alloc, passes)?,
+            states: Vec::with_capacity(alloc, passes)?,
             pools: Vec::with_capacity(alloc, passes)?,
         })
     }
@@ -38,46 +38,46 @@ impl<V: Verifier> Rooms<V> {
 
 /// The passes of each lock, in their order, without memory.
 fn part<V: Verifier>(passes: Vec<Pass<V>>, rooms: Rooms<V>) -> Rooms<V>
-    requires empty { (rooms.stations.items ≡ []) × (rooms.pools.items ≡ []) }
-    requires room { (length passes.items ≤ vec_capacity rooms.stations) × (length passes.items ≤ vec_capacity rooms.pools) }
-    ensures stations { result.stations.items ≡ map (λ p. p.station) passes.items }
+    requires empty { (rooms.states.items ≡ []) × (rooms.pools.items ≡ []) }
+    requires room { (length passes.items ≤ vec_capacity rooms.states) × (length passes.items ≤ vec_capacity rooms.pools) }
+    ensures states { result.states.items ≡ map (λ p. p.state) passes.items }
     ensures pools { result.pools.items ≡ map (λ p. p.pool) passes.items }
 {
     let Rooms {
-        mut stations,
+        mut states,
         mut pools,
     } = rooms;
     for pass in passes {
-        let Pass { station, pool } = pass;
-        stations.push_reserved(station);
+        let Pass { state, pool } = pass;
+        states.push_reserved(state);
         pools.push_reserved(pool);
     }
-    Rooms { stations, pools }
+    Rooms { states, pools }
 }
 
 impl<V: Verifier> Board<V> {
-    /// The station and the pool, where all passes have come back.
-    pub fn close(self, passes: Vec<Pass<V>>, rooms: Rooms<V>) -> (Station<V>, Pool<V>)
+    /// The state and the pool, where all passes have come back.
+    pub fn close(self, passes: Vec<Pass<V>>, rooms: Rooms<V>) -> (PeriodState<V>, Pool<V>)
         requires at { All (IsAt self) passes.items }
-        requires all { (self.station.passes ≤ length passes.items) × (self.pool.passes ≤ length passes.items) }
-        requires empty { (rooms.stations.items ≡ []) × (rooms.pools.items ≡ []) }
-        requires room { (length passes.items ≤ vec_capacity rooms.stations) × (length passes.items ≤ vec_capacity rooms.pools) }
+        requires all { (self.state.passes ≤ length passes.items) × (self.pool.passes ≤ length passes.items) }
+        requires empty { (rooms.states.items ≡ []) × (rooms.pools.items ≡ []) }
+        requires room { (length passes.items ≤ vec_capacity rooms.states) × (length passes.items ≤ vec_capacity rooms.pools) }
         ensures { Leaves (rules V.may_accept V.may_refuse) self passes.items result.0 result.1 }
     {
-        let Rooms { stations, pools } = part(passes, rooms);
+        let Rooms { states, pools } = part(passes, rooms);
         let Board {
-            station,
+            state,
             pool,
             roster: _,
             own: _,
             newest: _,
         } = self;
-        let Ok(period) = station.close(stations) else {
+        let Ok(period) = state.close(states) else {
             unreachable!()
         };
         let Ok(reserve) = pool.close(pools) else {
             unreachable!()
         };
-        (period.station, reserve.pool)
+        (period.period_state, reserve.pool)
     }
 }

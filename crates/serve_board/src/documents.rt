@@ -1,4 +1,4 @@
-// What is read of the station under its lock.
+// What is read of the state under its lock.
 ghost use Rattle.std.specs.Prelude.{◌≡◌, MatchResult, option_map};
 ghost use Rattle.key_port.specs.Answers.{rules};
 ghost use Rattle.period_core.specs.Views as views;
@@ -11,7 +11,7 @@ use crate::question::Question;
 use consensus_terms::Flavour;
 use dir_bytes::{Memory, Text};
 use key_port::Verifier;
-use period_core::Station;
+use period_core::PeriodState;
 use period_terms::{Name, PeriodView};
 use std::alloc::Global;
 use std::sync::Wait;
@@ -20,12 +20,12 @@ use std::sync::Wait;
 #[derive(Drop)]
 struct AskValidAfter;
 
-impl<V: Verifier> Question<Station<V>> for AskValidAfter {
+impl<V: Verifier> Question<PeriodState<V>> for AskValidAfter {
     type Reply = u64;
 
     ghost finds = { λ before state reply then. reply ≡ state.valid_after };
 
-    fn ask(&mut self, value: &Station<V>) -> u64 {
+    fn ask(&mut self, value: &PeriodState<V>) -> u64 {
         value.valid_after()
     }
 }
@@ -36,12 +36,12 @@ struct AskView {
     alloc: Global,
 }
 
-impl<V: Verifier> Question<Station<V>> for AskView {
+impl<V: Verifier> Question<PeriodState<V>> for AskView {
     type Reply = Result<Option<PeriodView>, Memory>;
 
     ghost finds = { λ before state reply then. MatchResult reply (λ view. view ≡ views.view_of state) (λ _. Unit {0}) };
 
-    fn ask(&mut self, value: &Station<V>) -> Result<Option<PeriodView>, Memory> {
+    fn ask(&mut self, value: &PeriodState<V>) -> Result<Option<PeriodView>, Memory> {
         value.view(self.alloc)
     }
 }
@@ -53,12 +53,12 @@ struct AskDocument {
     name: Name,
 }
 
-impl<V: Verifier> Question<Station<V>> for AskDocument {
+impl<V: Verifier> Question<PeriodState<V>> for AskDocument {
     type Reply = Result<Option<Text>, Memory>;
 
     ghost finds = { λ before state reply then. MatchResult reply (λ text. text ≡ readings.document_of state before.name) (λ _. Unit {0}) };
 
-    fn ask(&mut self, value: &Station<V>) -> Result<Option<Text>, Memory> {
+    fn ask(&mut self, value: &PeriodState<V>) -> Result<Option<Text>, Memory> {
         match value.document(&self.name) {
             Some(bytes) => Ok(Some(Text::copy_of(self.alloc, bytes)?)),
             None => Ok(None),
@@ -73,13 +73,13 @@ struct AskNextConsensus {
     flavour: Flavour,
 }
 
-impl<V: Verifier> Question<Station<V>> for AskNextConsensus {
+impl<V: Verifier> Question<PeriodState<V>> for AskNextConsensus {
     type Reply = Result<Option<Text>, Memory>;
 
     ghost finds = { λ before state reply then.
         MatchResult reply (λ text. text ≡ readings.next_consensus_of before.flavour state) (λ _. Unit {0}) };
 
-    fn ask(&mut self, value: &Station<V>) -> Result<Option<Text>, Memory> {
+    fn ask(&mut self, value: &PeriodState<V>) -> Result<Option<Text>, Memory> {
         value.next_consensus(self.alloc, self.flavour)
     }
 }

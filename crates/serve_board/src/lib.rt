@@ -1,4 +1,4 @@
-//! The board that workers share: a station and a pool of descriptors, each under its own lock. What is said of a board
+//! The board that workers share: a state and a pool of descriptors, each under its own lock. What is said of a board
 //! that workers share, and of its passes: in `specs/` the definitions, in `proofs/` what its calls will cite. Laws of
 //! passes of a board: how a pass goes on by what it makes and sees. In `specs/` the definitions, in `proofs/` the laws.
 #![tactic(auto)]

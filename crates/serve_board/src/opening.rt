@@ -12,30 +12,30 @@ use period_lock::Shared;
 
 /// Pairs of passes with one number at both locks, the last number first, without memory.
 pub(crate) fn pair<V: Verifier>(
-    station: &Shared<Period<V>>,
+    state: &Shared<Period<V>>,
     pool: &Shared<Reserve<V>>,
-    stations: Vec<period_lock::Pass<Period<V>>>,
+    states: Vec<period_lock::Pass<Period<V>>>,
     pools: Vec<period_lock::Pass<Reserve<V>>>,
     room: Vec<Pass<V>>,
 ) -> Vec<Pass<V>>
-    requires stations { AreDealt station.now (length stations.items) stations.items }
-    requires pools { AreDealt pool.now (length stations.items) pools.items }
+    requires states { AreDealt state.now (length states.items) states.items }
+    requires pools { AreDealt pool.now (length states.items) pools.items }
     requires empty { room.items ≡ [] }
-    requires room { length stations.items ≤ vec_capacity room }
-    ensures count { length result.items ≡ length stations.items }
-    ensures pairs { All (IsPair station.now pool.now) result.items }
+    requires room { length states.items ≤ vec_capacity room }
+    ensures count { length result.items ≡ length states.items }
+    ensures pairs { All (IsPair state.now pool.now) result.items }
     ensures numbers { DifferInNumber result.items }
 {
-    let _ = station;
+    let _ = state;
     let _ = pool;
-    let mut stations = stations;
+    let mut states = states;
     let mut pools = pools;
     let mut passes = room;
-    'passes: while let Some(station) = stations.pop() {
+    'passes: while let Some(state) = states.pop() {
         let Some(pool) = pools.pop() else {
             unreachable!()
         };
-        passes.push_reserved(Pass { station, pool });
+        passes.push_reserved(Pass { state, pool });
     }
     passes
 }

@@ -10,7 +10,7 @@ use std::marker::Model;
 /// The right to make events at a board: a pass of each of its locks. Contracts see what it knows of both.
 #[derive(Drop)]
 pub struct Pass<V: Verifier> {
-    pub(crate) station: period_lock::Pass<Period<V>>,
+    pub(crate) state: period_lock::Pass<Period<V>>,
     pub(crate) pool: period_lock::Pass<Reserve<V>>,
 }
 
@@ -19,14 +19,14 @@ impl<V: Verifier> Model for Pass<V> {
 
     ghost Value = { Parts };
 
-    ghost view = { λ p. record { station = p.station; pool = p.pool } };
+    ghost view = { λ p. record { state = p.state; pool = p.pool } };
 }
 
 impl<V: Verifier> Pass<V> {
-    /// The greatest front of the station that the pass has seen.
+    /// The greatest front of the state that the pass has seen.
     pub fn front(&self) -> u64
-        ensures { (start : State) → self.now.station.start ≡ Some start → result ≡ start.front + length self.now.station.seen }
+        ensures { (start : State) → self.now.state.start ≡ Some start → result ≡ start.front + length self.now.state.seen }
     {
-        self.station.front()
+        self.state.front()
     }
 }

@@ -9,7 +9,7 @@ ghost use Rattle.serve_board.specs.Turns.{FindsThere};
 use crate::period::Period;
 use crate::reserve::Reserve;
 use key_port::Verifier;
-use period_core::Station;
+use period_core::PeriodState;
 use period_lock::Event;
 use vote_pool::Pool;
 
@@ -25,13 +25,13 @@ pub trait Question<T> {
         ensures { finds self.old value.now result self.new };
 }
 
-/// A question is asked of a station.
+/// A question is asked of a state.
 #[derive(Drop)]
-pub(crate) struct AskStation<Q> {
+pub(crate) struct AskPeriodState<Q> {
     pub(crate) question: Q,
 }
 
-impl<V: Verifier, Q: Question<Station<V>>> Event<Period<V>> for AskStation<Q> {
+impl<V: Verifier, Q: Question<PeriodState<V>>> Event<Period<V>> for AskPeriodState<Q> {
     type Reply = Q::Reply;
 
     ghost answers = { λ before start story reply event.
@@ -41,7 +41,7 @@ impl<V: Verifier, Q: Question<Station<V>>> Event<Period<V>> for AskStation<Q> {
     ghost entry_of = { λ before reply event. None };
 
     fn apply(&mut self, state: &mut Period<V>) -> Q::Reply {
-        self.question.ask(&state.station)
+        self.question.ask(&state.period_state)
     }
 }
 

@@ -27,7 +27,7 @@ impl<V: Verifier> Event<Period<V>> for OfferSignature<V> {
             Some(signature) => {
                 let _ = signature.signature();
                 let _ = signature.key_digest();
-                Some(state.station.sign_in(signature))
+                Some(state.period_state.sign_in(signature))
             }
             None => None,
         }

@@ -29,7 +29,7 @@ impl<V: Verifier> Event<Period<V>> for OfferVote<V> {
         match self.vote.take() {
             Some(vote) => {
                 let _ = vote.vote();
-                Some(state.station.offer(vote, self.via, self.now))
+                Some(state.period_state.offer(vote, self.via, self.now))
             }
             None => None,
         }

@@ -80,8 +80,8 @@ is_start roster own newest schedule now state members times starts = rw starts.1
 pub is_opened : (rules : Rules) (now : ℕ) (bytes : List ℕ) (count : ℕ) (given : StationFacts) (used : ℕ)
     (schedule : Schedule) (start : State) (pool : Pooled) (rulings : List OperatorRule) (board : Locks)
     (passes : List Parts) → CanBeginBy rules now given used bytes schedule pool → IsStartOf given now start
-    → IsStart start → RuleAlike given.rules rulings → (board.station.start ≡ start) × (board.pool.start ≡ pool)
-    → (board.station.passes ≡ count) × (board.pool.passes ≡ count) × (length passes ≡ count)
+    → IsStart start → RuleAlike given.rules rulings → (board.state.start ≡ start) × (board.pool.start ≡ pool)
+    → (board.state.passes ≡ count) × (board.pool.passes ≡ count) × (length passes ≡ count)
     → All (IsNew board) passes → All (IsAt board) passes
     → IsOpened rules now given used bytes count rulings board passes
 is_opened rules now bytes count given used schedule start pool rulings board passes can starts begins alike begun counts
@@ -94,7 +94,7 @@ is_opened rules now bytes count given used schedule start pool rulings board pas
       new = new;
       length_is = counts.2;
       at = at;
-      stations = omega (arith, counts.0, counts.2);
+      states = omega (arith, counts.0, counts.2);
       pools = omega (arith, counts.1, counts.2);
     }
 
@@ -114,8 +114,8 @@ is_ready rules from newest now bytes count given used rulings board passes reads
         is_start = opened.is_start;
       };
       alike = opened.alike;
-      is_board = record { station = refl; pool = refl; new = opened.new; length_is = opened.length_is };
+      is_board = record { state = refl; pool = refl; new = opened.new; length_is = opened.length_is };
       at = opened.at;
-      stations = opened.stations;
+      states = opened.states;
       pools = opened.pools;
     }

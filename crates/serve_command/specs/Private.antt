@@ -42,17 +42,17 @@ pub record IsOpened (rules : Rules) (now : ℕ) (given : StationFacts) (used : �
     (rulings : List OperatorRule) (board : Locks) (passes : List Parts) : Type 0 where
   pub alike : RuleAlike given.rules rulings
   pub begins : CanBegin rules now given used bytes board.pool.start
-  pub start_is : IsStartOf given now board.station.start
-  pub is_start : IsStart board.station.start
+  pub start_is : IsStartOf given now board.state.start
+  pub is_start : IsStart board.state.start
   pub new : All (IsNew board) passes
   pub length_is : length passes ≡ count
   pub at : All (IsAt board) passes
-  pub stations : board.station.passes ≤ length passes
+  pub states : board.state.passes ≤ length passes
   pub pools : board.pool.passes ≤ length passes
 
 -- what an authority of this station starts with, whose board this is
 abbrev pub starting_of : StationFacts → Locks → Starting
-starting_of given board = record { given = given; start = board.station.start; pool = board.pool.start }
+starting_of given board = record { given = given; start = board.state.start; pool = board.pool.start }
 
 -- Station, rulings, board and passes are of an authority that starts as the input has it, and all passes of the board are
 -- there.
@@ -62,5 +62,5 @@ pub record IsReady (rules : Rules) (from : Measures) (newest : Newest) (now : �
   pub alike : RuleAlike given.rules rulings
   pub is_board : IsBoardOf (starting_of given board) count board passes
   pub at : All (IsAt board) passes
-  pub stations : board.station.passes ≤ length passes
+  pub states : board.state.passes ≤ length passes
   pub pools : board.pool.passes ≤ length passes

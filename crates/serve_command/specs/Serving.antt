@@ -29,7 +29,7 @@ pub record HasWorkers {S K E C V N G L : Type 0} (outside : Outside S K E C V N 
 
 -- These are a board of what an authority starts with, and new passes of it, so many.
 pub record IsBoardOf (its : Starting) (count : ℕ) (board : Locks) (passes : List Parts) : Type 0 where
-  pub station : board.station.start ≡ its.start
+  pub state : board.state.start ≡ its.start
   pub pool : board.pool.start ≡ its.pool
   pub new : All (IsNew board) passes
   pub length_is : length passes ≡ count

@@ -39,7 +39,7 @@ fn serve_ready<
     outside: &mut Outside<S, K, E, C, V, N, G, L>,
 ) -> Served
     requires at { All (IsAt ready.board) ready.passes.items }
-    requires all { (ready.board.station.passes ≤ length ready.passes.items)
+    requires all { (ready.board.state.passes ≤ length ready.passes.items)
         × (ready.board.pool.passes ≤ length ready.passes.items) }
     requires count { AreAsMany outside.old.gates.items outside.old.clocks.items outside.old.verifiers.items
         ready.passes.items }

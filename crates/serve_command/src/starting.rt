@@ -9,7 +9,7 @@ ghost use Rattle.serve_command.specs.Starting.{IsStartOf};
 use dir_bytes::Memory;
 use dir_values::Roster;
 use key_port::Verifier;
-use period_core::{StartFault, Station};
+use period_core::{PeriodState, StartFault};
 use station_commands::members_of;
 use station_input::StationFacts;
 use std::alloc::Global;
@@ -36,7 +36,7 @@ pub(crate) fn start<V: Verifier>(
     station: &StationFacts,
     schedule: Config,
     now: u64,
-) -> Result<Station<V>, Memory>
+) -> Result<PeriodState<V>, Memory>
     requires order { IsInOrder station.now (schedule_in station.now) }
     requires schedule { schedule ≡ schedule_in station.now }
     requires period { next_valid_after (schedule_in station.now) 0 now ≢ None }
@@ -47,7 +47,7 @@ pub(crate) fn start<V: Verifier>(
     // Both tell what their types keep.
     let _ = roster.len();
     let _ = schedule.interval();
-    match Station::start(
+    match PeriodState::start(
         alloc,
         roster,
         station.identity,

@@ -66,7 +66,7 @@ none_more a b c g h = record {
 }
 
 module _ (rules : Rules) (board : Locks) (b c : Parts) where
-  -- a reading of the station adds nothing
+  -- a reading of the state adds nothing
   pub none_sees : {A : Type 0} (right : State → A → Type 0) (answer : A) → Sees rules board b c right answer
       → AddsNone b c
   none_sees right answer sees = record {
@@ -79,7 +79,7 @@ module _ (rules : Rules) (board : Locks) (b c : Parts) where
   pub none_looks : {A : Type 0} (right : Pooled → A → Type 0) (answer : A) → Looks rules board b c right answer
       → AddsNone b c
   none_looks right answer looks = record {
-    mine = ap (λ k. k.mine) looks.station;
+    mine = ap (λ k. k.mine) looks.state;
     pool = looks.takes.mine;
     goes = goes_looks rules board b c right answer looks;
   }
@@ -110,7 +110,7 @@ module _ (P : AddedKind) where
   adds_same a = record {
     added = [];
     each = All-nil (P a a);
-    mine = sym (append-nil a.station.mine);
+    mine = sym (append-nil a.state.mine);
     pool = refl;
     goes = goes_same a;
   }
@@ -128,15 +128,15 @@ module _ (P : AddedKind) where
   module _ (lasts : Lasts P) where
     -- a pass that added something, and adds more, of the kind over both
     adds_on : (a b c : Parts) → Adds P a b → (more : List Entry) → All (P a c) more
-        → c.station.mine ≡ b.station.mine ++ map (λ e. (b.station.number, e)) more → c.pool.mine ≡ b.pool.mine
+        → c.state.mine ≡ b.state.mine ++ map (λ e. (b.state.number, e)) more → c.pool.mine ≡ b.pool.mine
         → Goes b c → Adds P a c
     adds_on a b c g more each mine pool goes = record {
       added = g.added ++ more;
       each =
           All-append (P a c) g.added more
           (All-weaker (P a b) (P a c) (λ e p. lasts.later a b c e goes p) g.added g.each) each;
-      mine = own_more a.station.number b.station.number a.station.mine b.station.mine c.station.mine g.added more
-          g.goes.station.number g.mine mine;
+      mine = own_more a.state.number b.state.number a.state.mine b.state.mine c.state.mine g.added more
+          g.goes.state.number g.mine mine;
       pool = pool ∙ g.pool;
       goes = goes_on a b c g.goes goes;
     }
@@ -150,14 +150,14 @@ module _ (P : AddedKind) where
     -- a pass that added something, and then nothing
     pub adds_none : (a b c : Parts) → Adds P a b → AddsNone b c → Adds P a c
     adds_none a b c before none =
-        adds_on a b c before [] (All-nil (P a c)) (none.mine ∙ sym (append-nil b.station.mine)) none.pool none.goes
+        adds_on a b c before [] (All-nil (P a c)) (none.mine ∙ sym (append-nil b.state.mine)) none.pool none.goes
 
     -- the same, where what is added by none is known of each beginning
     pub adds_still : (a b c : Parts) → Adds P a b → ((x : Parts) → AddsNone x b → AddsNone x c) → Adds P a c
     adds_still a b c before none = adds_none a b c before (none b (none_same b))
 
     module _ (rules : Rules) (board : Locks) (a b c : Parts) (before : Adds P a b) where
-      -- by a reading of the station
+      -- by a reading of the state
       pub adds_sees : {A : Type 0} (right : State → A → Type 0) (answer : A) → Sees rules board b c right answer
           → Adds P a c
       adds_sees right answer sees = adds_none a b c before (none_sees rules board b c right answer sees)
@@ -168,7 +168,7 @@ module _ (P : AddedKind) where
       adds_makes event answer is makes =
           adds_on a b c before (option_to_list (entry_if event answer))
           (all_one (P a c) (entry_if event answer) is)
-          (makes.takes.mine ∙ ap (λ l. b.station.mine ++ l) (entry_by-map b.station.number (entry_if event answer)))
+          (makes.takes.mine ∙ ap (λ l. b.state.mine ++ l) (entry_by-map b.state.number (entry_if event answer)))
           (ap (λ k. k.mine) makes.pool) (goes_makes rules board b c event answer makes)
 
 -- the entry is of a kind, where there is one
@@ -199,19 +199,19 @@ here_since P a b g = record { added = g.added; each = g.each; mine = g.mine; poo
 module _ (gives : Relation) (rules : Rules) (board : Locks) (now : ℕ) where
   -- the entry of an advance is one, where there is one
   if_moved : (changed : Bool) (b c : Parts) (entry : Entry) (given : Signing) → entry.event ≡ Advanced now given
-      → (place : List (ℕ × Entry)) → IsPrefix b.station.seen place
-      → c.station.seen ≡ place ++ entry_by b.station.number (if changed then Some entry else None)
-      → IsCheckedHistory rules board.station.start (entries c.station.seen)
-      → MayGiveAt gives rules (after board.station.start (entries place)) given
+      → (place : List (ℕ × Entry)) → IsPrefix b.state.seen place
+      → c.state.seen ≡ place ++ entry_by b.state.number (if changed then Some entry else None)
+      → IsCheckedHistory rules board.state.start (entries c.state.seen)
+      → MayGiveAt gives rules (after board.state.start (entries place)) given
       → IfSome (if changed then Some entry else None) (IsAdvance gives rules board now b c)
   if_moved true b c entry given event place longer seen is_story may = record {
     given = given;
     event = event;
     place = place;
     longer = longer;
-    here = subst (λ (l : List (ℕ × Entry)). IsPrefix l c.station.seen) seen (prefix_same c.station.seen);
+    here = subst (λ (l : List (ℕ × Entry)). IsPrefix l c.state.seen) seen (prefix_same c.state.seen);
     is_story =
-        subst (λ (l : List (ℕ × Entry)). IsCheckedHistory rules board.station.start (entries l)) seen is_story;
+        subst (λ (l : List (ℕ × Entry)). IsCheckedHistory rules board.state.start (entries l)) seen is_story;
     may = may;
   }
   if_moved false b c entry given event place longer seen is_story may = tt

@@ -34,14 +34,14 @@ use Rattle.serve_rounds.specs.Plans.{plan_of_phase, plan_of_signatures}
 use Rattle.serve_rounds.proofs.Lasting.{period_earlier, seen_earlier, seen_later, text_earlier, text_later}
 use Rattle.serve_rounds.proofs.AskedOfPlans.{asks_wider}
 
--- ---- where the station stood so
+-- ---- where the state stood so
 
 module _ (rules : Rules) (board : Locks) where
   module _ (a b c : Parts) where
     pub stood_earlier : (So : State → Type 0) → Goes a b → StoodSo rules board b c So → StoodSo rules board a c So
     stood_earlier So goes p = record {
       place = p.place;
-      seen = seen_earlier a.station.seen b.station.seen c.station.seen p.place goes.station.seen p.seen;
+      seen = seen_earlier a.state.seen b.state.seen c.state.seen p.place goes.state.seen p.seen;
       is_story = p.is_story;
       so = p.so;
     }
@@ -49,7 +49,7 @@ module _ (rules : Rules) (board : Locks) where
     pub stood_later : (So : State → Type 0) → Goes b c → StoodSo rules board a b So → StoodSo rules board a c So
     stood_later So goes p = record {
       place = p.place;
-      seen = seen_later a.station.seen b.station.seen c.station.seen p.place goes.station.seen p.seen;
+      seen = seen_later a.state.seen b.state.seen c.state.seen p.place goes.state.seen p.seen;
       is_story = p.is_story;
       so = p.so;
     }
@@ -86,8 +86,8 @@ module _ (rules : Rules) (board : Locks) where
       → held ≡ false
       → StoodSo rules board a b (λ state. document_of state (Vote authority) ≡ None)
   lacks a b authority held sees isnt = record {
-    place = b.station.seen;
-    seen = record { longer = sees.takes.longer; here = prefix_same b.station.seen };
+    place = b.state.seen;
+    seen = record { longer = sees.takes.longer; here = prefix_same b.state.seen };
     is_story = sees.takes.is_story;
     so = none_there _ held sees.takes.right_there isnt;
   }
@@ -203,8 +203,8 @@ pub signed_earlier : (a b c : Parts) → Goes a b → HasSigned b c → HasSigne
 signed_earlier a b c goes p = record {
   place = p.place;
   entry = p.entry;
-  longer = prefix_on a.station.seen b.station.seen p.place goes.station.seen p.longer;
-  here = subst (λ (n : ℕ). IsPrefix (p.place ++ (n, p.entry) ∷ []) c.station.seen) goes.station.number p.here;
+  longer = prefix_on a.state.seen b.state.seen p.place goes.state.seen p.longer;
+  here = subst (λ (n : ℕ). IsPrefix (p.place ++ (n, p.entry) ∷ []) c.state.seen) goes.state.number p.here;
   answer = p.answer;
 }
 
@@ -213,8 +213,8 @@ signed_later a b c goes p = record {
   place = p.place;
   entry = p.entry;
   longer = p.longer;
-  here = prefix_on (p.place ++ (a.station.number, p.entry) ∷ []) b.station.seen c.station.seen p.here
-      goes.station.seen;
+  here = prefix_on (p.place ++ (a.state.number, p.entry) ∷ []) b.state.seen c.state.seen p.here
+      goes.state.seen;
   answer = p.answer;
 }
 
@@ -234,7 +234,7 @@ signed_here gives rules board now a b answer moves is =
       entry = record { event = Advanced now m.given; answer = Moment Signed };
       longer = m.makes.takes.longer;
       here =
-          subst (λ (l : List (ℕ × Entry)). IsPrefix l b.station.seen) m.makes.takes.seen (prefix_same b.station.seen);
+          subst (λ (l : List (ℕ × Entry)). IsPrefix l b.state.seen) m.makes.takes.seen (prefix_same b.state.seen);
       answer = refl;
     }
 
@@ -244,10 +244,10 @@ pub held_there : (rules : Rules) (board : Locks) (a b : Parts) (answer : Result 
     (λ state answer. MatchResult answer (λ held. held ≡ next_signatures_of state) (λ _. Unit {0})) answer
     → answer ≡ Ok (Some text) → StoodSo rules board a b (λ state. next_signatures_of state ≡ Some text)
 held_there rules board a b answer text sees is = record {
-  place = b.station.seen;
-  seen = record { longer = sees.takes.longer; here = prefix_same b.station.seen };
+  place = b.state.seen;
+  seen = record { longer = sees.takes.longer; here = prefix_same b.state.seen };
   is_story = sees.takes.is_story;
   so = sym (subst (λ (r : Result (Option (List ℕ)) Memory). MatchResult r
-      (λ held. held ≡ next_signatures_of (after board.station.start (entries b.station.seen))) (λ _. Unit {0})) is
+      (λ held. held ≡ next_signatures_of (after board.state.start (entries b.state.seen))) (λ _. Unit {0})) is
       sees.takes.right_there);
 }

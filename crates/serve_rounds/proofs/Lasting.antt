@@ -53,15 +53,15 @@ pub advance_lasts : (gives : Relation) (rules : Rules) (board : Locks) (now : �
     → Lasts (IsAdvance gives rules board now)
 advance_lasts gives rules board now = record {
   earlier = λ a b c e goes p.
-      let same : b.station.number ≡ a.station.number = goes.station.number in
+      let same : b.state.number ≡ a.state.number = goes.state.number in
       record {
         given = p.given;
         event = p.event;
         place = p.place;
-        longer = prefix_on a.station.seen b.station.seen p.place goes.station.seen p.longer;
-        here = subst (λ (n : ℕ). IsPrefix (p.place ++ (n, e) ∷ []) c.station.seen) same p.here;
+        longer = prefix_on a.state.seen b.state.seen p.place goes.state.seen p.longer;
+        here = subst (λ (n : ℕ). IsPrefix (p.place ++ (n, e) ∷ []) c.state.seen) same p.here;
         is_story =
-            subst (λ (n : ℕ). IsCheckedHistory rules board.station.start (entries (p.place ++ (n, e) ∷ []))) same
+            subst (λ (n : ℕ). IsCheckedHistory rules board.state.start (entries (p.place ++ (n, e) ∷ []))) same
             p.is_story;
         may = p.may;
       };
@@ -70,7 +70,7 @@ advance_lasts gives rules board now = record {
     event = p.event;
     place = p.place;
     longer = p.longer;
-    here = prefix_on (p.place ++ (a.station.number, e) ∷ []) b.station.seen c.station.seen p.here goes.station.seen;
+    here = prefix_on (p.place ++ (a.state.number, e) ∷ []) b.state.seen c.state.seen p.here goes.state.seen;
     is_story = p.is_story;
     may = p.may;
   };
@@ -81,7 +81,7 @@ module _ (rules : Rules) (board : Locks) (a b c : Parts) (valid_after : ℕ) whe
   pub period_earlier : Goes a b → IsPeriodOf rules board b c valid_after → IsPeriodOf rules board a c valid_after
   period_earlier goes p = record {
     place = p.place;
-    seen = seen_earlier a.station.seen b.station.seen c.station.seen p.place goes.station.seen p.seen;
+    seen = seen_earlier a.state.seen b.state.seen c.state.seen p.place goes.state.seen p.seen;
     is_story = p.is_story;
     begins = p.begins;
   }
@@ -89,7 +89,7 @@ module _ (rules : Rules) (board : Locks) (a b c : Parts) (valid_after : ℕ) whe
   pub period_later : Goes b c → IsPeriodOf rules board a b valid_after → IsPeriodOf rules board a c valid_after
   period_later goes p = record {
     place = p.place;
-    seen = seen_later a.station.seen b.station.seen c.station.seen p.place goes.station.seen p.seen;
+    seen = seen_later a.state.seen b.state.seen c.state.seen p.place goes.state.seen p.seen;
     is_story = p.is_story;
     begins = p.begins;
   }
@@ -99,8 +99,8 @@ pub period_seen : (rules : Rules) (board : Locks) (a b : Parts) (valid_after : �
     → Sees rules board a b (λ state answer. answer ≡ state.valid_after) valid_after
     → IsPeriodOf rules board a b valid_after
 period_seen rules board a b valid_after sees = record {
-  place = b.station.seen;
-  seen = record { longer = sees.takes.longer; here = prefix_same b.station.seen };
+  place = b.state.seen;
+  seen = record { longer = sees.takes.longer; here = prefix_same b.state.seen };
   is_story = sees.takes.is_story;
   begins = sees.takes.right_there;
 }

@@ -36,10 +36,10 @@ pub record IsAdvance (gives : Relation) (rules : Rules) (board : Locks) (now : �
   pub given : Signing
   pub event : entry.event ≡ Advanced now given
   pub place : List (ℕ × Entry)
-  pub longer : IsPrefix from.station.seen place
-  pub here : IsPrefix (place ++ (from.station.number, entry) ∷ []) to.station.seen
-  pub is_story : IsCheckedHistory rules board.station.start (entries (place ++ (from.station.number, entry) ∷ []))
-  pub may : MayGiveAt gives rules (after board.station.start (entries place)) given
+  pub longer : IsPrefix from.state.seen place
+  pub here : IsPrefix (place ++ (from.state.number, entry) ∷ []) to.state.seen
+  pub is_story : IsCheckedHistory rules board.state.start (entries (place ++ (from.state.number, entry) ∷ []))
+  pub may : MayGiveAt gives rules (after board.state.start (entries place)) given
 
 -- The entry is the offer as Own, at this moment, of the vote that the authority made at this moment, for the period in
 -- which the board was between and of the pool that stood there between.
@@ -88,7 +88,7 @@ pub record TellsAccepted {V : Type 0} (rules : Rules) (steps : Steps V) (body : 
 
 -- ---- what duties answer
 
--- Behind this answer the station is not advanced again: nothing is left to do at the moment, or it can't be done.
+-- Behind this answer the state is not advanced again: nothing is left to do at the moment, or it can't be done.
 abbrev pub Settles : Result Advance Memory → Type 0
 Settles (Ok moments.Nothing) = Unit {0}
 Settles (Ok moments.Frozen) = ⊥
@@ -105,7 +105,7 @@ Settles (Ok moments.VerifierFault) = Unit {0}
 Settles (Ok (moments.OwnSignatureRefused digest)) = Unit {0}
 Settles (Err fault) = Unit {0}
 
--- The station was advanced at a moment until an answer settles it, and this is the last answer.
+-- The state was advanced at a moment until an answer settles it, and this is the last answer.
 pub record AdvancesAll (gives : Relation) (rules : Rules) (board : Locks) (before then : Parts) (now : ℕ)
     (answer : Result Advance Memory) : Type 0 where
   pub from : Parts
@@ -113,7 +113,7 @@ pub record AdvancesAll (gives : Relation) (rules : Rules) (board : Locks) (befor
   pub last : Advances rules board from then gives now answer
   pub settles : Settles answer
 
--- Duties at a moment: the station was advanced until an answer settles it, and this is the last answer; then the own
+-- Duties at a moment: the state was advanced until an answer settles it, and this is the last answer; then the own
 -- vote was offered, or votes or signatures that peers gave, and nothing else was added.
 pub record Duties {N : Type 0} (rules : Rules) (gives : Relation) (steps : SignerSteps N)
     (allows : RelayFacts → Ruling → Bool) (station : StationFacts) (board : Locks) (before then : Parts) (now : ℕ)

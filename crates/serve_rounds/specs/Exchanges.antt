@@ -34,19 +34,19 @@ use Rattle.serve_rounds.specs.Spans.{WasSeen}
 abbrev pub LinkSteps : Type 0 → Type 1
 LinkSteps L = L → List ℕ → List ℕ → ℕ → LinkAnswer → L → Type 0
 
--- At some time between, the station stood so.
+-- At some time between, the state stood so.
 pub record StoodSo (rules : Rules) (board : Locks) (from to : Parts) (So : State → Type 0) : Type 0 where
   pub place : List (ℕ × Entry)
-  pub seen : WasSeen from.station.seen to.station.seen place
-  pub is_story : IsCheckedHistory rules board.station.start (entries place)
-  pub so : So (after board.station.start (entries place))
+  pub seen : WasSeen from.state.seen to.state.seen place
+  pub is_story : IsCheckedHistory rules board.state.start (entries place)
+  pub so : So (after board.state.start (entries place))
 
 -- The authority signed between: the pass added an advance that answers so.
 pub record HasSigned (from to : Parts) : Type 0 where
   pub place : List (ℕ × Entry)
   pub entry : Entry
-  pub longer : IsPrefix from.station.seen place
-  pub here : IsPrefix (place ++ (from.station.number, entry) ∷ []) to.station.seen
+  pub longer : IsPrefix from.state.seen place
+  pub here : IsPrefix (place ++ (from.state.number, entry) ∷ []) to.state.seen
   pub answer : entry.answer ≡ Moment Signed
 
 -- Why something of the plan is asked: of the votes, those of which none was held at some time between.

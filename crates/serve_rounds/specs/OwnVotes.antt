@@ -22,9 +22,9 @@ use Rattle.serve_rounds.specs.Spans.{WasSeen}
 -- The board was in the period that begins then, at some time between.
 pub record IsPeriodOf (rules : Rules) (board : Locks) (from to : Parts) (valid_after : ℕ) : Type 0 where
   pub place : List (ℕ × Entry)
-  pub seen : WasSeen from.station.seen to.station.seen place
-  pub is_story : IsCheckedHistory rules board.station.start (entries place)
-  pub begins : valid_after ≡ (after board.station.start (entries place)).valid_after
+  pub seen : WasSeen from.state.seen to.state.seen place
+  pub is_story : IsCheckedHistory rules board.state.start (entries place)
+  pub begins : valid_after ≡ (after board.state.start (entries place)).valid_after
 
 module _ {N : Type 0} (rules : Rules) (gives : Relation) (steps : SignerSteps N)
     (allows : RelayFacts → Ruling → Bool) (station : StationFacts) where

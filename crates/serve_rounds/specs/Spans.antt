@@ -17,18 +17,18 @@ Anywhere P from to entry = P entry
 abbrev pub Since : Parts → AddedKind → Parts → Parts → Entry → Type 0
 Since before P from to entry = P before to entry
 
--- What a pass added at the station are entries of this kind alone, and at the pool it added none. It has gone on at
+-- What a pass added at the state are entries of this kind alone, and at the pool it added none. It has gone on at
 -- both.
 pub record Adds (P : AddedKind) (before then : Parts) : Type 0 where
   pub added : List Entry
   pub each : All (P before then) added
-  pub mine : then.station.mine ≡ before.station.mine ++ map (λ e. (before.station.number, e)) added
+  pub mine : then.state.mine ≡ before.state.mine ++ map (λ e. (before.state.number, e)) added
   pub pool : then.pool.mine ≡ before.pool.mine
   pub goes : Goes before then
 
 -- A pass added nothing, and has gone on at both locks.
 pub record AddsNone (before then : Parts) : Type 0 where
-  pub mine : then.station.mine ≡ before.station.mine
+  pub mine : then.state.mine ≡ before.state.mine
   pub pool : then.pool.mine ≡ before.pool.mine
   pub goes : Goes before then
 

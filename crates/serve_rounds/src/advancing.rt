@@ -1,4 +1,4 @@
-// A station that is advanced until nothing more comes of a moment.
+// A state that is advanced until nothing more comes of a moment.
 ghost use Rattle.std.specs.Prelude.{◌≡◌, ◌≤◌, ◌⊎◌, Ok, true, IsTrue};
 ghost use Rattle.dir_bytes.specs.Causes.{Rose};
 ghost use Rattle.key_port.specs.Answers.{rules};
@@ -14,7 +14,7 @@ use serve_board::{Board, Pass};
 use std::alloc::Global;
 use std::sync::Wait;
 
-/// Whether the station is not advanced again behind this answer.
+/// Whether the state is not advanced again behind this answer.
 fn settles(answer: &Result<Advance, Memory>) -> bool
     ensures { IsTrue result → Settles answer.now }
 {
@@ -40,7 +40,7 @@ fn signed_after(before: bool, answer: &Result<Advance, Memory>) -> bool
     }
 }
 
-/// Advances the station by one step, if the moment brings one.
+/// Advances the state by one step, if the moment brings one.
 ///
 /// # Errors
 /// `Memory` is want of memory, and then nothing was changed.
@@ -68,7 +68,7 @@ fn advance_once<H: Wait, V: Verifier, N: Signer>(
     board.advance(rt, alloc, pass, now, signer, verifier)
 }
 
-/// Advances the station until that brings nothing more at the moment, or can't be done. With the last answer it tells whether the
+/// Advances the state until that brings nothing more at the moment, or can't be done. With the last answer it tells whether the
 /// authority signed, in the period that it is in then.
 pub(crate) fn advance_all<H: Wait, V: Verifier, N: Signer>(
     rt: &H,

@@ -1,4 +1,4 @@
-//! The duties of an authority at one moment of the clock: its station advanced, its vote made and brought to its peers, and what it
+//! The duties of an authority at one moment of the clock: its state advanced, its vote made and brought to its peers, and what it
 //! lacks fetched from them (dir-spec, "Voting timeline").
 #![tactic(auto)]
 

@@ -1,4 +1,4 @@
-// What is asked of the station in one turn.
+// What is asked of the state in one turn.
 ghost use Rattle.std.specs.Prelude.{◌≡◌, MatchResult, is_some};
 ghost use Rattle.period_terms.specs.Readings.{document_of};
 ghost use Rattle.period_terms.specs.declared.name.Name.TheVariants as names;
@@ -11,7 +11,7 @@ use checked_sigs::next_signatures;
 use dir_bytes::{Memory, Text};
 use dir_values::Fingerprint;
 use key_port::Verifier;
-use period_core::Station;
+use period_core::PeriodState;
 use period_terms::Name;
 use serve_board::{Board, Pass, Question};
 use std::alloc::Global;
@@ -23,12 +23,12 @@ struct AskHeld {
     authority: Fingerprint,
 }
 
-impl<V: Verifier> Question<Station<V>> for AskHeld {
+impl<V: Verifier> Question<PeriodState<V>> for AskHeld {
     type Reply = bool;
 
     ghost finds = { λ before state reply then. reply ≡ is_some (document_of state (names.Vote before.authority)) };
 
-    fn ask(&mut self, value: &Station<V>) -> bool {
+    fn ask(&mut self, value: &PeriodState<V>) -> bool {
         value.document(&Name::Vote(self.authority)).is_some()
     }
 }
@@ -39,12 +39,12 @@ struct AskSignatures {
     alloc: Global,
 }
 
-impl<V: Verifier> Question<Station<V>> for AskSignatures {
+impl<V: Verifier> Question<PeriodState<V>> for AskSignatures {
     type Reply = Result<Option<Text>, Memory>;
 
     ghost finds = { λ before state reply then. MatchResult reply (λ text. text ≡ next_signatures_of state) (λ _. Unit {0}) };
 
-    fn ask(&mut self, value: &Station<V>) -> Result<Option<Text>, Memory> {
+    fn ask(&mut self, value: &PeriodState<V>) -> Result<Option<Text>, Memory> {
         next_signatures(value, self.alloc)
     }
 }

@@ -116,7 +116,7 @@ fn work<H: Wait, W: Rulers, V: Verifier, N: Signer, L: Link>(
     );
 }
 
-/// Does the duties of an authority once, at one moment of the clock, which is asked first. The station is advanced until nothing more
+/// Does the duties of an authority once, at one moment of the clock, which is asked first. The state is advanced until nothing more
 /// comes of the moment, or that can't be done; then comes what the phase of the period asks for, each duty once in a period. The peers
 /// are the authorities that have an address, without the own one, in the input's order; one that fails is passed over, and so is a
 /// response with another code than 200. The own vote is made of what the station is given, of the board's pool and of the rulings of

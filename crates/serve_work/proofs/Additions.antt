@@ -40,7 +40,7 @@ module _ (P : AddedKind) (D : Descriptor → Type 0) where
   works_same a = record {
     added = [];
     each = All-nil (P a a);
-    mine = sym (append-nil a.station.mine);
+    mine = sym (append-nil a.state.mine);
     kept = [];
     each_kept = All-nil D;
     pool = sym (append-nil a.pool.mine);
@@ -51,12 +51,12 @@ module _ (P : AddedKind) (D : Descriptor → Type 0) where
   works_still a b is = subst (Works P D a) (sym is) (works_same a)
 
   -- one that added nothing
-  pub works_none : (a b : Parts) → b.station.mine ≡ a.station.mine → b.pool.mine ≡ a.pool.mine → Goes a b
+  pub works_none : (a b : Parts) → b.state.mine ≡ a.state.mine → b.pool.mine ≡ a.pool.mine → Goes a b
       → Works P D a b
   works_none a b mine pool goes = record {
     added = [];
     each = All-nil (P a b);
-    mine = mine ∙ sym (append-nil a.station.mine);
+    mine = mine ∙ sym (append-nil a.state.mine);
     kept = [];
     each_kept = All-nil D;
     pool = pool ∙ sym (append-nil a.pool.mine);
@@ -82,7 +82,7 @@ module _ (P : AddedKind) (D : Descriptor → Type 0) where
     added = option_to_list (entry_if event answer);
     each = all_one (P a b) (entry_if event answer) is;
     mine = makes.takes.mine
-        ∙ ap (λ l. a.station.mine ++ l) (entry_by-map a.station.number (entry_if event answer));
+        ∙ ap (λ l. a.state.mine ++ l) (entry_by-map a.state.number (entry_if event answer));
     kept = [];
     each_kept = All-nil D;
     pool = ap (λ k. k.mine) makes.pool ∙ sym (append-nil a.pool.mine);
@@ -95,7 +95,7 @@ module _ (P : AddedKind) (D : Descriptor → Type 0) where
   works_stores rules board a b descriptor answer is stores = record {
     added = [];
     each = All-nil (P a b);
-    mine = ap (λ k. k.mine) stores.station ∙ sym (append-nil a.station.mine);
+    mine = ap (λ k. k.mine) stores.state ∙ sym (append-nil a.state.mine);
     kept = option_to_list (kept_if descriptor answer);
     each_kept = all_one D (kept_if descriptor answer) is;
     pool = stores.takes.mine ∙ ap (λ l. a.pool.mine ++ l) (entry_by-map a.pool.number (kept_if descriptor answer));
@@ -110,8 +110,8 @@ module _ (P : AddedKind) (D : Descriptor → Type 0) where
         All-append (P a c) g.added h.added
         (All-weaker (P a b) (P a c) (λ e p. lasts.later a b c e h.goes p) g.added g.each)
         (All-weaker (P b c) (P a c) (λ e p. lasts.earlier a b c e g.goes p) h.added h.each);
-    mine = own_more a.station.number b.station.number a.station.mine b.station.mine c.station.mine g.added h.added
-        g.goes.station.number g.mine h.mine;
+    mine = own_more a.state.number b.state.number a.state.mine b.state.mine c.state.mine g.added h.added
+        g.goes.state.number g.mine h.mine;
     kept = g.kept ++ h.kept;
     each_kept = All-append D g.kept h.kept g.each_kept h.each_kept;
     pool = own_more a.pool.number b.pool.number a.pool.mine b.pool.mine c.pool.mine g.kept h.kept
@@ -155,8 +155,8 @@ pub signed_in : (rules : Rules) (board : Locks) (a b : Parts) (signature : Offer
     → Makes rules board a b (SignedIn signature) answer
     → IfSome (entry_if (SignedIn signature) answer) (IsGathered rules)
 signed_in rules board a b signature answer makes =
-    gathered_if rules board.station.start (changes answer) makes.takes.story a.station.number signature answer
-    (subst (λ (l : List (ℕ × Entry)). IsCheckedHistory rules board.station.start (entries l)) makes.takes.seen
+    gathered_if rules board.state.start (changes answer) makes.takes.story a.state.number signature answer
+    (subst (λ (l : List (ℕ × Entry)). IsCheckedHistory rules board.state.start (entries l)) makes.takes.seen
     makes.takes.is_story)
 
 -- ---- the work of workers

@@ -67,7 +67,7 @@ module _ {N C : Type 0} (rules : Rules) (gives : Relation) (steps : SignerSteps 
   still before then is = works_still Is Such before then is
 
   nothing : (before then : Parts) → AddsNothing before then → Done before then
-  nothing before then adds = works_none Is Such before then adds.station adds.pool adds.goes
+  nothing before then adds = works_none Is Such before then adds.state adds.pool adds.goes
 
   sees : {A : Type 0} (before then : Parts) (right : State → A → Type 0) (answer : A)
       → Sees rules board before then right answer → Done before then
@@ -78,7 +78,7 @@ module _ {N C : Type 0} (rules : Rules) (gives : Relation) (steps : SignerSteps 
   looks : {A : Type 0} (before then : Parts) (right : Pooled → A → Type 0) (answer : A)
       → Looks rules board before then right answer → Done before then
   looks before then right answer reading =
-      works_none Is Such before then (ap (λ k. k.mine) reading.station) reading.takes.mine
+      works_none Is Such before then (ap (λ k. k.mine) reading.state) reading.takes.mine
       (goes_looks rules board before then right answer reading)
 
   -- ---- signatures

@@ -19,9 +19,9 @@ use Rattle.period_lock.specs.contracts.pass.Pass as turns
 use Rattle.period_lock.specs.contracts.pass.Pass.TheInside as turns_inside
 use Rattle.consensus_terms.specs.contracts.consensus.ConsensusFacts as facts
 use Rattle.consensus_terms.specs.contracts.consensus.Consensus as consensus
-use Rattle.period_core.specs.contracts.station.Station as station
+use Rattle.period_core.specs.contracts.state.PeriodState as state
 use Rattle.vote_doc.specs.contracts.accepted.Accepted as accepted
-use Rattle.period_core.specs.contracts.station.Station.TheInside as station_inside
+use Rattle.period_core.specs.contracts.state.PeriodState.TheInside as state_inside
 use Rattle.vote_pool.specs.contracts.kept.KeptDescriptor as kept
 use Rattle.vote_pool.specs.contracts.entry.PoolEntry as entry
 use Rattle.vote_pool.specs.contracts.entry.PoolEntry.TheInside as entry_inside
@@ -57,7 +57,7 @@ turns_send T S E g sent =
       (search sendable, tt),
     )))
 
--- ---- a pool and a station
+-- ---- a pool and a state
 
 kept_send : IsSend (Struct (shape kept.the_type))
 kept_send =
@@ -88,11 +88,11 @@ consensus_send = struct_send (shape consensus.the_type) (facts_send, (search sen
 accepted_send : IsSend accepted.the_row
 accepted_send = search (bytes.the_send, heap.the_send, heap.the_sync, sendable, crosses) depth 200 fits 100000
 
-station_send : (V : RattleType) (g : Ghosts V.Denot) → IsSend (station.the_row V g)
-station_send V g =
+state_send : (V : RattleType) (g : Ghosts V.Denot) → IsSend (state.the_row V g)
+state_send V g =
     view_send _ _ _ _ _
-    (recorded_send (Struct (shape (station_inside.the_type V g))) _ _ (station_inside.the_type V g).to_one
-    (struct_send (shape (station_inside.the_type V g))
+    (recorded_send (Struct (shape (state_inside.the_type V g))) _ _ (state_inside.the_type V g).to_one
+    (struct_send (shape (state_inside.the_type V g))
     (search (accepted_send, consensus_send, sendable, crosses) depth 60 fits 20000)))
 
 -- ---- a board and its passes
@@ -102,7 +102,7 @@ board_sync V g =
     view_sync _ _ _ _ _
     (recorded_sync (Struct (shape (board_inside.the_type V g))) _ _ (board_inside.the_type V g).to_one
     (struct_sync (shape (board_inside.the_type V g)) (
-      search (lock_sync, station_send, sendable, crosses) depth 20,
+      search (lock_sync, state_send, sendable, crosses) depth 20,
       (
         search (lock_sync, pool_send, sendable, crosses) depth 20,
         (search (sendable, crosses) depth 20, (search sendable, (search (sendable, crosses), tt))),
@@ -114,7 +114,7 @@ pass_send V g =
     view_send _ _ _ _ _
     (recorded_send (Struct (shape (pass_inside.the_type V g))) _ _ (pass_inside.the_type V g).to_one
     (struct_send (shape (pass_inside.the_type V g)) (
-      search (turns_send, station_send, sendable, crosses) depth 20,
+      search (turns_send, state_send, sendable, crosses) depth 20,
       (search (turns_send, pool_send, sendable, crosses) depth 20, tt),
     )))
 

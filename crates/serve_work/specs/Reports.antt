@@ -57,6 +57,6 @@ change_lines front (change ∷ later) =
 abbrev pub front_line : ℕ → List ℕ
 front_line front = codes "front " ++ decimal front ++ line_feed ∷ []
 
--- the report on a station: its front, and its changes since the period began
+-- the report on a state: its front, and its changes since the period began
 abbrev pub report_text : State → List ℕ
 report_text state = front_line state.front ++ change_lines state.front state.changes

@@ -13,7 +13,7 @@ use Rattle.serve_work.specs.declared.serving.Served.{Served}
 use Rattle.serve_work.specs.declared.serving.Served.TheVariants as served
 use Rattle.serve_work.specs.Workers.{HaveWorked}
 
--- The report on a station was written whole; or there was no memory, and nothing was written; or a front of it was
+-- The report on a state was written whole; or there was no memory, and nothing was written; or a front of it was
 -- written, and the sink's count of faults rose.
 abbrev pub Reports : Option (List ℕ) → Option (List ℕ) → ℕ → ℕ → State → Served → Type 0
 Reports old new before now state served.Whole = Appends old new (report_text state) × (now ≡ before)
@@ -32,8 +32,8 @@ abbrev pub HaveFailedOn : {V : Type 0} → (V → ℕ) → List V → List V →
 HaveFailedOn {V} faults before now =
     (i : ℕ) (d : V) → i < length before → faults (slice_index_or before i d) ≤ faults (slice_index_or now i d)
 
--- The passes of the board have ended, as many as began and each come to this from the one in its place; the station and
--- the pool are what they left, and the station is such.
+-- The passes of the board have ended, as many as began and each come to this from the one in its place; the state and
+-- the pool are what they left, and the state is such.
 pub record LeavesBoard (rules : Rules) (board : Locks) (HasDone : Parts → Parts → Type 0) (began : List Parts)
     (IsSuch : State → Type 0) : Type 0 where
   pub ended : List Parts
@@ -69,7 +69,7 @@ module _ {G : Type 0} (faults : G → ℕ) (closed : G → Bool) (gates gates' :
 
   module _ (rules : Rules) (board : Locks) (HasDone : Parts → Parts → Type 0) (began : List Parts)
       (old new : Option (List ℕ)) (before now : ℕ) where
-    -- All gates were closed, and the station that the board left is reported so.
+    -- All gates were closed, and the state that the board left is reported so.
     abbrev pub ReportsLeft : Served → Type 0
     ReportsLeft result =
         EachClosed closed gates'
@@ -79,7 +79,7 @@ module _ {G : Type 0} (faults : G → ℕ) (closed : G → Bool) (gates gates' :
     abbrev pub WritesNone : Type 0
     WritesNone = (new ≡ old) × (now ≡ before)
 
-    -- The station that the board left is reported all the same, whole or not.
+    -- The state that the board left is reported all the same, whole or not.
     abbrev pub ReportsSo : Type 0
     ReportsSo = (told : Served) × LeavesBoard rules board HasDone began (λ left. Reports old new before now left told)
 

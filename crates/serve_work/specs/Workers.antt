@@ -50,12 +50,12 @@ module _ {N C : Type 0} (rules : Rules) (gives : Relation) (steps : SignerSteps 
 
 -- ---- what a pass adds
 
--- A pass added entries of this kind at the station, and such descriptors to the pool, and nothing else. It has gone on at
+-- A pass added entries of this kind at the state, and such descriptors to the pool, and nothing else. It has gone on at
 -- both.
 pub record Works (P : AddedKind) (IsSuch : Descriptor → Type 0) (before then : Parts) : Type 0 where
   pub added : List Entry
   pub each : All (P before then) added
-  pub mine : then.station.mine ≡ before.station.mine ++ map (λ e. (before.station.number, e)) added
+  pub mine : then.state.mine ≡ before.state.mine ++ map (λ e. (before.state.number, e)) added
   pub kept : List Descriptor
   pub each_kept : All IsSuch kept
   pub pool : then.pool.mine ≡ before.pool.mine ++ map (λ d. (before.pool.number, d)) kept

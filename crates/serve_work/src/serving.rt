@@ -35,7 +35,7 @@ pub enum Served {
 }
 
 /// The workers serve until their gates are closed, each with a pass of the board and a gate, a clock and a verifier of
-/// its own, and the report on the station that they left is written. One of them does the duties of the authority
+/// its own, and the report on the state that they left is written. One of them does the duties of the authority
 /// besides. Where a gate failed while it was asked, the others go on until theirs are closed, and the report is written
 /// all the same; where one cannot listen, nothing is served or written.
 pub fn serve<
@@ -61,7 +61,7 @@ pub fn serve<
     outside: &mut Outside<S, K, E, C, V, N, G, L>,
 ) -> Served
     requires at { All (IsAt board) passes.items }
-    requires all { (board.station.passes ≤ length passes.items) × (board.pool.passes ≤ length passes.items) }
+    requires all { (board.state.passes ≤ length passes.items) × (board.pool.passes ≤ length passes.items) }
     requires count { AreAsMany outside.old.gates.items outside.old.clocks.items outside.old.verifiers.items
         passes.items }
     requires hook { KeepsTo W.allows F.pre F.post hook.now.rules hook.now.ask }
@@ -99,8 +99,8 @@ pub fn serve<
     if let Ran::Deaf = ran {
         return Served::GateFault;
     }
-    let (station, _) = board.close(passes, rooms);
-    let told = report(alloc, &station, &mut outside.sink);
+    let (state, _) = board.close(passes, rooms);
+    let told = report(alloc, &state, &mut outside.sink);
     match ran {
         Ran::Closed => told,
         Ran::Failed | Ran::Deaf => Served::GateFault,

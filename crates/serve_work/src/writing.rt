@@ -6,7 +6,7 @@ use crate::digest::{push, push_authority, push_digests};
 use crate::kind::kind_word;
 use dir_bytes::{Memory, push_decimal};
 use key_port::Verifier;
-use period_core::Station;
+use period_core::PeriodState;
 use period_terms::Change;
 use std::alloc::Global;
 
@@ -68,15 +68,15 @@ fn push_total(out: &mut Vec<u8>, front: u64) -> Result<(), Memory>
     push(out, b"\n")
 }
 
-/// The report on a station: how many changes were made, and a line for each since the period began.
+/// The report on a state: how many changes were made, and a line for each since the period began.
 ///
 /// # Errors
 /// `Memory` is want of memory.
-pub fn write<V: Verifier>(alloc: Global, station: &Station<V>) -> Result<Vec<u8>, Memory>
-    ensures { IfOk result (λ text. text.items ≡ reports.report_text station.now) }
+pub fn write<V: Verifier>(alloc: Global, state: &PeriodState<V>) -> Result<Vec<u8>, Memory>
+    ensures { IfOk result (λ text. text.items ≡ reports.report_text state.now) }
 {
     let mut out = Vec::new(alloc);
-    push_total(&mut out, station.front())?;
-    push_changes(alloc, &mut out, station.front(), station.changes())?;
+    push_total(&mut out, state.front())?;
+    push_changes(alloc, &mut out, state.front(), state.changes())?;
     Ok(out)
 }

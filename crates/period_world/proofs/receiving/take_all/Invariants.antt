@@ -5,8 +5,8 @@ use Rattle.period_world.proofs.receiving.take_all.Given as goal
 
 abbrev pub invariant-coming : goal.invariant-coming
 invariant-coming g l =
-    GoesOn g.N.Signer.may_give (rules g.V.Verifier.may_accept g.V.Verifier.may_refuse) l.fn.station l.fn.coming.items
-    l.station l.coming.items l.answers.items
+    GoesOn g.N.Signer.may_give (rules g.V.Verifier.may_accept g.V.Verifier.may_refuse) l.fn.state l.fn.coming.items
+    l.state l.coming.items l.answers.items
 
 abbrev pub decreases-coming : goal.decreases-coming
 decreases-coming g l = length l.coming.items

@@ -12,18 +12,18 @@ pub passes-preserved : goal.passes-preserved
 passes-preserved g c =
     let inv = c.passes.invariant in
     let here =
-    without_last c.args.station.now (length c.passes.stations.items) c.passes.stations.items c.pop.new.self.items
-    c.in-Some.station c.in-Some.ensures.items inv.stations in
+    without_last c.args.state.now (length c.passes.states.items) c.passes.states.items c.pop.new.self.items
+    c.in-Some.state c.in-Some.ensures.items inv.states in
     let there =
-    without_last c.args.pool.now (length c.passes.stations.items) c.passes.pools.items c.pop-in-Some.new.self.items
+    without_last c.args.pool.now (length c.passes.states.items) c.passes.pools.items c.pop-in-Some.new.self.items
     c.in-Some-pop.pool c.in-Some-pop.ensures.items inv.pools in
     let n : ℕ = length c.pop.new.self.items in
     let same : length c.pop-in-Some.new.self.items ≡ n = omega (arith, here.count_is, there.count_is) in
-    let pass : Parts = record { station = c.in-Some.station; pool = c.in-Some-pop.pool } in
-    let number : c.in-Some.station.number ≡ n = ap (λ k. k.number) here.last_is in
+    let pass : Parts = record { state = c.in-Some.state; pool = c.in-Some-pop.pool } in
+    let number : c.in-Some.state.number ≡ n = ap (λ k. k.number) here.last_is in
     let pushed : c.push_reserved.new.self.items ≡ c.passes.passes.items ++ pass ∷ [] = c.push_reserved.ensures.items in
     record {
-      stations = here.dealt;
+      states = here.dealt;
       pools = subst (λ (m : ℕ). AreDealt c.args.pool.now m c.pop-in-Some.new.self.items) same there.dealt;
       count =
           omega (
@@ -35,15 +35,15 @@ passes-preserved g c =
           );
       room = omega (arith, inv.room, c.push_reserved.ensures.capacity);
       pairs =
-          subst (λ (l : List Parts). All (IsPair c.args.station.now c.args.pool.now) l) (sym pushed)
-          (All-push (IsPair c.args.station.now c.args.pool.now) c.passes.passes.items pass inv.pairs
-          (pair_of c.args.station.now c.args.pool.now n c.in-Some.station c.in-Some-pop.pool here.last_is
+          subst (λ (l : List Parts). All (IsPair c.args.state.now c.args.pool.now) l) (sym pushed)
+          (All-push (IsPair c.args.state.now c.args.pool.now) c.passes.passes.items pass inv.pairs
+          (pair_of c.args.state.now c.args.pool.now n c.in-Some.state c.in-Some-pop.pool here.last_is
           (there.last_is ∙ ap (λ (m : ℕ). newcomer c.args.pool.now m) same)));
       above =
-          subst (λ (l : List Parts). All (λ p. n ≤ p.station.number) l) (sym pushed)
-          (numbers_above n (length c.passes.stations.items) c.passes.passes.items pass number here.count_is inv.above);
+          subst (λ (l : List Parts). All (λ p. n ≤ p.state.number) l) (sym pushed)
+          (numbers_above n (length c.passes.states.items) c.passes.passes.items pass number here.count_is inv.above);
       numbers =
           subst DifferInNumber (sym pushed)
-          (numbers_differ n (length c.passes.stations.items) c.passes.passes.items pass number here.count_is inv.above
+          (numbers_differ n (length c.passes.states.items) c.passes.passes.items pass number here.count_is inv.above
           inv.numbers);
     }

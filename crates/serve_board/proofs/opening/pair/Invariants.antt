@@ -6,14 +6,14 @@ use Rattle.serve_board.proofs.opening.pair.Given as goal
 
 abbrev pub invariant-passes : goal.invariant-passes
 invariant-passes g l = record {
-  stations : AreDealt l.station (length l.stations.items) l.stations.items;
-  pools : AreDealt l.pool (length l.stations.items) l.pools.items;
-  count : length l.passes.items + length l.stations.items ≡ length l.fn.stations.items;
-  room : length l.fn.stations.items ≤ vec_capacity l.passes;
-  pairs : All (IsPair l.station l.pool) l.passes.items;
-  above : All (λ pass. length l.stations.items ≤ pass.station.number) l.passes.items;
+  states : AreDealt l.state (length l.states.items) l.states.items;
+  pools : AreDealt l.pool (length l.states.items) l.pools.items;
+  count : length l.passes.items + length l.states.items ≡ length l.fn.states.items;
+  room : length l.fn.states.items ≤ vec_capacity l.passes;
+  pairs : All (IsPair l.state l.pool) l.passes.items;
+  above : All (λ pass. length l.states.items ≤ pass.state.number) l.passes.items;
   numbers : DifferInNumber l.passes.items;
 }
 
 abbrev pub decreases-passes : goal.decreases-passes
-decreases-passes g l = vec_len l.stations
+decreases-passes g l = vec_len l.states

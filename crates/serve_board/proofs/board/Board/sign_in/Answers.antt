@@ -9,7 +9,7 @@ use Rattle.serve_board.specs.Boards.{answer_at}
 use Rattle.serve_board.specs.Events.{SignsThere, signed_entry}
 use Rattle.serve_board.proofs.Places.{sign_in_number}
 use Rattle.serve_board.proofs.Standing.{event_told}
-use Rattle.serve_board.proofs.Views.{station_of, at_station, makes}
+use Rattle.serve_board.proofs.Views.{state_of, at_state, makes}
 use Rattle.serve_board.proofs.board.Board.sign_in.Goals as goal
 
 pub returns-clause-event : goal.returns-clause-event
@@ -18,24 +18,24 @@ returns-clause-event g c =
     let turn = c.turn.ensures.turn in
     makes _ c.args.self.now _ c.args.pass.now c.self.view_is c.pass.view_is rules c.turn.new.pass
     (SignedIn c.args.signature) (Signature c.in-Some.answer)
-    (event_told after (IsCheckedHistory rules) c.self.inside.station c.pass.inside.station c.turn.new.pass _ _
+    (event_told after (IsCheckedHistory rules) c.self.inside.state c.pass.inside.state c.turn.new.pass _ _
     c.turn.result _ turn answer_at entry_if (SignedIn c.args.signature) (Signature c.in-Some.answer)
-    (subst (λ r. SignsThere rules c.args.signature c.self.inside.station.start (entries turn.story) r)
+    (subst (λ r. SignsThere rules c.args.signature c.self.inside.state.start (entries turn.story) r)
     c.in-Some.is turn.answer)
     (ap (λ r. signed_entry (Some c.args.signature) r) c.in-Some.is) c.turn.ensures.mine)
 
 pub returns-clause-position : goal.returns-clause-position
 returns-clause-position g c =
     let rules : Rules = rules g.V.Verifier.may_accept g.V.Verifier.may_refuse in
-    sign_in_number rules c.args.self.now.station c.args.pass.now.station c.turn.new.pass c.args.signature
+    sign_in_number rules c.args.self.now.state c.args.pass.now.state c.turn.new.pass c.args.signature
     c.in-Some.answer (returns-clause-event g c).takes
 
 pub returns-clause-at : goal.returns-clause-at
 returns-clause-at g c =
-    at_station _ c.args.self.now _ c.args.pass.now c.self.view_is c.pass.view_is c.requires.at c.turn.new.pass
+    at_state _ c.args.self.now _ c.args.pass.now c.self.view_is c.pass.view_is c.requires.at c.turn.new.pass
     c.turn.ensures.turn.of
 
 pub turn-requires : goal.turn-requires
 turn-requires g c = record {
-  lock = station_of _ c.args.self.now _ c.args.pass.now c.self.view_is c.pass.view_is c.requires.at;
+  lock = state_of _ c.args.self.now _ c.args.pass.now c.self.view_is c.pass.view_is c.requires.at;
 }

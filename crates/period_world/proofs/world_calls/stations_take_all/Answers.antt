@@ -1,5 +1,0 @@
-use Rattle.period_world.proofs.Taking as law
-use Rattle.period_world.proofs.world_calls.stations_take_all.Goals as goal
-
-pub returns : goal.returns
-returns c = law.took
