@@ -21,9 +21,9 @@ pub use short_forms::{base_is_last_begin, forms_are_stored};
 pub use states::{
     accepted_are_wanted, computed_of_accepted, front_counts, front_of_history, given_is_told,
     held_are_held, history_goes_on, history_is_one, history_leads, lines_are_accepted,
-    published_is_signed, ranks_are_one, signed_is_published, period_states_agree, texts_stand,
+    period_states_agree, published_is_signed, ranks_are_one, signed_is_published, texts_stand,
 };
 pub use times::next_is_next;
 pub use worlds::{
-    all_honest_agree, equal_digests_equal_texts, published_agree, period_states_sign_once,
+    all_honest_agree, equal_digests_equal_texts, period_states_sign_once, published_agree,
 };

@@ -110,7 +110,11 @@ fn sign_in(rt: &HostRuntime, state: &mut PeriodState<TestKeys>, words: &[&str]) 
 }
 
 /// What a line brings to a state, and the answer.
-pub fn answer_to(rt: &HostRuntime, state: &mut PeriodState<TestKeys>, line: &str) -> Result<String> {
+pub fn answer_to(
+    rt: &HostRuntime,
+    state: &mut PeriodState<TestKeys>,
+    line: &str,
+) -> Result<String> {
     let words = words_of(rt.alloc(), line)?;
     let words = words.as_slice();
     match words.first() {

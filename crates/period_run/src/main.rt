@@ -26,7 +26,11 @@ fn main(rt: HostRuntime) -> Result<()> {
 }
 
 // An authority begins, in place of any other.
-fn begin(rt: &HostRuntime, period_state: &mut Option<PeriodState<TestKeys>>, line: &str) -> Result<()> {
+fn begin(
+    rt: &HostRuntime,
+    period_state: &mut Option<PeriodState<TestKeys>>,
+    line: &str,
+) -> Result<()> {
     let begun = started(rt, line)?;
     let valid_after = begun.valid_after();
     *period_state = Some(begun);
@@ -43,7 +47,11 @@ fn bring(rt: &HostRuntime, period_state: &mut PeriodState<TestKeys>, line: &str)
 }
 
 // Takes a line: an authority begins, or is told at its end, or something comes to it.
-fn take(rt: &HostRuntime, period_state: &mut Option<PeriodState<TestKeys>>, line: &str) -> Result<()> {
+fn take(
+    rt: &HostRuntime,
+    period_state: &mut Option<PeriodState<TestKeys>>,
+    line: &str,
+) -> Result<()> {
     if line.starts_with("station ") {
         return begin(rt, period_state, line);
     }

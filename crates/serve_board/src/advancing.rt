@@ -31,7 +31,10 @@ impl<'a, 'b, N: Signer, V: Verifier> Event<Period<V>> for AdvancePeriodState<'a,
 
     ghost entry_of = { λ before reply event. moved_entry before.now reply.0 reply.1.value };
 
-    fn apply(&mut self, state: &mut Period<V>) -> (Result<Advance, Memory>, Snapshot<PeriodState<V>>) {
+    fn apply(
+        &mut self,
+        state: &mut Period<V>,
+    ) -> (Result<Advance, Memory>, Snapshot<PeriodState<V>>) {
         let answer = state.period_state.advance(
             self.alloc,
             self.now,

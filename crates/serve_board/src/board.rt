@@ -11,7 +11,7 @@ use crate::advancing::AdvancePeriodState;
 use crate::opening::pair;
 use crate::pass::Pass;
 use crate::period::Period;
-use crate::question::{AskPool, AskPeriodState, Question};
+use crate::question::{AskPeriodState, AskPool, Question};
 use crate::reserve::{KeepEntry, Reserve};
 use crate::signing::OfferSignature;
 use crate::voting::OfferVote;
@@ -74,7 +74,13 @@ impl<V: Verifier> Board<V> {
         let own = state.own();
         let newest = state.newest();
         let room = Vec::with_capacity(alloc, passes as usize)?;
-        let (state, states) = Shared::new(alloc, Period { period_state: state }, passes)?;
+        let (state, states) = Shared::new(
+            alloc,
+            Period {
+                period_state: state,
+            },
+            passes,
+        )?;
         let (pool, pools) = Shared::new(alloc, Reserve { pool }, passes)?;
         let paired = pair(&state, &pool, states, pools, room);
         let board = Board {
