@@ -50,15 +50,6 @@ over_input given command left P is reads told c names =
     let same : reads_input c ≡ true = subst (λ (k : Command). reads_input k ≡ true) one reads in
     subst (λ (b : Bool). Told (if b then left else Some []) (P c)) (sym same) (told c names)
 
--- what one that reads none says of no bytes, it says of its input
-pub without_input : (given : Option Command) (command : Command) (left : Option (List ℕ))
-    (P : Command → List ℕ → Type 0) → Some command ≡ given → reads_input command ≡ false → P command []
-    → (c : Command) → given ≡ Some c → Told (input_of c left) (P c)
-without_input given command left P is reads told c names =
-    let one : command ≡ c = cc (is, names) in
-    subst (λ (k : Command). Told (input_of k left) (P k)) one
-    (subst (λ (b : Bool). Told (if b then left else Some []) (P command)) (sym reads) told)
-
 -- and need not come to an end of one
 pub none_read : (given : Option Command) (command c : Command) (P : Type 0) → Some command ≡ given → given ≡ Some c
     → reads_input command ≡ false → OnTrue (reads_input c) P

@@ -25,10 +25,6 @@ pub record IsReadTo (bytes : List ℕ) (place : ℕ) (reading : Reading) : Type 
   pub inside : place ≤ length bytes
   pub holds : Holds before reading
 
--- the line at a place, and those behind it
-abbrev pub IsNextLine : List ℕ → Line → Type 0
-IsNextLine rest line = (lines rest ≡ line ∷ lines (drop (size line) rest)) × (size line ≤ length rest)
-
 -- the lines are those before, that line and those behind it
 pub split_at : (bytes : List ℕ) (place : ℕ) (line : Line) (before : List Line) → lines bytes ≡ before ++ lines (drop place bytes)
     → lines (take (length bytes - place) (drop place bytes)) ≡ line ∷ lines (drop (size line) (take (length bytes - place) (drop place bytes)))
@@ -71,9 +67,3 @@ refused_there bytes place line old so_far (Fault there why) is fault =
     ∙ gathered_first fault_of so_far.before line (lines (drop (place + size line) bytes)) (at there why) so_far.holds.sound fault in
     ap (λ (o : Option BandFault). option_or o (end_fault (lines bytes))) first
 refused_there bytes place line old so_far Memory is fault = tt
-
--- no line is left
-pub read_all_lines : (bytes : List ℕ) (place : ℕ) (reading : Reading) (so_far : IsReadTo bytes place reading) → length bytes ≤ place → so_far.before ≡ lines bytes
-read_all_lines bytes place reading so_far over =
-    let none : drop place bytes ≡ [] = drop_of_length-le bytes over in
-    sym (so_far.split ∙ ap (λ (r : List ℕ). so_far.before ++ lines r) none ∙ append-nil so_far.before)

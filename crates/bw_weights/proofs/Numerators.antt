@@ -2,10 +2,6 @@
 use Rattle.std.proofs.Common.{◌≡◌, ℕ, ◌+◌, ◌*◌, pos, ◌+ℤ◌, ◌-ℤ◌, ◌*ℤ◌, arith}
 use Rattle.std.proofs.lemmas.Int.{ints, to_z-of_z}
 
--- a sum from which nothing is taken
-pub minus_nothing : (a : ℕ) → pos a -ℤ pos 0 ≡ pos a
-minus_nothing a = omega (arith, ints)
-
 -- E+G+M
 pub all_but_both : (g m e : ℕ) → pos (e + g + m) -ℤ pos 0 ≡ pos e +ℤ pos g +ℤ pos m
 all_but_both g m e = omega (arith, ints)

@@ -71,19 +71,6 @@ count_same : {X : Type 0} (p : X → Bool) (xs : List X) (x : X) (n : ℕ) → p
     → n ≡ length (filter p (xs ++ x ∷ []))
 count_same {X} p xs x n is count = count ∙ sym (ap (λ (l : List X). length l) (kept_same p xs x is))
 
--- nothing is told of no lines
-pub told_none : {V : Type 0} (rules : Rules) (steps : Steps V) (view : PeriodView) (d : Detached) (v : V)
-    → TellsLines rules steps view d [] (tally_of [] 0 0) v v
-told_none rules steps view d v = record {
-  judged = [];
-  all = refl;
-  by = All-nil (IsJudgedBy rules);
-  asked = refl;
-  checked_are = refl;
-  bad_are = refl;
-  skipped_are = refl;
-}
-
 module _ {V : Type 0} (rules : Rules) (steps : Steps V) (view : PeriodView) (d : Detached) (lines : List DetachedLine)
     (line : DetachedLine) (before : Tally) (old between new : V)
     (tells : TellsLines rules steps view d lines before old between) where

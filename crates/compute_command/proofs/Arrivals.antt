@@ -199,9 +199,6 @@ module _ (rules : Rules) (wanted : Compute) where
         let size = ap (λ (l : List ℕ). length l) parts in
         omega (arith, size, length-append done left, length-append bytes done, short)
 
-    pub still_arrived : HasArrived rules wanted now (length left)
-    still_arrived = (begun.0 ++ done, so begun.0 begun.1 begun.2, short_on begun.0 begun.2)
-
     pub turn_takes : (next : Arriving) (taken : ℕ) → TurnsFrom now left next taken → Takes left taken
     turn_takes next taken turns =
         (turns (begun.0 ++ done) (so begun.0 begun.1 begun.2) (short_on begun.0 begun.2)).takes

@@ -175,13 +175,3 @@ front_more bytes piece all cursor same is = record {
   limit = is.limit;
   place = is.place;
 }
-
--- and where nothing is known yet
-pub front_waits : (bytes : List ℕ) (cursor new : Cursor) → ReadsFront bytes cursor
-    → Takes (fed_by cursor bytes false) taken.NotYet (fed_by new bytes false) → IsAt bytes new → new.limit ≡ cursor.limit
-    → ReadsFront bytes new
-front_waits bytes cursor new is takes at_ limit = record {
-  reads = at_;
-  limit = limit ∙ is.limit;
-  place = ap (λ (fed : Fed). fed.place) takes.2 ∙ is.place;
-}

@@ -57,17 +57,6 @@ pub none_taken : (old : Option (List ℕ)) → Consumes old old []
 none_taken None = tt
 none_taken (Some all) = refl
 
--- all bytes have come
-pub has_whole : (old mid new : Option (List ℕ)) (bytes : List ℕ) (limit : ℕ) → Consumes old mid bytes → Keeps mid new
-    → IsAtEnd mid → length bytes ≤ limit → HasWhole old new limit bytes
-has_whole None mid new bytes limit taken same end few = few
-has_whole (Some all) None new bytes limit taken same end few = absurd taken
-has_whole (Some all) (Some left) None bytes limit taken same end few = absurd same
-has_whole (Some all) (Some left) (Some more) bytes limit taken same end few =
-    let whole : all ≡ bytes = taken ∙ ap (λ (l : List ℕ). bytes ++ l) end ∙ append-nil bytes in
-    let size = ap (λ (l : List ℕ). length l) whole in
-    (sym whole, (ap (λ (l : List ℕ). Some l) (same ∙ end), omega (arith, size, few)))
-
 pub whole_few : (old new : Option (List ℕ)) (limit : ℕ) (bytes : List ℕ) → HasWhole old new limit bytes
     → length bytes ≤ limit
 whole_few None new limit bytes is = is
@@ -88,25 +77,7 @@ module _ (rules : Rules) (wanted : Compute) where
       let size = ap (λ (l : List ℕ). length l) whole in
       omega (arith, size, length-append (bytes ++ piece) rest, length-append bytes piece, many)
 
-  pub no_memory : (old new : Option (List ℕ)) (limit : ℕ)
-      → HasReadVotes rules wanted old new limit (Err (halt.Stops stop.Memory))
-  no_memory None new limit = tt
-  no_memory (Some all) new limit = tt
-
-  pub read_fault : (old new : Option (List ℕ)) (limit : ℕ) → HasReadVotes rules wanted old new limit (Err halt.ReadFault)
-  read_fault None new limit = tt
-  read_fault (Some all) new limit = tt
-
   -- ---- the answer
-
-  -- what reading the input stops for
-  pub reading_answers : (old new : Option (List ℕ)) (limit : ℕ) (why : Halt)
-      → HasReadVotes rules wanted old new limit (Err why) → ComputesFrom rules wanted old new limit (Err why)
-  reading_answers None new limit why is = tt
-  reading_answers (Some all) new limit halt.TooLong is = is
-  reading_answers (Some all) new limit halt.ReadFault is = tt
-  reading_answers (Some all) new limit (halt.Stops stop.Memory) is = tt
-  reading_answers (Some all) new limit (halt.Stops (stop.Refused why)) is = absurd is
 
   refused_whole : (old new : Option (List ℕ)) (limit : ℕ) (bytes : List ℕ) (why : ComputeRefusal) → HasWhole old new limit bytes
       → ComputeAnswers rules wanted bytes (Err why)

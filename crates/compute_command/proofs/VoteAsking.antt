@@ -75,11 +75,6 @@ module _ {V : Type 0} (steps : Steps V) where
       subst (λ (l : List ReadVote). AsksAccepted steps l start now) (sym (taken_more all n vote lt is))
       (one_accepted (take n all) vote start before now asked asks)
 
-  pub accepted_all : (all : List ReadVote) (n : ℕ) (start now : V) → length all ≤ n
-      → AsksAccepted steps (take n all) start now → AsksAccepted steps all start now
-  accepted_all all n start now long asked =
-      subst (λ (l : List ReadVote). AsksAccepted steps l start now) (take_all n all long) asked
-
   pub refused_at : (all : List ReadVote) (n : ℕ) (vote : ReadVote) (refused : VoteRefusal) (why : AcceptRefusal)
       (start before now : V) → n < length all → vote ≡ get_or all n vote → why ≡ refusal_of (n + 1) refused
       → AsksAccepted steps (take n all) start before → AsksOfRefused steps vote refused before now

@@ -58,12 +58,6 @@ added_few (a ∷ first) (b ∷ second) [] k = omega arith
 added_few (a ∷ first) (b ∷ second) (count ∷ counts) zero = omega (arith, one_at_most a b)
 added_few (a ∷ first) (b ∷ second) (count ∷ counts) (suc k) = added_few first second counts k
 
-pub length-added : (first second : List Bool) (counts : List ℕ) → length (added_counts first second counts) ≡ length counts
-length-added [] second counts = refl
-length-added (a ∷ first) [] counts = refl
-length-added (a ∷ first) (b ∷ second) [] = refl
-length-added (a ∷ first) (b ∷ second) (count ∷ counts) = omega (arith, length-added first second counts)
-
 -- ---- counts of flags
 
 added_map : (f : List ℕ → ℕ) (g h : List ℕ → Bool) (flags : List (List ℕ)) → added_counts (map g flags) (map h flags) (map f flags) ≡ map (λ flag. f flag + one_if (g flag) (h flag)) flags

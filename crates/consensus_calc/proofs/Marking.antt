@@ -61,10 +61,6 @@ apart_by : (b : Bool) (x y : List ℕ) → bytes_eq y x ≡ b → Below x y → 
 apart_by true x y e h = absurd (not_itself x (subst (λ (t : List ℕ). Below x t) (same_text y x e) h))
 apart_by false x y e h = e
 
-apart_to_by : (b : Bool) (x y : List ℕ) → bytes_eq x y ≡ b → Below x y → bytes_eq x y ≡ false
-apart_to_by true x y e h = absurd (not_itself x (subst (λ (t : List ℕ). Below x t) (sym (same_text x y e)) h))
-apart_to_by false x y e h = e
-
 eq_back_by : (b : Bool) (x y : List ℕ) → bytes_eq x y ≡ b → bytes_eq y x ≡ false → bytes_eq x y ≡ false
 eq_back_by true x y e h = absurd (false≢true (sym h ∙ rw (same_text x y e) ((bytes_decides y y).1 refl)))
 eq_back_by false x y e h = e

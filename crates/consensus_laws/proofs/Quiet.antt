@@ -52,10 +52,6 @@ rows_quiet [] quiet = tt
 rows_quiet (says ∷ rows) quiet =
     both_pass is_quiet says.entries (entries_of rows) quiet.0 (rows_quiet rows quiet.1)
 
-pub both_quiet : (front back : List ConsensusRow) → AreQuiet front → AreQuiet back → AreQuiet (front ++ back)
-both_quiet [] back a b = b
-both_quiet (says ∷ front) back a b = both_hold a.0 (both_quiet front back a.1 b)
-
 -- a text or none
 pub text_quiet : (keyword : Keyword) (text : Option (List ℕ)) → EachPasses is_quiet (text_entry_if keyword text)
 text_quiet keyword None = tt

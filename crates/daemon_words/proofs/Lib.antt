@@ -5,4 +5,3 @@ pub mod Rehearsed
 pub mod Reported
 pub mod Served
 pub mod Bounds
-pub mod WentOn

@@ -137,10 +137,6 @@ rest_says {bytes} {v} says =
     said (TextIs IsLineRest bytes) kind.Rest v (λ item sound.
     subst IsLineRest (sym (rest_part sound.in_place)) sound.rest) says
 
--- An address of a descriptor is one of an entry: both end with a colon and a port.
-pub addresses_are_alike : (text : List ℕ) → of_descriptors.is_address text ≡ of_entries.is_address text
-addresses_are_alike text = refl
-
 pub address_says : {bytes : List ℕ} {v : Said} → DescriptorSays bytes kind.Address v → TextIs IsAddressInRange bytes v
 address_says {bytes} {v} says =
     said (TextIs IsAddressInRange bytes) kind.Address v (λ item sound.

@@ -96,11 +96,3 @@ one_signs_not rules digest lines all keys new place d lt is so bad =
 
 no_more : (asked all : List SignerKey) → all ≡ asked ++ [] → asked ≡ all
 no_more asked all is = grind (arith, common_steps, is)
-
--- all were asked of
-pub all_asked : (rules : Rules) (digest : List ℕ) (lines : List SignatureLine) (all keys : List SignerKey) (place : ℕ)
-    → length keys ≤ place → AreSoFar rules digest lines all keys place → AreSigners rules digest all lines keys
-all_asked rules digest lines all keys place ended so =
-    subst (λ (signers : List SignerKey). AreSigners rules digest all lines signers) (take_all place keys ended)
-    (subst (λ (asked : List SignerKey). AreSigners rules digest asked lines (take place keys))
-    (no_more so.asked all (so.all_is ∙ ap (λ (l : List SignerKey). so.asked ++ l) (drop_all place keys ended))) so.are)

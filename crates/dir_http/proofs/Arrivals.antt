@@ -15,11 +15,6 @@ use Rattle.dir_http.specs.Fronts.{ArePartsOf}
 use Rattle.dir_http.specs.Arrivals.{IsSettled, AwaitsBytes}
 use Rattle.dir_http.proofs.Reading.{too_long, handed_on, unfinished}
 
--- no head of so few fields can stand there
-pub overflowing : (bytes : List ℕ) → RequestOverflows field_limit bytes → IsSettled bytes
-overflowing bytes over =
-    inr (fault.BadHead, tt, λ more any head rest at. absurd (omega (arith, over more head rest at.reads, at.fields)))
-
 -- no head within the limit can stand there
 pub past_the_limit : (bytes : List ℕ) → HasNoRequest bytes → head_limit ≤ length bytes → IsSettled bytes
 past_the_limit bytes none long =
@@ -68,14 +63,3 @@ body_awaited bytes parts head path count are on is more few has =
     ap (λ (l : List ℕ). length l) (sym same.1) ∙ length-append (drop parts.len bytes) more
     ∙ ap (λ (n : ℕ). n + length more) (length-drop parts.len bytes) in
     absurd (omega (arith, few, said, long, has.5))
-
--- no head stands there yet
-pub head_awaited : (bytes : List ℕ) → HasNoRequest bytes → AwaitsBytes bytes 1
-head_awaited bytes none [] few has =
-    let whole : bytes ++ [] ≡ bytes = append-nil bytes in
-    none has.0 has.1 (has.3.reads.0, sym whole ∙ has.3.reads.1)
-head_awaited bytes none (b ∷ more) few has = absurd (omega (arith, few))
-
--- where none are missing nothing is said
-pub none_awaited : (bytes : List ℕ) → AwaitsBytes bytes 0
-none_awaited bytes more few has = absurd (omega (arith, few))

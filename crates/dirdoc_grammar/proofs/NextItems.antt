@@ -34,18 +34,6 @@ stops_between limit place line bytes blank ends = (
   tt,
 )
 
--- the item of a keyword line, with what follows it
-pub whole_found : (limit place line after : ℕ) (bytes : List ℕ) (item whole : Item) → BlankTo limit place line bytes → Reads limit line bytes (Ok (Some item, after)) → FindsObject limit bytes item (Whole whole) → Finds limit place bytes (Whole whole)
-whole_found limit place line after bytes item whole blank read found = (
-  λ more. blank.same more ∙ read.0 more ∙ ap (λ (n : ℕ). from_place limit n (model.keyword_line (seen_item item)) (bytes ++ more)) (sym read.3) ∙ found.0 more,
-  omega (arith, blank.order, read.1, read.3, found.1),
-  found.2,
-)
-
-pub fault_found : (limit place line after : ℕ) (bytes : List ℕ) (item : Item) (fault : DocFault) → BlankTo limit place line bytes → Reads limit line bytes (Ok (Some item, after)) → FindsObject limit bytes item (Fault fault) → Finds limit place bytes (Fault fault)
-fault_found limit place line after bytes item fault blank read found = λ more.
-    blank.same more ∙ read.0 more ∙ ap (λ (n : ℕ). from_place limit n (model.keyword_line (seen_item item)) (bytes ++ more)) (sym read.3) ∙ found more
-
 last_behind : (limit place : ℕ) (bytes : List ℕ) (line : ℕ) (open_ : model.Open) (last : Option Item) → place < line → Ends limit bytes line open_ last → IfSome last (λ item. place < item.after)
 last_behind limit place bytes line open_ None lt h = tt
 last_behind limit place bytes line open_ (Some item) lt h = omega (arith, lt, h.2)
@@ -75,7 +63,3 @@ found_open limit place line after bytes item stop last blank read found =
 pub blank_line : (limit place line after : ℕ) (bytes : List ℕ) → BlankTo limit place line bytes → Reads limit line bytes (Ok (None, after)) → BlankTo limit place after bytes
 blank_line limit place line after bytes blank read =
     record { order = omega (arith, blank.order, read.1); within = read.2; same = λ more. blank.same more ∙ read.0 more }
-
--- a line between items that has a fault
-pub line_fault_found : (limit place line : ℕ) (bytes : List ℕ) (fault : DocFault) → BlankTo limit place line bytes → Reads limit line bytes (Err fault) → (fault.reason ≡ Unterminated → ⊥) → Finds limit place bytes (Fault fault)
-line_fault_found limit place line bytes fault blank read sure = λ more. blank.same more ∙ read.settled sure more

@@ -18,12 +18,6 @@ may_none again.Nothing is = absurd (cc (is))
 may_none again.Section is = tt
 may_none again.Document is = absurd (cc (is))
 
--- one may always stand
-pub may_one : (more : Again) → MayStand more 1
-may_one again.Nothing = refl
-may_one again.Section = tt
-may_one again.Document = refl
-
 module _ {S K V X : Type 0} (tables : Tables S K V X) where
   -- ---- those that follow a section
 

@@ -62,21 +62,6 @@ fitting_ranges (range ∷ rest) are =
     and_from (nat_le 1 (length ranges)) (are_apart 1 ranges) one
     (fitting_apart most_behind_word 1 (range ∷ rest) apart)
 
--- a range that fits is taken
-pub fitting_range_is_taken : (room : ℕ) (ranges : List PortRange) (i : ℕ) (d : PortRange) → i < length ranges
-    → taken_by (get_or ranges i d) ≤ room
-    → ranges_fitting room (drop i ranges)
-    ≡ get_or ranges i d ∷ ranges_fitting (room - taken_by (get_or ranges i d)) (drop (i + 1) ranges)
-fitting_range_is_taken room ranges i d lt fits =
-    let range = get_or ranges i d in
-    let left = room - taken_by range in
-    let one : suc i ≡ i + 1 = omega arith in
-    let test : nat_le (taken_by range) room ≡ true = le-leb (taken_by range) room fits in
-    let taken : ranges_fitting room (range ∷ drop (suc i) ranges) ≡ range ∷ ranges_fitting left (drop (suc i) ranges) =
-    rw test refl in
-    ap (ranges_fitting room) (drop-cons ranges i d lt) ∙ taken
-    ∙ ap (λ (n : ℕ). range ∷ ranges_fitting left (drop n ranges)) one
-
 -- where one does not fit, none is taken
 pub no_more : (room : ℕ) (ranges : List PortRange) (i : ℕ) (d : PortRange) → i < length ranges
     → room ≤ length (range_text (get_or ranges i d)) → ranges_fitting room (drop i ranges) ≡ []

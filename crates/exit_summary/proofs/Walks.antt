@@ -44,24 +44,6 @@ passed_over rejected items i port lt other =
     walk_at rejected items i port lt
     ∙ ap (λ (b : Bool). first_if b rejected item (filter (covers port) (drop (i + 1) items))) other
 
--- so is one of later ports
-pub past_low : (rejected : ℕ) (items : List PolicyItem) (i port : ℕ) → i < length items
-    → port < (get_or items i none).low
-    → accepted_from rejected items i port ≡ accepted_from rejected items (i + 1) port
-past_low rejected items i port lt before =
-    let item = get_or items i none in
-    let low = lt-leb item.low port before in
-    passed_over rejected items i port lt (and_left (nat_le item.low port) (nat_le port item.high) low)
-
--- and one of earlier ports
-pub past_high : (rejected : ℕ) (items : List PolicyItem) (i port : ℕ) → i < length items
-    → (get_or items i none).high < port
-    → accepted_from rejected items i port ≡ accepted_from rejected items (i + 1) port
-past_high rejected items i port lt behind =
-    let item = get_or items i none in
-    let high = lt-leb port item.high behind in
-    passed_over rejected items i port lt (and_right (nat_le item.low port) (nat_le port item.high) high)
-
 -- What an item has of a port, in a list of items at a place.
 pub record Covers (items : List PolicyItem) (i port : ℕ) : Type 0 where
   pub there : i < length items

@@ -215,13 +215,6 @@ module _ {A : Type 0} (order : A → A → Ordering) where
   pub leader_is_chosen : IsTotalOrder order → ((a b : A) → order a b ≡ Equal → a ≡ b) → (list : List A) → leader order list list ≡ chosen order list
   leader_is_chosen o same list = fold_is list None list ∙ kept_is_found (outdoes order list) list (rules_of o same list)
 
-  times_by : IsTotalOrder order → (x y : A) (list : List A) → order x y ≡ Equal → times order list x ≡ times order list y
-  times_by o x y list e = count_same (λ z. is_eq (order x z)) (λ z. is_eq (order y z)) (λ z. ap is_eq (o.congr x y z e)) list
-
-  -- of two that tie neither outdoes the other
-  pub tied_stays : IsTotalOrder order → (list : List A) (x y : A) → order x y ≡ Equal → outdoes order list x y ≡ false
-  tied_stays o list x y e = let level = times_by o x y list e in rw (level, ap is_gt e) (grind (arith, nat_tests))
-
   -- ---- by places
 
   abbrev pub at : List A → Option ℕ → Option A

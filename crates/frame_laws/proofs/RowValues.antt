@@ -114,16 +114,6 @@ module _ {S K W X : Type 0} where
   each_text tables row [] suits = tt
   each_text tables row (text ∷ texts) suits = both_hold (suits text) (each_text tables row texts suits)
 
-  -- any number of texts, of a row that may stand so often
-  pub said_each : (tables : Tables S K (Value W) X) (row : Row K) (texts : List (List ℕ)) → is_one row.count ≡ false
-      → is_many row.count ≡ true
-      → ((t : List ℕ) → AlwaysSuits tables row (text_entry row.keyword t)) → IsSaid tables (row_each row texts)
-  said_each tables row texts optional many suits = record {
-    some = λ i. absurd (both_ways (is_one row.count) optional i);
-    few = λ i. absurd (both_ways (is_many row.count) i many);
-    suits = each_text tables row texts suits;
-  }
-
 -- ---- what is read of them
 
 module _ {K W : Type 0} {limit : ℕ} {bytes : List ℕ} {taken : List (Taken (Value W))} {place : ℕ} where
@@ -171,23 +161,3 @@ module _ {W : Type 0} where
   -- the text of one item
   abbrev pub text_of_item : List ℕ → Taken (Value W) → List ℕ
   text_of_item bytes one = part bytes (text_in (text_of_value one.value))
-
-  all_texts : (limit : ℕ) (bytes : List ℕ) (place : ℕ) (keyword : Keyword) (texts : List (List ℕ))
-      → Stand {V = Value W} limit bytes place (map (text_entry keyword) texts)
-      → map (text_of_item bytes) (all_taken place (map (text_entry keyword) texts)) ≡ texts
-  all_texts limit bytes place keyword [] stand = refl
-  all_texts limit bytes place keyword (text ∷ texts) stand =
-      let next = after_one place (text_entry {W = W} keyword text) in
-      ap (λ (t : List ℕ). t ∷ map (text_of_item bytes) (all_taken next (map (text_entry keyword) texts)))
-      (rest_part stand.in_place.0)
-      ∙ ap (λ (l : List (List ℕ)). text ∷ l)
-      (all_texts limit bytes next keyword texts (record { writable = stand.writable.1; in_place = stand.in_place.1 }))
-
--- they are read
-pub texts_said : {K W : Type 0} {limit : ℕ} {bytes : List ℕ} {taken : List (Taken (Value W))} {place : ℕ}
-    (row : Row K) (texts : List (List ℕ))
-    → IsRead limit bytes taken place (row_each row texts)
-    → map (text_of_item bytes) (items_at taken row.keyword) ≡ texts
-texts_said {K} {W} {limit} {bytes} {taken} {place} row texts read =
-    ap (λ (l : List (Taken (Value W))). map (text_of_item bytes) l) read.items
-    ∙ all_texts limit bytes place row.keyword texts read.stand

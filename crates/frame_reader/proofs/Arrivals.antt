@@ -37,19 +37,6 @@ pub item_taken : {S K V X F : Type 0} (with_ : F → S → List (Taken V) → F)
 item_taken with_ tables old mid new item x0 x1 x2 o0 o1 o2 f0 f1 f2 so left turns length more =
     so length more ∙ at_item with_ tables mid new item x1 o1 f1 left length more ∙ turns length (left_with new more).fault (left_with new more).items
 
-pub whole_taken : {S K V X F : Type 0} (with_ : F → S → List (Taken V) → F) (tables : Tables S K V X) (old mid new : Fed) (item : Item) (x0 x1 x2 : X) (o0 o1 o2 : Open S V) (f0 f1 f2 : F) (used : ℕ)
-    → SoFar with_ tables old x0 o0 f0 mid x1 o1 f1 → Left mid new item → Turns with_ tables item x1 o1 f1 x2 o2 f2 (Ok (Some used))
-    → (length : ℕ) (more : List ℕ) → goes_on with_ tables old x0 o0 f0 length more ≡ Ok (f2, used)
-whole_taken with_ tables old mid new item x0 x1 x2 o0 o1 o2 f0 f1 f2 used so left turns length more =
-    so length more ∙ at_item with_ tables mid new item x1 o1 f1 left length more ∙ turns length (left_with new more).fault (left_with new more).items
-
-pub item_refused : {S K V X F : Type 0} (with_ : F → S → List (Taken V) → F) (tables : Tables S K V X) (old mid new : Fed) (item : Item) (x0 x1 x2 : X) (o0 o1 o2 : Open S V) (f0 f1 f2 : F) (refusal : ReadRefusal)
-    → SoFar with_ tables old x0 o0 f0 mid x1 o1 f1 → Left mid new item → Turns with_ tables item x1 o1 f1 x2 o2 f2 (Err refusal)
-    → (length : ℕ) (more : List ℕ) → Fails refusal (goes_on with_ tables old x0 o0 f0 length more)
-item_refused {F = F} with_ tables old mid new item x0 x1 x2 o0 o1 o2 f0 f1 f2 refusal so left turns length more =
-    subst (λ (r : Result (F × ℕ) ReadRefusal). Fails refusal r) (sym (so length more ∙ at_item with_ tables mid new item x1 o1 f1 left length more))
-    (turns length (left_with new more).fault (left_with new more).items)
-
 pub fault_met : {S K V X F : Type 0} (with_ : F → S → List (Taken V) → F) (tables : Tables S K V X) (old mid : Fed) (fault : DocFault) (x0 x1 : X) (o0 o1 : Open S V) (f0 f1 : F)
     → SoFar with_ tables old x0 o0 f0 mid x1 o1 f1 → ((more : List ℕ) → MayFollow false more → left_with mid more ≡ failed_contents fault)
     → (length : ℕ) (more : List ℕ) → Fails (of_doc fault) (goes_on with_ tables old x0 o0 f0 length more)

@@ -7,13 +7,6 @@ use Rattle.gate_workers.specs.declared.worker.End.TheVariants as ends
 use Rattle.gate_workers.specs.declared.worker.Worker.{Worker}
 use Rattle.gate_workers.specs.Workers.{Ends, Listens, AnyFault, GateRose}
 
--- a worker that ended without a fault ended where its gate was closed
-closed_end : (before now : ℕ) (closed : Bool) (end : End) → Ends before now closed end → end ≢ ends.Fault
-    → closed ≡ true
-closed_end before now closed ends.Working is fine = absurd is
-closed_end before now closed ends.Closed is fine = is
-closed_end before now closed ends.Fault is fine = absurd (fine refl)
-
 -- a count that rose after it did not fall rose
 rose_on : (a b c : ℕ) → a ≤ b → Rose b c → Rose a c
 rose_on a b c kept rose = omega (arith, kept, rose)
@@ -72,7 +65,3 @@ module _ {G K : Type 0} (faults : G → ℕ) (closed : G → Bool) (ws ws' : Lis
               (subst (λ x. Ends (faults (slice_index_or ws' i w).gate) (faults x.gate) (closed x.gate) x.end)
               (sym any.3) (ended i w there)));
         }
-
-    -- where none failed, all gates are closed
-    pub all_closed : AnyFault false ws'' → All (λ (w : Worker G K). closed w.gate ≡ true) ws''
-    all_closed none = λ i d below. closed_end _ _ _ _ (ended i d (omega (arith, below, longer))) (none i d below)

@@ -25,16 +25,6 @@ module _ {A : Type 0} where
       ap (λ (l : List ℕ). l ++ flat_map f rest) pushed ∙ append_assoc out (f x) (flat_map f rest)
       ∙ sym (ap (λ (l : List A). out ++ flat_map f l) splits) ∙ so_far
 
-  -- the words of one element more are put into a set
-  pub words_more : (g : A → List (List ℕ)) (set new : List (List ℕ)) (x : A) (rest all : List A)
-      (whole : List (List ℕ))
-      → all ≡ x ∷ rest → new ≡ fold with_flag set (g x) → fold with_flag set (flat_map g all) ≡ whole
-      → fold with_flag new (flat_map g rest) ≡ whole
-  words_more g set new x rest all whole splits put so_far =
-      ap (λ (s : List (List ℕ)). fold with_flag s (flat_map g rest)) put
-      ∙ sym (fold-append with_flag set (g x) (flat_map g rest))
-      ∙ sym (ap (λ (l : List A). fold with_flag set (flat_map g l)) splits) ∙ so_far
-
   -- the word of one element more is put into a set
   pub word_more : (g : A → List ℕ) (set new : List (List ℕ)) (x : A) (rest all : List A) (whole : List (List ℕ))
       → all ≡ x ∷ rest → new ≡ with_flag set (g x) → fold with_flag set (map g all) ≡ whole

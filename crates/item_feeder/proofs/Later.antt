@@ -119,7 +119,3 @@ pub shows_later : (k : ℕ) (old new : Fed) (one other : Take) → Takes old one
 shows_later k old new one other h is =
     let t = takes_later k old new one other h is in
     subst (λ (f : Fed). Takes (later k old) other f) (new_is (later k old) (later k new) other t) t
-
--- nothing is taken where nothing is known
-pub same_later : (k : ℕ) (old new : Fed) → Takes old take_.NotYet new → later k new ≡ later k old
-same_later k old new h = ap (later k) h.2

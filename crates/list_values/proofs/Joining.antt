@@ -20,11 +20,3 @@ module _ {A : Type 0} (text : A → List ℕ) where
       ap (λ (l : List A). behind_each separator (map text l)) (drop-cons values i value lt)
       ∙ ap (λ (v : A). separator ∷ (text v ++ left (suc i))) (sym is)
       ∙ ap (λ (n : ℕ). separator ∷ (text value ++ left n)) one
-
-  -- how much is left to write
-  pub length-behind : (separator : ℕ) (values : List A) (i : ℕ) (value : A) → i < length values → value ≡ get_or values i value
-      → length (behind_each separator (map text (drop i values)))
-      ≡ 1 + length (text value) + length (behind_each separator (map text (drop (i + 1) values)))
-  length-behind separator values i value lt is =
-      ap (λ (l : List ℕ). length l) (behind-drop separator values i value lt is)
-      ∙ omega (arith, length-append (text value) (behind_each separator (map text (drop (i + 1) values))))

@@ -10,16 +10,6 @@ use Rattle.mirror_core.specs.Answers.{ConsensusRefused, IsMicrodesc, IsSignedBy,
 use Rattle.mirror_core.specs.States.{HeldConsensus, Mirrored, named}
 use Rattle.mirror_core.specs.Lending.{IsMajority, IsMinority, IsNoMicrodesc, IsNoSigning, IsNotNewer, IsUnsigned}
 
--- bytes that are no microdesc consensus
-pub no_microdesc : (rules : Rules) (before : Mirrored) (bytes : List ℕ) (why : MirrorRefusal) → IsNoMicrodesc bytes why
-    → IsUnsigned rules before bytes why
-no_microdesc rules before bytes (refusal.Document fault) is = is
-no_microdesc rules before bytes refusal.WrongFlavour is = is
-no_microdesc rules before bytes (refusal.Older held) is = absurd is
-no_microdesc rules before bytes refusal.VerifierFault is = absurd is
-no_microdesc rules before bytes (refusal.TooFewSigners counted roster) is = absurd is
-no_microdesc rules before bytes refusal.Memory is = tt
-
 -- one that is not newer
 pub not_newer : (rules : Rules) (before : Mirrored) (bytes : List ℕ) (consensus : SignedConsensus) (held : Option ℕ)
     (why : MirrorRefusal) → IsMicrodesc bytes consensus → held ≡ held_from before.held
@@ -31,18 +21,6 @@ not_newer rules before bytes consensus held (refusal.Older than) microdesc is ol
 not_newer rules before bytes consensus held refusal.VerifierFault microdesc is older = absurd older
 not_newer rules before bytes consensus held (refusal.TooFewSigners counted roster) microdesc is older = absurd older
 not_newer rules before bytes consensus held refusal.Memory microdesc is older = tt
-
--- one of which it is not known who signed it
-pub no_signing : (rules : Rules) (before : Mirrored) (bytes : List ℕ) (consensus : SignedConsensus) (held : Option ℕ)
-    (why : MirrorRefusal) → IsMicrodesc bytes consensus → held ≡ held_from before.held
-    → is_after held consensus.facts.valid_after ≡ true → IsNoSigning why → IsUnsigned rules before bytes why
-no_signing rules before bytes consensus held (refusal.Document fault) microdesc is newer none = absurd none
-no_signing rules before bytes consensus held refusal.WrongFlavour microdesc is newer none = absurd none
-no_signing rules before bytes consensus held (refusal.Older than) microdesc is newer none = absurd none
-no_signing rules before bytes consensus held refusal.VerifierFault microdesc is newer none =
-    (consensus, microdesc, ap (λ (h : Option ℕ). is_after h consensus.facts.valid_after) (sym is) ∙ newer)
-no_signing rules before bytes consensus held (refusal.TooFewSigners counted roster) microdesc is newer none = absurd none
-no_signing rules before bytes consensus held refusal.Memory microdesc is newer none = tt
 
 -- why it does not count is why it is refused
 pub unsigned : (rules : Rules) (before : Mirrored) (bytes : List ℕ) (why : MirrorRefusal) → IsUnsigned rules before bytes why

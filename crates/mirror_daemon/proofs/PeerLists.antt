@@ -33,18 +33,6 @@ not_all (first ∷ before) one more is = by (is_address first) (list_all is_addr
     by true b is = is
     by false b is = refl
 
-either_false : (few all : Bool) (texts : List (List ℕ)) → all ≡ false
-    → (if few && all then Some texts else None) ≡ None
-either_false true all texts is = rw is refl
-either_false false all texts is = refl
-
--- one of the texts is no address
-pub bad_peer : (before : List (List ℕ)) (one : List ℕ) (more : List (List ℕ)) → is_address one ≡ false
-    → if_peers (before ++ one ∷ more) ≡ None
-bad_peer before one more is =
-    either_false (nat_le (length (before ++ one ∷ more)) most_peers) (list_all is_address (before ++ one ∷ more))
-    (before ++ one ∷ more) (not_all before one more is)
-
 longer : (before : List (List ℕ)) (one : List ℕ) (more : List (List ℕ)) → length before < length (before ++ one ∷ more)
 longer [] one more = omega arith
 longer (first ∷ before) one more = let rest = longer before one more in omega (arith, rest)

@@ -97,10 +97,6 @@ pub fits_member : (s : State) (x : OfferedSignature) (w : Weighed) → w ≡ wei
     → AreHeld s.roster s.votes → has_member s.roster x.authority ≡ true
 fits_member s x w e i a = key_of_member s.roster s.votes x.authority x.key a (fits_may s x w e i).key
 
-pub fits_none : (s : State) (x : OfferedSignature) (w : Weighed) → w ≡ weighed_signature s x → w ≡ Fits
-    → has_line (lines_of x.flavour s) x.authority ≡ false
-fits_none s x w e i = (fits_may s x w e i).none
-
 pub refused_answer : (s : State) (x : OfferedSignature) (w : Weighed) (answer : SignIn) → w ≡ weighed_signature s x
     → w ≡ Refused answer → answer ≡ (sign_in s x).answer
 refused_answer s x w answer e i = sym (ap (λ (o : Outcome SignIn). o.answer) (settles s x ∙ ap (settled_signature s x)

@@ -60,11 +60,3 @@ goes_at old new at line identity lt is n e =
       few = omega (arith, size);
       fewer = omega (arith, size);
     }
-
--- at the end all are looked at
-pub all_dropped : (lines : List SignatureLine) (at : ℕ) (identity : Fingerprint) → length lines ≤ at
-    → dropped_from at identity lines ≡ lines
-all_dropped lines at identity le =
-    ap (λ l. l ++ lines_but (drop at lines) identity) (take_all at lines le)
-    ∙ ap (λ l. lines ++ lines_but l identity) (drop_all at lines le)
-    ∙ append-nil lines

@@ -25,12 +25,6 @@ pub no_member : (all : List ReadVote) (ed : EdPart) (n : ℕ) (vote : ReadVote) 
     → [] ≡ filter (belongs_at all ed) (option_to_list (member_in n vote rsa))
 no_member all ed n vote rsa place = rw place refl
 
--- the place of its entry, where this belongs to the identity
-pub one_member : (all : List ReadVote) (ed : EdPart) (n k : ℕ) (vote : ReadVote) (entry : EntryFacts) (rsa : Fingerprint) (b : Bool) → slice_get all n ≡ Some vote → place_from 0 vote.says.entries rsa ≡ Some k
-    → slice_get vote.says.entries k ≡ Some entry → belongs ed entry.ed ≡ b → cond b (record { vote = n; entry = k } ∷ []) [] ≡ filter (belongs_at all ed) (option_to_list (member_in n vote rsa))
-one_member all ed n k vote entry rsa true at place stands is = rw (place, at, stands, is) refl
-one_member all ed n k vote entry rsa false at place stands is = rw (place, at, stands, is) refl
-
 -- ---- all votes
 
 -- one more vote

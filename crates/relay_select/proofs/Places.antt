@@ -89,10 +89,6 @@ pub next_is : (rest : List EntryFacts) (head rsa : Fingerprint) → Some head �
 next_is [] head rsa h = absurd cc
 next_is (e ∷ rest) head rsa h = ap (λ (i : Fingerprint). same_identity i rsa) (same_Some head e.identity h)
 
-pub next_none : (rest : List EntryFacts) (rsa : Fingerprint) → None ≡ first_identity rest → false ≡ is_next rest rsa
-next_none [] rsa h = refl
-next_none (e ∷ rest) rsa h = absurd cc
-
 -- ---- the group
 
 pub group_yes : (votes : List ReadVote) (places : List ℕ) (n place : ℕ) (rsa : Fingerprint) (group total : List Belong) → length places ≡ length votes → n < length votes → place ≡ get_or places n 0

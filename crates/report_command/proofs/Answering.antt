@@ -34,11 +34,6 @@ use Rattle.report_command.specs.Private.{AnswersOf, AnswersWith, ReadsConsensusA
 abbrev failed : FrameFault → Result (SignedConsensus × ℕ) ReadRefusal
 failed fault = Err (read.Frame fault)
 
--- a flavour that is not the microdesc flavour is the ns flavour
-pub is_ns : (flavour : Flavour) → flavour ≢ Microdesc → flavour ≡ Ns
-is_ns Ns other = refl
-is_ns Microdesc other = absurd (other refl)
-
 -- ---- votes and a consensus
 
 module _ (rules : Rules) (wanted : Report) (votes : List ReadVote) (consensus : SignedConsensus) (rest : List ℕ) where
@@ -64,14 +59,6 @@ module _ (rules : Rules) (wanted : Report) (votes : List ReadVote) (consensus : 
   of_held now (Err (stop.Refused (refusal.Vote number word))) acceptable is a = absurd a
   of_held now (Err (stop.Refused (refusal.Report (report.Missing place)))) acceptable is a = absurd a
 
-  -- a vote is refused, or the verifier failed at one
-  pub of_stop : (asked : Compute) (why : Stop AcceptRefusal) → asked.roster ≡ wanted.roster
-      → asked.valid_after ≡ wanted.valid_after → StopsAt rules asked votes why
-      → AnswersWith rules wanted votes consensus rest (Err (of_accept why))
-  of_stop asked stop.Memory roster period s = tt
-  of_stop asked (stop.Refused (accept.Vote number word)) roster period s = rw (sym roster, sym period) s
-  of_stop asked (stop.Refused accept.Verifier) roster period s = inl (rw (sym roster, sym period) s)
-
   -- ---- an input
 
   -- the input says this
@@ -91,19 +78,6 @@ module _ (rules : Rules) (wanted : Report) (votes : List ReadVote) (consensus : 
   of_reading bytes (Err (stop.Refused (refusal.Votes fault))) reads a = absurd a
   of_reading bytes (Err (stop.Refused (refusal.Consensus fault))) reads a = absurd a
   of_reading bytes (Err (stop.Refused (refusal.Report (report.Missing place)))) reads a = absurd a
-
-  -- no answer to what an input says is one to what its documents are
-  pub not_of_documents : (result : Result (Vec ℕ) (Stop ReportRefusal))
-      → AnswersWith rules wanted votes consensus rest result → IfErr result (λ why. IsOfDocuments why → ⊥)
-  not_of_documents (Ok text) a = tt
-  not_of_documents (Err stop.Memory) a = λ of. of
-  not_of_documents (Err (stop.Refused (refusal.Vote number word))) a = λ of. of
-  not_of_documents (Err (stop.Refused (refusal.Report (report.Period begin)))) a = λ of. of
-  not_of_documents (Err (stop.Refused (refusal.Report report.Flavour))) a = λ of. of
-  not_of_documents (Err (stop.Refused refusal.Verifier)) a = λ of. of
-  not_of_documents (Err (stop.Refused (refusal.Votes fault))) a = λ of. a
-  not_of_documents (Err (stop.Refused (refusal.Consensus fault))) a = λ of. a
-  not_of_documents (Err (stop.Refused (refusal.Report (report.Missing place)))) a = λ of. a
 
 -- the votes are not read
 pub of_votes : (rules : Rules) (wanted : Report) (bytes : List ℕ) (why : Stop InputRefusal)
@@ -127,20 +101,3 @@ of_consensus rules wanted bytes rest votes at (stop.Refused fault) read is a = r
 }
 
 -- ---- what is asked
-
--- the verifier failed at a vote where that is told
-pub at_vote : (why : Stop AcceptRefusal) → of_accept why ≡ stop.Refused refusal.Verifier
-    → why ≡ stop.Refused accept.Verifier
-at_vote stop.Memory told = absurd (cc told)
-at_vote (stop.Refused (accept.Vote number word)) told = absurd (cc told)
-at_vote (stop.Refused accept.Verifier) told = refl
-
--- it is not asked while the input is read
-pub not_at_votes : (why : Stop InputRefusal) → of_input why ≡ stop.Refused refusal.Verifier → ⊥
-not_at_votes stop.Memory told = cc told
-not_at_votes (stop.Refused (input.Fault fault)) told = cc told
-not_at_votes (stop.Refused (input.Missing place)) told = cc told
-
-pub not_at_consensus : (why : Stop FrameFault) → of_fault why ≡ stop.Refused refusal.Verifier → ⊥
-not_at_consensus stop.Memory told = cc told
-not_at_consensus (stop.Refused fault) told = cc told

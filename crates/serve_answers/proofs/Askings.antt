@@ -65,28 +65,3 @@ module _ (rules : Rules) (board : Locks) (before then : Parts) where
   asked_goes (asked.Micros place) path result found = micros_goes (digest_list (drop place path)) result found
   asked_goes asked.Unknown path result found = nothing_goes result found
   asked_goes asked.NotAllowed path result found = nothing_goes result found
-
-  micros_adds : (digests : Option (List (List ℕ))) (fault : Memory)
-      → FindsMicros rules board before then digests (Err fault) → AddsNothing before then
-  micros_adds None fault nothing = nothing
-  micros_adds (Some digests) fault nothing = nothing
-
-  -- whatever is asked for, after want of memory nothing was added
-  pub asked_adds : (what : Asked) (path : List ℕ) (fault : Memory)
-      → FindsAsked rules board before then what path (Err fault) → AddsNothing before then
-  asked_adds asked.PostVote path fault nothing = nothing
-  asked_adds asked.PostSignatures path fault nothing = nothing
-  asked_adds asked.PostDescriptor path fault nothing = nothing
-  asked_adds asked.OwnVote path fault nothing = nothing
-  asked_adds (asked.VoteOf authority) path fault nothing = nothing
-  asked_adds (asked.VoteByDigest digest) path fault nothing = nothing
-  asked_adds (asked.Next form) path fault nothing = nothing
-  asked_adds asked.NextSignatures path fault nothing = nothing
-  asked_adds (asked.Current form) path fault nothing = nothing
-  asked_adds asked.AllKeys path fault nothing = nothing
-  asked_adds (asked.KeysOf authority) path fault nothing = nothing
-  asked_adds asked.AllDescriptors path fault nothing = nothing
-  asked_adds (asked.DescriptorOf relay) path fault nothing = nothing
-  asked_adds (asked.Micros place) path fault nothing = micros_adds (digest_list (drop place path)) fault nothing
-  asked_adds asked.Unknown path fault nothing = nothing
-  asked_adds asked.NotAllowed path fault nothing = nothing

@@ -82,19 +82,3 @@ pub numbers_differ : (n count : ℕ) (passes : List Parts) (new : Parts) → new
 numbers_differ n count passes new is one above differ =
     all_pairs_push (λ (a b : Parts). a.state.number ≢ b.state.number) passes new differ
     (λ k d below same. absurd (omega (arith, above k d below, same, is, one)))
-
--- a pair of new passes is a pass of the board
-of_pair : (board : Locks) (pass : Parts) → IsPair board.state board.pool pass → IsAt board pass
-of_pair board pass pair = record {
-  state =
-      (ap (λ (k : Knowledge State Entry). k.table) pair.here, ap (λ (k : Knowledge State Entry). k.start) pair.here);
-  pool = (
-    ap (λ (k : Knowledge Pooled Descriptor). k.table) pair.there,
-    ap (λ (k : Knowledge Pooled Descriptor). k.start) pair.there,
-  );
-}
-
-pub are_at : (board : Locks) (passes : List Parts) → All (IsPair board.state board.pool) passes
-    → All (IsAt board) passes
-are_at board passes pairs =
-    All-weaker (IsPair board.state board.pool) (IsAt board) (of_pair board) passes pairs

@@ -52,14 +52,6 @@ module _ {S X : Type 0} (after : S → List X → S) (IsStory : S → List X →
               of = turn.of;
             }
 
-  -- what is right for a value is right for what it stands for
-  pub finds_there : {A : Type 0} (right : S → A → Type 0) (value start : S) (story : List X) (answer : A)
-      → Stands after IsStory value start story → right value answer → FindsThere after IsStory right start story answer
-  finds_there right value start story answer stands is = record {
-    right_there = subst (λ (v : S). right v answer) stands.value_is is;
-    is_story = stands.is_story;
-  }
-
   -- a value that is left stands for the list without one more entry
   pub stands_same : (value start : S) (story : List X) → Stands after IsStory value start story
       → Stands after IsStory value start (story ++ option_to_list None)

@@ -45,15 +45,6 @@ module _ (rules : Rules) (now : ℕ) (given : StationFacts) (used : ℕ) (bytes 
   no_certificate its stop.Memory basis is = tt
   no_certificate its (stop.Refused why) basis is = inr (inr (inr (its, basis, is)))
 
--- where the verifier failed at a descriptor it is told so
-pub at_descriptor : (why : Stop PoolRefusal) → of_pool why ≡ stop.Refused refusal.Verifier
-    → why ≡ stop.Refused pools.Verifier
-at_descriptor stop.Memory told = absurd (cc told)
-at_descriptor (stop.Refused (pools.Fault fault)) told = absurd (cc told)
-at_descriptor (stop.Refused (pools.Descriptor number word)) told = absurd (cc told)
-at_descriptor (stop.Refused pools.Full) told = absurd (cc told)
-at_descriptor (stop.Refused pools.Verifier) told = refl
-
 -- ---- the input
 
 module _ (rules : Rules) (from : Measures) (newest : Newest) (now : ℕ) (bytes : List ℕ) where

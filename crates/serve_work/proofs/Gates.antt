@@ -65,11 +65,3 @@ module _ {G : Type 0} (faults : G → ℕ) (closed : G → Bool) (gates gates' :
   pub serves_failed : (told : Served) → Reports old new before now left told → SomeRose faults gates gates'
       → Serves faults closed gates gates' rules board HasDone began old new before now served.GateFault
   serves_failed told reports rose = (rose, inr (told, left_such (λ s. Reports old new before now s told) reports))
-
-  -- how it ends where all gates are closed
-  pub serves_closed : EachClosed closed gates' → (result : Served) → Reports old new before now left result
-      → Serves faults closed gates gates' rules board HasDone began old new before now result
-  serves_closed all served.Whole told = (all, left_such (λ s. Reports old new before now s served.Whole) told)
-  serves_closed all served.WriteFault told = (all, left_such (λ s. Reports old new before now s served.WriteFault) told)
-  serves_closed all served.NoMemory told = told
-  serves_closed all served.GateFault told = absurd told

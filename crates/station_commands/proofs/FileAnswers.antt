@@ -58,12 +58,6 @@ pub unsigned_vote : (why : Stop MakeVoteRefusal) → IsBeforeSigner (of_vote why
 unsigned_vote stop.Memory before = before
 unsigned_vote (stop.Refused why) before = before
 
--- a vote's refusal is told as it is
-pub told_alike : (why : Stop MakeVoteRefusal) (own : MakeVoteRefusal) → of_vote why ≡ stop.Refused (by_vote own)
-    → why ≡ stop.Refused own
-told_alike stop.Memory own is = absurd (cc is)
-told_alike (stop.Refused why) own is = cc is
-
 -- the moment is the one that the clock gave, and the bytes are those of the input
 pub no_file_at : (bytes slice : List ℕ) (now moment : ℕ) (why : Stop BandwidthRefusal) → slice ≡ bytes → now ≡ moment
     → GivesFile slice moment (Err why) → GivesFile bytes now (Err why)

@@ -5,7 +5,6 @@ pub mod Reading
 pub mod Schedules
 pub mod Faults
 pub mod Voted
-pub mod Files
 pub mod StationBehind
 pub mod FileAnswers
 pub mod Answers

@@ -97,22 +97,6 @@ makes_pool rules newest start bytes place number pool full have ended found = re
   pool_is = have.pool_is;
 }
 
--- no refusal of descriptors is the signer's
-pub no_signer : (why : Stop PoolRefusal) → of_pool why ≡ stop.Refused refusal.Signer → ⊥
-no_signer stop.Memory is = cc is
-no_signer (stop.Refused (descriptors.Fault fault)) is = cc is
-no_signer (stop.Refused (descriptors.Descriptor number why)) is = cc is
-no_signer (stop.Refused descriptors.Full) is = cc is
-no_signer (stop.Refused descriptors.Verifier) is = cc is
-
--- nor is it of the station
-pub not_of_station : (why : Stop PoolRefusal) → IsOfStation (of_pool why) → ⊥
-not_of_station stop.Memory of = of
-not_of_station (stop.Refused (descriptors.Fault fault)) of = of
-not_of_station (stop.Refused (descriptors.Descriptor number why)) of = of
-not_of_station (stop.Refused descriptors.Full) of = of
-not_of_station (stop.Refused descriptors.Verifier) of = of
-
 -- but it may be the verifier's
 pub verifier_is : (why : Stop PoolRefusal) → of_pool why ≡ stop.Refused refusal.Verifier
     → why ≡ stop.Refused descriptors.Verifier

@@ -45,13 +45,6 @@ none_beside (state.Fault fault) bytes beside cursor across open_ kept knows unkn
 pub all_kept : (bytes : List ℕ) (beside : Option ℕ) → beside ≡ None → taken_of bytes beside ≡ bytes
 all_kept bytes beside none = ap (λ (b : Option ℕ). taken_of bytes b) none ∙ append-nil bytes
 
--- where the bytes are read, so much is known of them
-pub waits_there : (now : State) (bytes : List ℕ) (beside : Option ℕ) (cursor : Cursor) (across : Across) (open_ : Begun)
-    (kept : Kept) → Knows now bytes beside cursor across open_ kept → now ≡ state.Going
-    → VoteWaits bytes cursor across open_ kept
-waits_there now bytes beside cursor across open_ kept knows going =
-    (subst (λ (s : State). Knows s bytes beside cursor across open_ kept) going knows).1
-
 pub kept_within : (bytes : List ℕ) (beside : Option ℕ) → KeepsWithin max_vote bytes beside → length bytes ≤ max_vote
 kept_within bytes None h = h
 kept_within bytes (Some b) h = omega (arith, h)

@@ -33,10 +33,6 @@ in_parts facts bytes =
 cut_front : (front back : List ℕ) (n : ℕ) → n + length back ≡ length (front ++ back) → take n (front ++ back) ≡ front
 cut_front front back n is = grind (arith, common_steps)
 
-cut_middle : (front middle back : List ℕ) (n : ℕ) → n + length back ≡ length (front ++ (middle ++ back))
-    → take (n - length front) (drop (length front) (front ++ (middle ++ back))) ≡ middle
-cut_middle front middle back n is = grind (arith, common_steps)
-
 -- the text without what stands behind the entries, where there are none
 pub front_left : (facts : VoteFacts) (bytes text : List ℕ) (n : ℕ) → facts.entries ≡ []
     → text ≡ made_signed facts bytes → n + length back_text ≡ length text → take n text ≡ front_text facts bytes
@@ -46,17 +42,6 @@ front_left facts bytes text n none written long =
     ∙ ap (λ (l : List EntryFacts). front_text facts bytes ++ (entries_text l ++ back_text)) none in
     ap (λ (l : List ℕ). take n l) whole
     ∙ cut_front (front_text facts bytes) back_text n (long ∙ ap (λ (l : List ℕ). length l) whole)
-
--- what stands between them
-pub entries_taken : (facts : VoteFacts) (bytes text : List ℕ) (front n : ℕ) → front ≡ length (front_text facts bytes)
-    → text ≡ made_signed facts bytes → n + length back_text ≡ length text
-    → take (n - front) (drop front text) ≡ entries_text facts.entries
-entries_taken facts bytes text front n at written long =
-    let whole = written ∙ in_parts facts bytes in
-    ap (λ (l : List ℕ). take (n - front) (drop front l)) whole
-    ∙ ap (λ (k : ℕ). take (n - k) (drop k (front_text facts bytes ++ (entries_text facts.entries ++ back_text)))) at
-    ∙ cut_middle (front_text facts bytes) (entries_text facts.entries) back_text n
-    (long ∙ ap (λ (l : List ℕ). length l) whole)
 
 -- how long it is
 pub parts_long : (facts : VoteFacts) (bytes text : List ℕ) → text ≡ made_signed facts bytes

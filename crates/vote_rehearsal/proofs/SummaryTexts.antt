@@ -23,12 +23,6 @@ pub found_there : (roster : ℕ) (votes : List ReadVote) (c : Consensus) (found 
 unfolding found_of
 found_there roster votes c found enough its is = rw enough (is ∙ ap found_in its)
 
--- where there is none
-pub found_nothing : (roster : ℕ) (votes : List ReadVote) (found : Found) → over (length votes) roster ≡ false
-    → found ≡ nothing_found → found ≡ found_of roster votes
-unfolding found_of
-found_nothing roster votes found few is = rw few is
-
 -- the whole text
 pub whole : (seed relays authorities count held : ℕ) (listed : List Relay) (its_voters : List Authority)
     (votes : List ReadVote) (found : Found) (start one two : List ℕ) → listed ≡ ascending_relays seed authorities relays

@@ -51,19 +51,3 @@ none_by false w ws a e lt more = rw e more
 none_of : (votes : List ReadVote) (a : Fingerprint) → ((x : ReadVote) → In x votes → Below a x.says.identity) → vote_of votes a ≡ None
 none_of [] a h = refl
 none_of (w ∷ ws) a h = none_by _ w ws a refl (h w (inl refl)) (none_of ws a (λ x i. h x (inr i)))
-
-rival_by : (b s : Bool) (w : ReadVote) (ws : List ReadVote) (v : ReadVote) → identity_below w.says.identity v.says.identity ≡ b → same_authority w v ≡ s
-    → ((x : ReadVote) → In x ws → Comes w x) → rival ws v ≡ vote_of ws v.says.identity → rival (w ∷ ws) v ≡ vote_of (w ∷ ws) v.says.identity
-rival_by true true w ws v e f behind_it more =
-    absurd (not_itself v.says.identity (ap (λ (y : Fingerprint). identity_below y v.says.identity) (sym (same_one w.says.identity v.says.identity f)) ∙ e))
-rival_by true false w ws v e f behind_it more = rw (e, f) more
-rival_by false true w ws v e f behind_it more = rw (e, f) refl
-rival_by false false w ws v e f behind_it more =
-    let first : Below v.says.identity w.says.identity = other_way w.says.identity v.says.identity e f in
-    let after = λ (x : ReadVote) (i : In x ws). below_trans v.says.identity w.says.identity x.says.identity first (behind_it x i) in
-    rw (e, f) (sym (none_of ws v.says.identity after))
-
--- among votes that ascend, what a vote is placed against is the vote of its authority
-pub rival_is : (votes : List ReadVote) (v : ReadVote) → VotesAscend votes → rival votes v ≡ vote_of votes v.says.identity
-rival_is [] v a = refl
-rival_is (w ∷ ws) v a = rival_by _ _ w ws v refl refl (first_comes_before_rest w ws a) (rival_is ws v (rest_ascends w ws a))
