@@ -8,8 +8,8 @@ use dir_bytes::Memory;
 use dir_values::{Digest1, Fingerprint};
 use frame_terms::{Keyword, Taken};
 use frame_values::{
-    Span, Value, after_at, between, copy_part, copy_part_if, decode_part, fingerprint_at,
-    line_end_at, moment, no_identity, nowhere, number_at, object_at, place_at, text_if,
+    Span, Value, after_at, between, copy_part_if, decode_part, fingerprint_at, line_end_at, moment,
+    no_identity, nowhere, number_at, object_at, place_at, text_if,
 };
 use sha1::Sha1;
 use sha2::Digest;

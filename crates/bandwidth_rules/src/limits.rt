@@ -1,5 +1,5 @@
 // What params say of bandwidth.
-ghost use Rattle.std.specs.Prelude.{◌≡◌, ◌<◌, ◌^◌, ℤ, pos};
+ghost use Rattle.std.specs.Prelude.{◌≡◌, ◌<◌, ◌^◌};
 ghost use Rattle.bandwidth_rules.specs.Limits as limits;
 
 use list_values::Params;

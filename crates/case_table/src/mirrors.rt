@@ -2,7 +2,6 @@
 use crate::case::Outer;
 use crate::forms::{End, asked_text, clock, link, sink};
 use crate::gates::{Answer, gate};
-use dir_bytes::MemorySink;
 use key_port::TestKeys;
 use mirror_daemon::{MirrorOutside, run_mirror};
 use std::alloc::{AllocError, Global};

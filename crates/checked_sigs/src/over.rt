@@ -1,7 +1,6 @@
 // What a line of detached signatures is over, and whose key it names.
 ghost use Rattle.std.specs.Prelude.{◌≡◌, ◌≤◌, IfSome, length, option_map, true};
 ghost use Rattle.sha1.specs.Sha1.{sha1};
-ghost use Rattle.std.specs.List.{find};
 ghost use Rattle.detached_sigs.specs.Signers.{is_line_of};
 ghost use Rattle.period_terms.specs.Advances.{algorithm_of};
 ghost use Rattle.checked_sigs.specs.Asking as asking;

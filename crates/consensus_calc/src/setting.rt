@@ -1,6 +1,6 @@
 // The flags of a relay.
-ghost use Rattle.std.specs.Prelude.{◌≡◌, ◌<◌, ◌^◌, ℕ, IfOk, OnOk, length, map};
-ghost use Rattle.dir_values.specs.FlagSets.{as_set, has_flag};
+ghost use Rattle.std.specs.Prelude.{◌≡◌, ◌<◌, ◌^◌, IfOk, OnOk, length, map};
+ghost use Rattle.dir_values.specs.FlagSets.{as_set};
 ghost use Rattle.compute_terms.specs.Listings.{AreMembers, listings_at};
 ghost use Rattle.compute_terms.specs.RelayFlags as flags;
 ghost use Rattle.consensus_calc.specs.Picking as picking;
@@ -10,7 +10,7 @@ use crate::marks::mark;
 use compute_terms::{Belong, EdPart};
 use dir_bytes::{Memory, Seq};
 use dir_values::FlagSet;
-use relay_select::{entry_at, over};
+use relay_select::entry_at;
 use std::alloc::Global;
 use vote_doc::Accepted;
 

@@ -1,7 +1,5 @@
 // What the preamble of a consensus says.
 ghost use Rattle.std.specs.Prelude.{◌≡◌, ◌<◌, ◌^◌, IfOk, length};
-ghost use Rattle.item_terms.specs.Words.{words_of};
-ghost use Rattle.dir_values.specs.FlagSets.{as_set};
 ghost use Rattle.frame_values.specs.Parts as parts;
 ghost use Rattle.frame_values.specs.Values as values;
 ghost use Rattle.consensus_doc.specs.Drafts as drafts;

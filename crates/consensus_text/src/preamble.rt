@@ -1,8 +1,8 @@
 // The lines of a consensus before its authorities and relays.
-ghost use Rattle.std.specs.Prelude.{◌≡◌, codes};
+ghost use Rattle.std.specs.Prelude.{◌≡◌};
 ghost use Rattle.std.specs.List.{flat_map};
 ghost use Rattle.text_page.specs.Pages.{with_text};
-ghost use Rattle.consensus_terms.specs.Lines.{behind_space, line, list_line};
+ghost use Rattle.consensus_terms.specs.Lines.{behind_space, line};
 ghost use Rattle.consensus_terms.specs.Moments.{HasMoments};
 ghost use Rattle.consensus_terms.specs.Texts as texts;
 

@@ -3,7 +3,7 @@ ghost use Rattle.std.specs.Prelude.{◌≡◌, ◌++◌, OnOk, OnErr, take, vec_
 ghost use Rattle.descriptor_text.specs.Lines as texts;
 
 use descriptor_doc::{BandwidthLine, Router};
-use dir_bytes::{Memory, Text, push_address, push_decimal, push_hex_upper};
+use dir_bytes::{Memory, push_address, push_decimal, push_hex_upper};
 use dir_values::Fingerprint;
 
 /// Appends a relay's three ports.

@@ -1,6 +1,5 @@
 // Dates, times of day and moments.
 ghost use Rattle.std.specs.Prelude.{◌≡◌, ◌+◌, ◌<◌, ◌≤◌, ◌++◌, pos, IfOk, IfSome, OnOk, OnErr, IsOk, length, vec_len, vec_capacity};
-ghost use Rattle.jiff_core.specs.Date.{IsYmd};
 ghost use Rattle.dir_bytes.specs.Causes.{last_moment};
 ghost use Rattle.dir_bytes.specs.Fields as fields;
 ghost use Rattle.dir_bytes.specs.FieldTexts.{date_of, two_digits, date_text, clock_text, moment_text};

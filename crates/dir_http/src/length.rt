@@ -1,5 +1,5 @@
 // How long a body is: what the fields announce, and what its path allows.
-ghost use Rattle.std.specs.Prelude.{◌≡◌, ◌≤◌, All, IfErr, length, map, take};
+ghost use Rattle.std.specs.Prelude.{◌≡◌, ◌≤◌, All, IfErr, length, map};
 ghost use Rattle.dir_http.specs.Heads as heads;
 ghost use Rattle.httparse.specs.Spans.{IsHeaderWithin, header_bytes};
 

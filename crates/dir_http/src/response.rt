@@ -1,6 +1,5 @@
 // Responses, and how they are written.
 ghost use Rattle.std.specs.Prelude.{◌≡◌, ◌++◌, IsTrue, IfOk, OnOk};
-ghost use Rattle.http.specs.StatusCode.{IsStatusCode};
 ghost use Rattle.dir_http.specs.Responses as texts;
 ghost use Rattle.dir_http.specs.Responses.{WritesResponse, is_code, line_end};
 

@@ -1,6 +1,6 @@
 // The object that may follow a keyword line.
 
-ghost use Rattle.std.specs.Prelude.{◌+◌, ◌<◌, ◌≡◌, ◌≤◌, ◌^◌, drop, Err, IfNone, IfOk, IfSome, length, MatchResult, None, Ok, Some, true};
+ghost use Rattle.std.specs.Prelude.{◌+◌, ◌<◌, ◌≡◌, ◌≤◌, ◌^◌, drop, Err, IfNone, IfOk, IfSome, length, None, Ok, Some, true};
 ghost use Rattle.item_terms.specs.Steps.{object_step};
 ghost use Rattle.item_terms.specs.Words as line_words;
 ghost use Rattle.dirdoc_grammar.specs.Reading.{last_step, object_of, BeginsObject, FindsLines, FindsObject, FindsObjectLine, IfWhole, IsFault};

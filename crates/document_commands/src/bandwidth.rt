@@ -1,5 +1,5 @@
 // The commands over a bandwidth file.
-ghost use Rattle.std.specs.Prelude.{◌<◌, ◌^◌, length};
+ghost use Rattle.std.specs.Prelude.{◌<◌, ◌^◌};
 ghost use Rattle.daemon_words.specs.Stops.{Answered};
 ghost use Rattle.bandwidth_file.specs.Texts.{text_of};
 ghost use Rattle.document_commands.specs.Answers.{check_text};

@@ -1,5 +1,5 @@
 // The line and the number of each reason why an input gives no bandwidth file that counts.
-ghost use Rattle.std.specs.Prelude.{◌≡◌, ◌≤◌, List, ℕ, [], map};
+ghost use Rattle.std.specs.Prelude.{◌≡◌, ◌≤◌, []};
 ghost use Rattle.exit_status.specs.BandwidthLines as lines;
 ghost use Rattle.exit_status.specs.Parts.{joined_parts};
 ghost use Rattle.exit_status.specs.Reports.{Reports};

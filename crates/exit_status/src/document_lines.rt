@@ -1,5 +1,5 @@
 // The line and the number of each fault of an input that is read as documents of a kind.
-ghost use Rattle.std.specs.Prelude.{◌≡◌, ◌≤◌, List, ℕ, [], map};
+ghost use Rattle.std.specs.Prelude.{◌≡◌, ◌≤◌, []};
 ghost use Rattle.exit_status.specs.DocumentLines as lines;
 ghost use Rattle.exit_status.specs.Parts.{joined_parts};
 ghost use Rattle.exit_status.specs.Reports.{Reports};
@@ -7,7 +7,7 @@ ghost use Rattle.exit_status.specs.Reports.{Reports};
 use crate::parts::{report_at, write_parts};
 use daemon_words::Kind;
 use dir_bytes::Sink;
-use frame_terms::{FrameFault, FrameReason};
+use frame_terms::FrameReason;
 use item_terms::DocReason;
 
 /// 9 where the fault is a limit, and else 5.

@@ -1,5 +1,5 @@
 // The ranges of the ports that a policy accepts, and of those that it rejects.
-ghost use Rattle.std.specs.Prelude.{◌≡◌, ◌+◌, ◌≤◌, IfOk, OnOk, not, reverse};
+ghost use Rattle.std.specs.Prelude.{◌≡◌, ◌+◌, ◌≤◌, IfOk, OnOk, reverse};
 ghost use Rattle.exit_summary.specs.Policies as policies;
 ghost use Rattle.exit_summary.specs.PortRanges as port_ranges;
 ghost use Rattle.exit_summary.specs.Summaries as summaries;

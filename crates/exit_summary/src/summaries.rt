@@ -1,5 +1,5 @@
 // The summary of a policy.
-ghost use Rattle.std.specs.Prelude.{◌≡◌, ◌+◌, ◌≤◌, IfOk, OnOk, IsTrue, length, take};
+ghost use Rattle.std.specs.Prelude.{◌≡◌, ◌+◌, ◌≤◌, IfOk, length, take};
 ghost use Rattle.dir_values.specs.Ports as ports;
 ghost use Rattle.exit_summary.specs.Policies as policies;
 ghost use Rattle.exit_summary.specs.Summaries as summaries;

@@ -1,5 +1,5 @@
 // Sets of numbers from 0 to 63 as the bits of a number.
-ghost use Rattle.std.specs.Prelude.{◌≡◌, ◌<◌, ◌≤◌, ◌==◌, ◌||◌, ℕ, bit_or};
+ghost use Rattle.std.specs.Prelude.{◌≡◌, ◌<◌, ◌≤◌, ◌==◌, ◌||◌, ℕ};
 ghost use Rattle.list_values.specs.Masks as masks;
 ghost use Rattle.list_values.specs.NumberSets as sets;
 

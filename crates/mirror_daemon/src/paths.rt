@@ -1,6 +1,5 @@
 // The paths that a mirror asks its peers for.
 ghost use Rattle.std.specs.Prelude.{◌≡◌, ◌++◌, ◌∷◌, IfOk, OnOk};
-ghost use Rattle.dir_values.specs.Digests.{digest2_text};
 ghost use Rattle.mirror_daemon.specs.Paths as paths;
 
 use dir_bytes::Memory;

@@ -4,7 +4,6 @@ ghost use Rattle.key_port.specs.Answers.{rules};
 ghost use Rattle.checked_sigs.specs.Checks.{tally_of};
 ghost use Rattle.serve_board.specs.Boards.{IsAt};
 ghost use Rattle.serve_board.specs.Going.{Goes};
-ghost use Rattle.serve_answers.specs.Answers.{IsCaused};
 ghost use Rattle.serve_answers.specs.Finding.{AddsNothing};
 ghost use Rattle.serve_answers.specs.Handling as handling;
 ghost use Rattle.serve_answers.specs.Handling.{OffersAccepted, SignsHeld, TakesSignatures};

@@ -1,5 +1,5 @@
 // Serving, from the opening of all gates to the report of what was left.
-ghost use Rattle.std.specs.Prelude.{◌≡◌, ◌<◌, ◌≤◌, ℕ, All, length, slice_index_or};
+ghost use Rattle.std.specs.Prelude.{◌≡◌, ◌<◌, ◌≤◌, All, length};
 ghost use Rattle.key_port.specs.Answers.{rules};
 ghost use Rattle.flag_rules.specs.Rules.{KeepsTo};
 ghost use Rattle.serve_board.specs.Boards.{IsAt};

@@ -1,6 +1,5 @@
 // What a vote of a rehearsal says of relays.
 ghost use Rattle.std.specs.Prelude.{◌≡◌, ◌++◌, ◌∷◌, [], IfOk, OnOk};
-ghost use Rattle.flag_rules.specs.Names.{names_of};
 ghost use Rattle.vote_rehearsal.specs.Entries as entries;
 
 use crate::draws::drawn;

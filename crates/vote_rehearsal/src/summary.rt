@@ -1,5 +1,5 @@
 // What a rehearsal writes.
-ghost use Rattle.std.specs.Prelude.{◌≡◌, ◌≤◌, ◌++◌, IfOk, OnOk, count_by, length};
+ghost use Rattle.std.specs.Prelude.{◌≡◌, ◌≤◌, ◌++◌, IfOk, OnOk, count_by};
 ghost use Rattle.consensus_terms.specs.Moments.{HasMoments};
 ghost use Rattle.consensus_terms.specs.Routers as routers_of;
 ghost use Rattle.consensus_terms.specs.Signed.{digests_of};

@@ -1,5 +1,5 @@
 // Writing a vote.
-ghost use Rattle.std.specs.Prelude.{◌≡◌, ◌++◌, IfOk, OnOk, OnErr, take, vec_len, codes, option_map};
+ghost use Rattle.std.specs.Prelude.{◌≡◌, ◌++◌, IfOk, OnOk, OnErr, take, vec_len, option_map};
 ghost use Rattle.dirdoc_grammar.specs.Writing.{item_text, items_text};
 ghost use Rattle.dir_values.specs.Numbers.{numbers_text};
 ghost use Rattle.frame_values.specs.Items as items;
