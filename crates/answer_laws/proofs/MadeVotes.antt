@@ -11,9 +11,9 @@ use Rattle.flag_rules.specs.declared.ruling.Ruling.{Ruling}
 use Rattle.count_terms.specs.declared.newest.Newest.{Newest}
 use Rattle.station_input.specs.Reading.{station_of}
 use Rattle.station_input.specs.declared.facts.StationFacts.{StationFacts}
-use Rattle.vote_terms.specs.Votes.{ReadVote}
+use Rattle.vote_terms.specs.Votes.{ReadVote, max_vote}
 use Rattle.blank_lines.specs.Behind.{behind}
-use Rattle.vote_doc.specs.Reading.{max_vote, vote_of}
+use Rattle.vote_doc.specs.Reading.{vote_of}
 use Rattle.vote_maker.specs.Made.{Basis}
 use Rattle.vote_maker.specs.Relays.{known_of}
 use Rattle.descriptor_laws.proofs.DescriptorInRange.{descriptors_in_range}

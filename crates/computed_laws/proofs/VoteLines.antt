@@ -12,7 +12,7 @@ use Rattle.vote_terms.specs.declared.entry.EntryFacts.{EntryFacts}
 use Rattle.vote_text.specs.Entries.{entries_items, entry_items, flag_items, items_each, micro_items, relay_items}
 use Rattle.vote_text.specs.Texts.{authority_items, footer_items, preamble_items, random_items}
 use Rattle.vote_text.specs.Texts.{source_text, vote_items}
-use Rattle.vote_doc.specs.Reading.{max_vote}
+use Rattle.vote_terms.specs.Votes.{max_vote}
 use Rattle.computed_laws.specs.WithinLimits.{HasLineTexts, ReadableVotesFillLines}
 
 -- the line of an item may have its rest

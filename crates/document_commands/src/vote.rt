@@ -1,5 +1,6 @@
 // A vote, as the commands see it.
-ghost use Rattle.vote_doc.specs.Reading.{max_vote, vote_of};
+ghost use Rattle.vote_terms.specs.Votes.{max_vote};
+ghost use Rattle.vote_doc.specs.Reading.{vote_of};
 ghost use Rattle.vote_text.specs.Texts.{vote_text};
 
 use crate::one::Document;

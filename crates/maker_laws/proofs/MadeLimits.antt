@@ -25,7 +25,7 @@ use Rattle.vote_text.specs.Entries.{entries_items}
 use Rattle.vote_text.specs.Made.{made_text}
 use Rattle.vote_text.specs.Texts.{authority_items, footer_items, preamble_items, signer_text}
 use Rattle.vote_text.specs.Texts.{algorithm_text}
-use Rattle.vote_doc.specs.Reading.{max_vote}
+use Rattle.vote_terms.specs.Votes.{max_vote}
 use Rattle.vote_laws.specs.Again.{IsSignatureInRange}
 use Rattle.vote_laws.specs.Made.{IsMadeInRange}
 use Rattle.vote_laws.proofs.MadeTexts.{before_same, before_text, behind_same, behind_text, text_parts}

@@ -9,8 +9,8 @@ use Rattle.flag_rules.specs.declared.ruling.Ruling.{Ruling}
 use Rattle.count_terms.specs.declared.newest.Newest.{Newest}
 use Rattle.station_input.specs.Reading.{station_of}
 use Rattle.station_input.specs.declared.facts.StationFacts.{StationFacts}
-use Rattle.vote_terms.specs.Votes.{ReadVote}
-use Rattle.vote_doc.specs.Reading.{max_vote, vote_from}
+use Rattle.vote_terms.specs.Votes.{ReadVote, max_vote}
+use Rattle.vote_doc.specs.Reading.{vote_from}
 use Rattle.vote_pool.specs.Pools.{DescriptorsAscend, most_relays}
 use Rattle.vote_schedule.specs.Moments.{valid_until}
 use Rattle.vote_schedule.specs.Schedules.{IsSchedule}

@@ -9,10 +9,10 @@ use Rattle.frame_values.specs.Ranges.{AreTwenty}
 use Rattle.authority_certs.specs.Texts.{cert_text}
 use Rattle.certificate_laws.specs.Again.{SaysInRange}
 use Rattle.group_laws.specs.LineAgain.{IsRandomInRange}
-use Rattle.vote_terms.specs.Votes.{ReadVote}
+use Rattle.vote_terms.specs.Votes.{ReadVote, max_vote}
 use Rattle.vote_terms.specs.declared.facts.VoteFacts.{VoteFacts}
 use Rattle.vote_text.specs.Texts.{vote_items}
-use Rattle.vote_doc.specs.Reading.{max_vote, vote_from}
+use Rattle.vote_doc.specs.Reading.{vote_from}
 use Rattle.vote_laws.specs.Again.{AreEntriesInRange, AreFlags, AreListsInRange, AreMethods, IsInRange, IsSignatureInRange}
 
 -- The vote says what can be read: each number, text and list is one that an item may have. Each of its items may be

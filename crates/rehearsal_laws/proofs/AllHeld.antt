@@ -10,9 +10,8 @@ use Rattle.sha1.specs.Sha1.{sha1}
 use Rattle.dir_values.specs.Digests.{identity_below, same_identity}
 use Rattle.dir_values.specs.declared.digest.Fingerprint.{Fingerprint}
 use Rattle.vote_terms.specs.Held.{held, outranks, votes_with, same_authority}
-use Rattle.vote_terms.specs.Votes.{ReadVote}
+use Rattle.vote_terms.specs.Votes.{ReadVote, max_vote}
 use Rattle.vote_terms.proofs.HeldLaw.{In, stands}
-use Rattle.vote_doc.specs.Reading.{max_vote}
 use Rattle.vote_rehearsal.specs.Authorities.{authority_of, members_of}
 use Rattle.vote_rehearsal.specs.Casting.{cast_by, cast_votes, is_acceptable, vote_in}
 use Rattle.vote_rehearsal.specs.Certificates.{certificate_of}

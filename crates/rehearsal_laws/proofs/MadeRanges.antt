@@ -16,7 +16,7 @@ use Rattle.vote_terms.specs.declared.facts.VoteFacts.{VoteFacts}
 use Rattle.vote_text.specs.Entries.{entries_items}
 use Rattle.vote_text.specs.Texts.{authority_items, footer_items}
 use Rattle.vote_text.specs.Texts.{preamble_items}
-use Rattle.vote_doc.specs.Reading.{max_vote}
+use Rattle.vote_terms.specs.Votes.{max_vote}
 use Rattle.vote_laws.specs.Again.{AreFlags, AreListsInRange, AreMethods, HasValuesInRange, IsSignatureInRange}
 use Rattle.vote_laws.specs.Made.{IsMadeInRange}
 use Rattle.range_laws.proofs.VoteTexts.{SaysWhole, vote_may}

@@ -23,7 +23,7 @@ use Rattle.vote_text.specs.Entries.{entries_items}
 use Rattle.vote_text.specs.Made.{made_text, signature_rest}
 use Rattle.vote_text.specs.Texts.{authority_items, flag_items, footer_items, kind_items, names_text}
 use Rattle.vote_text.specs.Texts.{ports_text, preamble_items, signer_text, source_text, time_items}
-use Rattle.vote_doc.specs.Reading.{max_vote}
+use Rattle.vote_terms.specs.Votes.{max_vote}
 use Rattle.vote_rehearsal.specs.Authorities.{authority_of}
 use Rattle.vote_rehearsal.specs.Certificates.{certificate_bytes, certificate_of}
 use Rattle.vote_rehearsal.specs.Entries.{only_method}

@@ -4,11 +4,11 @@ use Rattle.std.proofs.Common.{subst, ◌∙◌, append-nil, arith}
 use Rattle.std.specs.Prelude.{All, AllPairs, codes}
 use Rattle.std.proofs.lemmas.List.Elements.{All-weaker}
 use Rattle.frame_terms.specs.declared.fault.ReadRefusal.{ReadRefusal}
-use Rattle.vote_terms.specs.Votes.{ReadVote}
+use Rattle.vote_terms.specs.Votes.{ReadVote, max_vote}
 use Rattle.vote_terms.specs.declared.facts.VoteFacts.{VoteFacts}
 use Rattle.vote_text.specs.Made.{made_signed, made_text}
 use Rattle.blank_lines.specs.Behind.{behind}
-use Rattle.vote_doc.specs.Reading.{max_vote, vote_of}
+use Rattle.vote_doc.specs.Reading.{vote_of}
 use Rattle.vote_frame.specs.Tables.{vote_tables}
 use Rattle.vote_frame.specs.declared.frame.VoteSection.TheVariants as section
 use Rattle.certificate_laws.specs.Given.{IsGiven}

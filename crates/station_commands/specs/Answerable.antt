@@ -14,7 +14,7 @@ use Rattle.vote_text.specs.Made.{made_text}
 use Rattle.station_input.specs.Reading.{station_of}
 use Rattle.station_input.specs.declared.facts.StationFacts.{StationFacts}
 use Rattle.vote_maker.specs.Made.{Basis, made, relays_in, with_signature}
-use Rattle.vote_maker.specs.Making.{vote_limit}
+use Rattle.vote_terms.specs.Votes.{max_vote}
 use Rattle.station_commands.specs.Voting.{IsBasisOf, MakeVoteAnswers}
 use Rattle.station_commands.specs.declared.refusal.MakeVoteRefusal.{MakeVoteRefusal}
 use Rattle.station_commands.specs.declared.refusal.MakeVoteRefusal.TheVariants as refusal
@@ -40,7 +40,7 @@ pub record HoldsAt (rules : Rules) (at : ℕ) (cert : Cert) : Type 0 where
 abbrev pub IsShort : Basis → Type 0
 IsShort its = (rulings : List Ruling) (signature : List ℕ)
     → AreAllowed (list_allows its.station.rules) (relays_in its) rulings → length signature ≤ signature_limit
-    → length (made_text (with_signature (made its rulings) signature) its.station.certificate_bytes) ≤ vote_limit
+    → length (made_text (with_signature (made its rulings) signature) its.station.certificate_bytes) ≤ max_vote
 
 -- A vote can be made at a moment for a station that is given this, of the descriptors that stand in the input from a place
 -- on: it has a basis, no signature of its descriptors or of the own certificate may be refused, that certificate holds when

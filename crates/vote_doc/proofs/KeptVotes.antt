@@ -5,7 +5,8 @@ use Rattle.frame_terms.specs.Documents.{document_of, finish}
 use Rattle.vote_frame.specs.Tables.{vote_tables}
 use Rattle.vote_doc.specs.declared.kept.Kept.{Kept}
 use Rattle.vote_doc.specs.Kept.{none_kept, kept_with}
-use Rattle.vote_doc.specs.Reading.{kept_of, max_vote}
+use Rattle.vote_terms.specs.Votes.{max_vote}
+use Rattle.vote_doc.specs.Reading.{kept_of}
 
 pub kept_is : (bytes : List ℕ) (before kept : Kept) (items : Contents) (end : ℕ) → items ≡ items_of max_vote bytes
     → before ≡ none_kept → finish kept_with before (document_of vote_tables (length bytes) items) ≡ Ok (kept, end)

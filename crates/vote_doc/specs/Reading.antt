@@ -4,16 +4,12 @@ use Rattle.item_terms.specs.Items.{items_of}
 use Rattle.frame_terms.specs.declared.fault.ReadRefusal.{ReadRefusal}
 use Rattle.frame_terms.specs.Documents.{document_of, finish}
 use Rattle.frame_terms.specs.Refusals.{Fails}
-use Rattle.vote_terms.specs.Votes.{ReadVote}
+use Rattle.vote_terms.specs.Votes.{ReadVote, max_vote}
 use Rattle.vote_doc.specs.declared.kept.Kept.{Kept}
 use Rattle.vote_doc.specs.Kept.{none_kept, kept_with}
 use Rattle.vote_doc.specs.Facts.{vote_in}
 use Rattle.blank_lines.specs.Behind.{behind}
 use Rattle.vote_frame.specs.Tables.{vote_tables}
-
--- how many bytes a vote may have
-abbrev pub max_vote : ℕ
-max_vote = 16777216
 
 -- what the vote says of which this was kept, in its own part of these bytes
 abbrev pub with_facts : List ℕ → Result (Kept × ℕ) ReadRefusal → Result (ReadVote × ℕ) ReadRefusal

@@ -19,9 +19,9 @@ use Rattle.frame_values.specs.declared.values.Value.{Value}
 use Rattle.vote_frame.specs.Tables.{vote_tables}
 use Rattle.vote_frame.specs.declared.frame.VoteSection.{VoteSection}
 use Rattle.vote_frame.specs.declared.frame.VoteValue.{VoteValue}
-use Rattle.vote_terms.specs.Votes.{ReadVote}
+use Rattle.vote_terms.specs.Votes.{ReadVote, max_vote}
 use Rattle.vote_doc.specs.Kept.{kept_with, none_kept}
-use Rattle.vote_doc.specs.Reading.{max_vote, with_facts}
+use Rattle.vote_doc.specs.Reading.{with_facts}
 use Rattle.vote_feed.specs.Ended.{BlankLinesAreNone}
 
 -- what a line makes of what follows it, where nothing is open before it

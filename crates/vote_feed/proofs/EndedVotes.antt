@@ -23,9 +23,9 @@ use Rattle.vote_frame.specs.Tables.{vote_tables}
 use Rattle.vote_frame.specs.declared.frame.VoteSection.{VoteSection}
 use Rattle.vote_frame.specs.declared.frame.VoteSection.TheVariants as section
 use Rattle.vote_frame.specs.declared.frame.VoteValue.{VoteValue}
-use Rattle.vote_terms.specs.Votes.{ReadVote}
+use Rattle.vote_terms.specs.Votes.{ReadVote, max_vote}
 use Rattle.vote_doc.specs.Kept.{kept_with, none_kept}
-use Rattle.vote_doc.specs.Reading.{max_vote, vote_of, with_facts}
+use Rattle.vote_doc.specs.Reading.{vote_of, with_facts}
 use Rattle.vote_feed.specs.Feeding.{EndsSo, end_of}
 use Rattle.vote_parts.proofs.VoteEnds.{vote_ends}
 use Rattle.vote_feed.proofs.Votes.{known_more, whole_there}

@@ -28,11 +28,11 @@ use Rattle.vote_frame.specs.declared.across.Across.{Across}
 use Rattle.vote_frame.specs.declared.frame.VoteSection.{VoteSection}
 use Rattle.vote_frame.specs.declared.frame.VoteValue.{VoteValue}
 use Rattle.vote_frame.specs.Tables.{vote_tables}
-use Rattle.vote_terms.specs.Votes.{ReadVote}
+use Rattle.vote_terms.specs.Votes.{ReadVote, max_vote}
 use Rattle.vote_doc.specs.declared.kept.Kept.{Kept}
 use Rattle.vote_doc.specs.Facts.{vote_in}
 use Rattle.vote_doc.specs.Kept.{kept_with, none_kept}
-use Rattle.vote_doc.specs.Reading.{ReadsVote, max_vote, vote_of, with_facts}
+use Rattle.vote_doc.specs.Reading.{ReadsVote, vote_of, with_facts}
 use Rattle.vote_feed.specs.SoFar.{used_of}
 use Rattle.vote_feed.specs.Feeding.{EndsSo, IsFaulty, IsOpen, IsWhole, end_of}
 use Rattle.vote_feed.specs.Lending.{Comes, IsKeptOf, TakesIn, VoteSoFar, VoteWaits}

@@ -1,7 +1,8 @@
 // A vote that is read while its bytes arrive.
 ghost use Rattle.std.specs.Prelude.{◌≡◌, ◌≤◌, ◌+◌, ◌-◌, [], None, length, min, take, true, vec_len, IfOk, Ok, OnErr};
 ghost use Rattle.item_feeder.specs.Feeders.{KeepsWithin};
-ghost use Rattle.vote_doc.specs.Reading.{max_vote, ReadsVote};
+ghost use Rattle.vote_terms.specs.Votes.{max_vote};
+ghost use Rattle.vote_doc.specs.Reading.{ReadsVote};
 ghost use Rattle.vote_feed.specs.declared.fed.Fed.TheVariants as given;
 ghost use Rattle.vote_feed.specs.declared.feeder.State.TheVariants as states;
 ghost use Rattle.vote_feed.specs.Feeding.{Feeds, IsFaulty, IsOpen, IsWhole, are_blank_lines};

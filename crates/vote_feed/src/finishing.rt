@@ -1,7 +1,8 @@
 // The vote of bytes that were taken.
 ghost use Rattle.std.specs.Prelude.{◌≡◌, IfOk};
 ghost use Rattle.item_feeder.specs.Feeders.{KeepsWithin};
-ghost use Rattle.vote_doc.specs.Reading.{max_vote, ReadsVote};
+ghost use Rattle.vote_terms.specs.Votes.{max_vote};
+ghost use Rattle.vote_doc.specs.Reading.{ReadsVote};
 ghost use Rattle.vote_feed.specs.Lending.{IsKeptOf, taken_of};
 
 use bytes::Bytes;

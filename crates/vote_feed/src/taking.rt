@@ -1,6 +1,6 @@
 // What comes of more bytes of a vote.
 ghost use Rattle.std.specs.Prelude.{◌≡◌, ◌≤◌, ◌+◌, length, true, vec_len, IfOk, OnErr, OnOk};
-ghost use Rattle.vote_doc.specs.Reading.{max_vote};
+ghost use Rattle.vote_terms.specs.Votes.{max_vote};
 ghost use Rattle.vote_feed.specs.Feeding.{IsOpen};
 ghost use Rattle.vote_feed.specs.Lending.{TakesIn, VoteWaits};
 

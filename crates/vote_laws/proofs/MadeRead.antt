@@ -22,13 +22,13 @@ use Rattle.frame_laws.proofs.Places.{after_all-append, both_written}
 use Rattle.frame_laws.proofs.Sections.{entries_in, others_in, section_before_last, section_whole}
 use Rattle.frame_laws.proofs.WrittenRows.{ends_behind, is_closed}
 use Rattle.certificate_laws.proofs.CertRows.{certificate_version}
-use Rattle.vote_terms.specs.Votes.{ReadVote}
+use Rattle.vote_terms.specs.Votes.{ReadVote, max_vote}
 use Rattle.vote_terms.specs.declared.facts.VoteFacts.{VoteFacts}
 use Rattle.vote_text.specs.Made.{made_text}
 use Rattle.blank_lines.specs.Behind as places
 use Rattle.vote_doc.specs.Facts.{vote_in}
 use Rattle.vote_doc.specs.Kept.{kept_with, none_kept}
-use Rattle.vote_doc.specs.Reading.{max_vote, vote_from, vote_of, with_facts}
+use Rattle.vote_doc.specs.Reading.{vote_from, vote_of, with_facts}
 use Rattle.vote_doc.specs.declared.kept.Kept.{Kept}
 use Rattle.vote_frame.specs.Across.{nothing_across}
 use Rattle.vote_frame.specs.Tables.{vote_tables}

@@ -16,7 +16,7 @@ use Rattle.value_groups.specs.declared.line.RandomLine.TheVariants as line
 use Rattle.vote_terms.specs.declared.facts.VoteFacts.{VoteFacts}
 use Rattle.vote_text.specs.Made.{made_text}
 use Rattle.vote_doc.specs.Lists.{lists_in, vote_lists}
-use Rattle.vote_doc.specs.Reading.{max_vote}
+use Rattle.vote_terms.specs.Votes.{max_vote}
 use Rattle.vote_frame.specs.Tables.{vote_tables}
 use Rattle.vote_laws.proofs.EntryKept.{entries_say}
 use Rattle.vote_laws.proofs.VoteItems.{list_kinds, signature_entry}

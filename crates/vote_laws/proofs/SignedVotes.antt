@@ -9,12 +9,12 @@ use Rattle.frame_terms.specs.Documents.{document_of, finish}
 use Rattle.authority_certs.specs.Certs.{cert_in}
 use Rattle.authority_certs.specs.declared.head.CertHead.{CertHead}
 use Rattle.vote_frame.specs.Tables.{vote_tables}
-use Rattle.vote_terms.specs.Votes.{ReadVote}
+use Rattle.vote_terms.specs.Votes.{ReadVote, max_vote}
 use Rattle.vote_doc.specs.declared.head.Head.{Head}
 use Rattle.vote_doc.specs.declared.kept.Kept.{Kept}
 use Rattle.vote_doc.specs.Facts.{vote_in}
 use Rattle.vote_doc.specs.Kept.{kept_with, none_kept}
-use Rattle.vote_doc.specs.Reading.{max_vote, with_facts}
+use Rattle.vote_doc.specs.Reading.{with_facts}
 use Rattle.vote_parts.proofs.OwnVotes.{placed_read}
 use Rattle.document_laws.proofs.Rules.{Holds}
 use Rattle.vote_laws.specs.Signed.{HasCertificate, IsOfCovered, IsVoteOfItems, VotesSignTheirItems}

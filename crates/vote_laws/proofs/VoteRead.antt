@@ -34,14 +34,14 @@ use Rattle.certificate_laws.proofs.CertRows.{certificate, certificate_ended, cer
 use Rattle.certificate_laws.proofs.CertRows.{last_row}
 use Rattle.certificate_laws.proofs.CertSays.{cert_ends}
 use Rattle.value_groups.specs.declared.line.RandomLine.TheVariants as line
-use Rattle.vote_terms.specs.Votes.{ReadVote}
+use Rattle.vote_terms.specs.Votes.{ReadVote, max_vote}
 use Rattle.vote_terms.specs.declared.facts.SignatureFacts.{SignatureFacts}
 use Rattle.vote_terms.specs.declared.facts.VoteFacts.{VoteFacts}
 use Rattle.vote_text.specs.Texts.{vote_items, vote_text}
 use Rattle.blank_lines.specs.Behind.{behind}
 use Rattle.vote_doc.specs.Facts.{vote_in}
 use Rattle.vote_doc.specs.Kept.{kept_with, none_kept}
-use Rattle.vote_doc.specs.Reading.{max_vote, vote_from, vote_of, with_facts}
+use Rattle.vote_doc.specs.Reading.{vote_from, vote_of, with_facts}
 use Rattle.vote_doc.specs.declared.kept.Kept.{Kept}
 use Rattle.vote_frame.specs.Across.{nothing_across}
 use Rattle.vote_frame.specs.Tables.{vote_tables}

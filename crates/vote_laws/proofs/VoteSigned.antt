@@ -19,7 +19,7 @@ use Rattle.vote_terms.specs.declared.facts.SignatureFacts.{SignatureFacts}
 use Rattle.vote_terms.specs.declared.facts.VoteFacts.{VoteFacts}
 use Rattle.vote_text.specs.Texts.{algorithm_text, signer_text, vote_items, vote_text}
 use Rattle.vote_doc.specs.Heads.{signed_to}
-use Rattle.vote_doc.specs.Reading.{max_vote}
+use Rattle.vote_terms.specs.Votes.{max_vote}
 use Rattle.vote_frame.specs.Tables.{vote_tables}
 use Rattle.vote_laws.specs.Again.{IsInRange, signed_text, unsigned_items}
 use Rattle.vote_laws.proofs.VoteItems.{VoteEntry, signature_entry}

@@ -19,7 +19,7 @@ use Rattle.value_laws.specs.Ranges.{AreParamsInRange, AreProtocolsInRange, AreVe
 use Rattle.list_values.specs.declared.named.Named.{Named}
 use Rattle.relay_entries.specs.declared.said.EdOpinion.TheVariants as opinion
 use Rattle.vote_terms.specs.Entries.{Ascending}
-use Rattle.vote_terms.specs.Votes.{ReadVote}
+use Rattle.vote_terms.specs.Votes.{ReadVote, max_vote}
 use Rattle.vote_terms.specs.declared.entry.EntryFacts.{EntryFacts}
 use Rattle.vote_terms.specs.declared.entry.MicroFacts.{MicroFacts}
 use Rattle.vote_terms.specs.declared.facts.SignatureFacts.{SignatureFacts}
@@ -27,7 +27,7 @@ use Rattle.vote_terms.specs.declared.facts.VoteFacts.{VoteFacts}
 use Rattle.vote_terms.specs.declared.lists.VoteLists.{VoteLists}
 use Rattle.vote_text.specs.Entries.{entries_items}
 use Rattle.vote_text.specs.Texts.{authority_items, preamble_items, vote_items, vote_text}
-use Rattle.vote_doc.specs.Reading.{max_vote, vote_from}
+use Rattle.vote_doc.specs.Reading.{vote_from}
 
 -- the consensus methods are at most 64 numbers of 32 bits
 pub record AreMethods (methods : List ℕ) : Type 0 where

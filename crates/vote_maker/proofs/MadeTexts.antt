@@ -13,7 +13,7 @@ use Rattle.flag_rules.specs.declared.relay.RelayFacts.{RelayFacts}
 use Rattle.flag_rules.specs.declared.ruling.Ruling.{Ruling}
 use Rattle.vote_maker.specs.Made.{Basis}
 use Rattle.vote_maker.specs.Making.{AsksForVote, IsMade, IsTextOf, RefusesToMake, certificate_answer}
-use Rattle.vote_maker.specs.Making.{vote_limit}
+use Rattle.vote_terms.specs.Votes.{max_vote}
 use Rattle.vote_maker.specs.Private.{AsksFor, IsSignedPart, IsSignedText, RefusesToSign}
 use Rattle.vote_maker.specs.declared.refusal.MakeRefusal.{MakeRefusal}
 use Rattle.vote_maker.specs.declared.refusal.MakeRefusal.TheVariants as refusal
@@ -74,7 +74,7 @@ module _ {N : Type 0} (gives : Relation) (steps : SignerSteps N) where
     pub made_by : (rules : Rules) (whole : List ℕ) (old new : N)
         → IsCertified rules its.valid_after its.station.certificate → IsSignedPart allows its text
         → IsSignedText gives steps its.station.certificate text whole old new
-        → length whole ≤ vote_limit → IsMade rules gives steps allows its whole old new
+        → length whole ≤ max_vote → IsMade rules gives steps allows its whole old new
     made_by rules whole old new certified of signed fits =
         record { certified = certified; text_of = text_by whole old new of signed; fits = fits }
 

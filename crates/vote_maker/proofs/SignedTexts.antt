@@ -11,7 +11,7 @@ use Rattle.key_port.specs.declared.verifier.KeyKind.TheVariants as kind
 use Rattle.authority_certs.specs.declared.cert.Cert.{Cert}
 use Rattle.vote_text.specs.Made.{signature_rest}
 use Rattle.vote_maker.specs.Made.{signature_by}
-use Rattle.vote_maker.specs.Making.{vote_limit}
+use Rattle.vote_terms.specs.Votes.{max_vote}
 use Rattle.vote_maker.specs.Private.{IsSignedText, RefusesToSign}
 use Rattle.vote_maker.specs.declared.refusal.MakeRefusal.{MakeRefusal}
 use Rattle.vote_maker.specs.declared.refusal.MakeRefusal.TheVariants.{TooLong}
@@ -52,7 +52,7 @@ module _ {N : Type 0} (gives : Relation) (steps : SignerSteps N) (cert : Cert) (
       }
 
   pub too_long_by : (whole : List ℕ) (why : MakeRefusal) (old new : N) → why ≡ TooLong (length whole)
-      → vote_limit < length whole → IsSignedText gives steps cert text whole old new
+      → max_vote < length whole → IsSignedText gives steps cert text whole old new
       → RefusesToSign gives steps cert text why old new
   too_long_by whole why old new is above signed =
       subst (λ (w : MakeRefusal). RefusesToSign gives steps cert text w old new) (sym is)

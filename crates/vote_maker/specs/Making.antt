@@ -15,6 +15,7 @@ use Rattle.flag_rules.specs.Rules.{AreAllowed}
 use Rattle.flag_rules.specs.declared.relay.RelayFacts.{RelayFacts}
 use Rattle.flag_rules.specs.declared.ruling.Ruling.{Ruling}
 use Rattle.vote_terms.specs.declared.facts.VoteFacts.{VoteFacts}
+use Rattle.vote_terms.specs.Votes.{max_vote}
 use Rattle.vote_text.specs.Made.{made_signed, made_text}
 use Rattle.vote_maker.specs.declared.refusal.MakeRefusal.{MakeRefusal}
 use Rattle.vote_maker.specs.declared.refusal.MakeRefusal.TheVariants as refusal
@@ -42,10 +43,6 @@ pub record IsSigned {N : Type 0} (gives : Relation) (steps : SignerSteps N) (fac
 
 -- ---- the text
 
--- how many bytes a vote may have
-abbrev pub vote_limit : ℕ
-vote_limit = 16777216
-
 -- The text is that of a vote that says what is made of its basis under some rulings, each of which is allowed, with
 -- the bytes of the station's certificate and the signature that the signer gave.
 pub record IsTextOf {N : Type 0} (gives : Relation) (steps : SignerSteps N) (allows : RelayFacts → Ruling → Bool)
@@ -62,7 +59,7 @@ pub record IsMade {N : Type 0} (rules : Rules) (gives : Relation) (steps : Signe
     (allows : RelayFacts → Ruling → Bool) (its : Basis) (text : List ℕ) (old new : N) : Type 0 where
   pub certified : IsCertified rules its.valid_after its.station.certificate
   pub text_of : IsTextOf gives steps allows its text old new
-  pub fits : length text ≤ vote_limit
+  pub fits : length text ≤ max_vote
 
 -- ---- why there is none
 
@@ -72,7 +69,7 @@ pub record IsTooLong {N : Type 0} (gives : Relation) (steps : SignerSteps N) (al
   pub text : List ℕ
   pub text_of : IsTextOf gives steps allows its text old new
   pub count_is : count ≡ length text
-  pub above : vote_limit < count
+  pub above : max_vote < count
 
 -- The signer was asked for the signature of a vote that is made of its basis under rulings that are allowed, and
 -- answered so.

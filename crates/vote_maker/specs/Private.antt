@@ -39,7 +39,8 @@ use Rattle.vote_pool.specs.Kept.{signer_of}
 use Rattle.vote_maker.specs.Entries.{made_entry}
 use Rattle.vote_maker.specs.Listings.{JudgedRelay}
 use Rattle.vote_maker.specs.Made.{Basis, basis, entries_under, made, relays_in, signature_by}
-use Rattle.vote_maker.specs.Making.{fails, vote_limit}
+use Rattle.vote_terms.specs.Votes.{max_vote}
+use Rattle.vote_maker.specs.Making.{fails}
 use Rattle.vote_maker.specs.Relays.{known_relays, measured_for}
 use Rattle.vote_maker.specs.declared.refusal.MakeRefusal.{MakeRefusal}
 use Rattle.vote_maker.specs.declared.refusal.MakeRefusal.TheVariants as refusal
@@ -180,6 +181,6 @@ RefusesToSign gives steps cert text (refusal.OwnCert found) old new = ⊥
 RefusesToSign gives steps cert text refusal.SignerFault old new = AsksFor steps cert text old sign.Fault new
 RefusesToSign gives steps cert text refusal.VerifierFault old new = ⊥
 RefusesToSign gives steps cert text (refusal.TooLong count) old new =
-    (whole : List ℕ) × IsSignedText gives steps cert text whole old new × (count ≡ length whole) × (vote_limit < count)
+    (whole : List ℕ) × IsSignedText gives steps cert text whole old new × (count ≡ length whole) × (max_vote < count)
 RefusesToSign gives steps cert text refusal.Memory old new =
     (new ≡ old) ⊎ ((result : SignAnswer) × AsksFor steps cert text old result new)

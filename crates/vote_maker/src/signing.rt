@@ -3,7 +3,7 @@ ghost use Rattle.std.specs.Prelude.{◌≡◌, ◌≤◌, ◌<◌, ◌++◌, Err
 ghost use Rattle.dir_bytes.specs.Causes.{Rose};
 ghost use Rattle.vote_text.specs.Made as text_of;
 ghost use Rattle.vote_maker.specs.Made.{signature_by};
-ghost use Rattle.vote_maker.specs.Making.{vote_limit};
+ghost use Rattle.vote_terms.specs.Votes.{max_vote};
 ghost use Rattle.vote_maker.specs.Private.{IsSignedText, RefusesToSign};
 
 use crate::refusal::MakeRefusal;
@@ -38,8 +38,8 @@ fn push_signature(out: &mut Vec<u8>, cert: &Cert, signature: &Text) -> Result<()
 /// # Errors
 /// `TooLong` where it is, with its length.
 fn if_fits(text: Vec<u8>) -> Result<Vec<u8>, MakeRefusal>
-    ensures fits { IfOk result (λ same. (same ≡ text) × (length text.items ≤ vote_limit)) }
-    ensures too_long { IfErr result (λ refusal. (refusal ≡ MakeRefusal.TooLong (length text.items)) × (vote_limit < length text.items)) }
+    ensures fits { IfOk result (λ same. (same ≡ text) × (length text.items ≤ max_vote)) }
+    ensures too_long { IfErr result (λ refusal. (refusal ≡ MakeRefusal.TooLong (length text.items)) × (max_vote < length text.items)) }
 {
     let length = text.len() as u64;
     if length > MAX_VOTE {
@@ -60,7 +60,7 @@ pub(crate) fn signed_vote<N: Signer>(
     signer: &mut N,
 ) -> Result<Vec<u8>, MakeRefusal>
     ensures signed { IfOk result (λ whole. IsSignedText N.may_give N.steps cert.now text.items whole.items signer.old signer.new) }
-    ensures fits { IfOk result (λ whole. length whole.items ≤ vote_limit) }
+    ensures fits { IfOk result (λ whole. length whole.items ≤ max_vote) }
     ensures refused { IfErr result (λ refusal. RefusesToSign N.may_give N.steps cert.now text.items refusal signer.old signer.new) }
     ensures fault { IfErr result (λ refusal. refusal ≡ MakeRefusal.SignerFault → Rose (N.faults signer.old) (N.faults signer.new)) }
     ensures faults { N.faults signer.old ≤ N.faults signer.new }

@@ -7,11 +7,11 @@ use Rattle.frame_terms.specs.Documents.{document_of, finish}
 use Rattle.frame_terms.specs.declared.fault.ReadRefusal.{ReadRefusal}
 use Rattle.grammar_laws.proofs.OwnPart.{own_part_same, within_text}
 use Rattle.vote_frame.specs.Tables.{vote_tables}
-use Rattle.vote_terms.specs.Votes.{ReadVote}
+use Rattle.vote_terms.specs.Votes.{ReadVote, max_vote}
 use Rattle.blank_lines.specs.Behind.{behind}
 use Rattle.vote_doc.specs.Facts.{vote_in}
 use Rattle.vote_doc.specs.Kept.{kept_with, none_kept}
-use Rattle.vote_doc.specs.Reading.{max_vote, vote_of, with_facts}
+use Rattle.vote_doc.specs.Reading.{vote_of, with_facts}
 use Rattle.vote_parts.specs.Own.{IsOwn, OwnVotesAreRead, PlacedVotesAreRead, VoteDocument, says}
 use Rattle.vote_parts.proofs.VoteEnds.{vote_ends}
 

@@ -9,7 +9,8 @@ use Rattle.vote_frame.specs.Tables.{vote_tables}
 use Rattle.vote_frame.specs.declared.frame.VoteSection.{VoteSection}
 use Rattle.vote_frame.specs.declared.frame.VoteValue.{VoteValue}
 use Rattle.vote_doc.specs.Kept.{kept_with, none_kept}
-use Rattle.vote_doc.specs.Reading.{max_vote, with_facts}
+use Rattle.vote_terms.specs.Votes.{max_vote}
+use Rattle.vote_doc.specs.Reading.{with_facts}
 use Rattle.vote_parts.specs.Within.{VoteFaultsStandWithin}
 use Rattle.vote_parts.proofs.VotePlaces.{vote_faults}
 

@@ -8,11 +8,11 @@ use Rattle.frame_values.specs.declared.values.Value.{Value}
 use Rattle.vote_frame.specs.Tables.{vote_tables}
 use Rattle.vote_frame.specs.declared.frame.VoteSection.{VoteSection}
 use Rattle.vote_frame.specs.declared.frame.VoteValue.{VoteValue}
-use Rattle.vote_terms.specs.Votes.{ReadVote}
+use Rattle.vote_terms.specs.Votes.{ReadVote, max_vote}
 use Rattle.vote_doc.specs.declared.kept.Kept.{Kept}
 use Rattle.vote_doc.specs.Facts.{vote_in}
 use Rattle.vote_doc.specs.Kept.{kept_with, none_kept}
-use Rattle.vote_doc.specs.Reading.{max_vote, vote_from, vote_of}
+use Rattle.vote_doc.specs.Reading.{vote_from, vote_of}
 
 abbrev pub VoteDocument : Type 0
 VoteDocument = Document VoteSection (Value VoteValue)

@@ -10,8 +10,8 @@ use Rattle.key_port.specs.TestScheme.{is_test_signature}
 use Rattle.authority_certs.specs.Checks.{certifies, crosscertifies}
 use Rattle.vote_terms.specs.Acceptable.{has_fingerprint, names_signer, signs}
 use Rattle.vote_terms.specs.Held.{held}
-use Rattle.vote_terms.specs.Votes.{ReadVote}
-use Rattle.vote_doc.specs.Reading.{max_vote, vote_of}
+use Rattle.vote_terms.specs.Votes.{ReadVote, max_vote}
+use Rattle.vote_doc.specs.Reading.{vote_of}
 use Rattle.vote_rehearsal.specs.Authorities.{members_of}
 use Rattle.vote_rehearsal.specs.Votes.{period, vote_text}
 use Rattle.vote_rehearsal.specs.declared.authority.Authority.{Authority}

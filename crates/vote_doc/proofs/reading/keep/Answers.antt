@@ -1,6 +1,6 @@
 use Rattle.std.proofs.Common.{◌≡◌, refl}
 use Rattle.item_terms.specs.Items.{items_of}
-use Rattle.vote_doc.specs.Reading.{max_vote}
+use Rattle.vote_terms.specs.Votes.{max_vote}
 use Rattle.vote_doc.proofs.KeptVotes.{kept_is}
 use Rattle.vote_doc.proofs.reading.keep.Goals as goal
 

@@ -1,5 +1,5 @@
 use Rattle.std.proofs.Common.{◌∙◌, ◌+◌, ◌-◌, ◌++◌, ℕ, List, take, ap, arith, refl, subst, sym}
-use Rattle.vote_doc.specs.Reading.{max_vote}
+use Rattle.vote_terms.specs.Votes.{max_vote}
 use Rattle.vote_feed.specs.Blanks.{blank_of}
 use Rattle.vote_feed.specs.declared.fed.Fed.{Fed}
 use Rattle.vote_feed.specs.Feeding.{Feeds, IsOpen}
