@@ -27,7 +27,7 @@ use Rattle.station_input.specs.declared.frame.StationSection.TheVariants as its
 use Rattle.station_input.specs.declared.frame_said.StationValue.{StationValue}
 use Rattle.station_input.specs.declared.frame_said.StationValue.TheVariants as own
 use Rattle.station_input.specs.Kept.{kept_with, none_kept}
-use Rattle.station_input.specs.Lists.{lists_in, vote_lists}
+use Rattle.vote_terms.specs.ListLines.{lists_in, vote_lists}
 use Rattle.station_input.specs.Reading.{max_station, with_facts}
 use Rattle.station_input.specs.Saying.{source_in}
 use Rattle.station_input.specs.declared.facts.StationFacts.{StationFacts}

@@ -27,7 +27,7 @@ use Rattle.station_input.specs.declared.frame.StationKind.TheVariants as kind
 use Rattle.station_input.specs.declared.frame.StationSection.TheVariants as its
 use Rattle.station_input.specs.declared.frame_said.StationValue.{StationValue}
 use Rattle.station_input.specs.declared.frame_said.StationValue.TheVariants as own
-use Rattle.station_input.specs.Lists.{lists_in, vote_lists}
+use Rattle.vote_terms.specs.ListLines.{lists_in, vote_lists}
 use Rattle.station_input.specs.Saying.{source_in, source_of_value}
 use Rattle.maker_laws.proofs.StationStands.{own_there}
 use Rattle.vote_terms.specs.declared.lists.VoteLists.{VoteLists}

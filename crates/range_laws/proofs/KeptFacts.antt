@@ -13,9 +13,9 @@ use Rattle.value_laws.specs.Ranges.{AreProtocolsInRange, AreVersionsInRange}
 use Rattle.value_groups.specs.Listed.{params_in, protocols_in, versions_in}
 use Rattle.vote_entries.specs.Entries.{entry_in}
 use Rattle.vote_doc.specs.Facts.{facts_of}
-use Rattle.vote_doc.specs.Lists.{vote_lists}
+use Rattle.vote_terms.specs.ListLines.{vote_lists}
 use Rattle.vote_doc.specs.declared.kept.Kept.{Kept}
-use Rattle.vote_doc.specs.declared.lists.ListSpans.{ListSpans}
+use Rattle.vote_terms.specs.declared.list_lines.ListSpans.{ListSpans}
 use Rattle.vote_laws.specs.Again.{AreEntriesInRange, AreFlags, AreListsInRange, AreMethods, AreVoteParams}
 use Rattle.vote_laws.specs.Again.{IsEntryInRange, IsSignatureInRange}
 use Rattle.row_laws.proofs.ReadBytes.{object_bytes}

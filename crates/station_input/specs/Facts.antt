@@ -8,7 +8,7 @@ use Rattle.station_input.specs.declared.frame_said.MemberLine.{MemberLine}
 use Rattle.station_input.specs.declared.facts.Peer.{Peer}
 use Rattle.station_input.specs.declared.facts.StationFacts.{StationFacts}
 use Rattle.station_input.specs.declared.kept.Kept.{Kept}
-use Rattle.station_input.specs.Lists.{vote_lists}
+use Rattle.vote_terms.specs.ListLines.{vote_lists}
 
 -- an authority of the network, in these bytes
 abbrev pub peer_in : List ℕ → MemberLine → Peer

@@ -7,7 +7,7 @@ use Rattle.frame_values.specs.Values.{item_at, text_if}
 use Rattle.authority_certs.specs.Heads as cert
 use Rattle.station_input.specs.declared.frame_said.StationValue.{StationValue}
 use Rattle.station_input.specs.declared.head.Head.{Head}
-use Rattle.station_input.specs.Lists.{lists_in, no_lists}
+use Rattle.vote_terms.specs.ListLines.{lists_in, no_lists}
 use Rattle.station_input.specs.Saying.{no_schedule, no_source, schedule_in, source_in}
 
 -- what is kept where nothing was read

@@ -4,7 +4,6 @@ pub mod Lines
 pub mod Across
 pub mod Tables
 pub mod Saying
-pub mod Lists
 pub mod Heads
 pub mod Kept
 pub mod Facts

@@ -4,7 +4,6 @@ ghost use Rattle.station_input.specs.Facts as facts;
 
 use crate::frame_said::{MeasuredRelay, MemberLine};
 use crate::kept::Kept;
-use crate::lists::vote_lists;
 use authority_certs::{Cert, CertHead, cert_at};
 use count_terms::Newest;
 use dir_bytes::{Memory, Seq, Text};
@@ -12,7 +11,7 @@ use dir_values::Fingerprint;
 use flag_rules::OperatorRule;
 use frame_values::{between, copy_part, copy_part_if};
 use std::alloc::Global;
-use vote_terms::VoteLists;
+use vote_terms::{VoteLists, vote_lists};
 
 /// An authority of the network.
 #[derive(Drop)]

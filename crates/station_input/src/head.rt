@@ -3,11 +3,11 @@ ghost use Rattle.std.specs.Prelude.{◌≡◌};
 ghost use Rattle.station_input.specs.Heads as heads;
 
 use crate::frame_said::{ScheduleLine, StationValue};
-use crate::lists::{ListSpans, lists_at, no_lists};
 use crate::said::{no_schedule, no_source, schedule_at, source_at};
 use authority_certs::{CertHead, head_of, no_head};
 use frame_terms::{Keyword, Taken};
 use frame_values::{DirSource, Span, Value, text_if};
+use vote_terms::{ListSpans, lists_at, no_lists};
 
 /// What the items of a station input say that stand once, and where their texts stand in its bytes.
 #[derive(Clone, Copy)]

@@ -12,7 +12,6 @@ mod head;
 mod identity_set;
 mod kept;
 mod lines;
-mod lists;
 mod reading;
 mod said;
 mod source;

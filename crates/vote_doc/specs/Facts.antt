@@ -15,7 +15,7 @@ use Rattle.vote_entries.specs.Entries.{entry_in}
 use Rattle.vote_doc.specs.declared.head.Head.{Head}
 use Rattle.vote_doc.specs.declared.kept.Kept.{Kept}
 use Rattle.vote_doc.specs.declared.head_values.HeadValues.{HeadValues}
-use Rattle.vote_doc.specs.Lists.{vote_lists}
+use Rattle.vote_terms.specs.ListLines.{vote_lists}
 
 -- the hash of a signature that names this one, or none
 abbrev pub algorithm_of : Option Algorithm → Algorithm

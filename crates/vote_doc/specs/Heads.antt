@@ -15,7 +15,7 @@ use Rattle.frame_values.specs.Values.{item_at, place_in, after_in, nowhere, numb
 use Rattle.vote_frame.specs.declared.frame.VoteSection.{VoteSection}
 use Rattle.vote_frame.specs.declared.frame.VoteSection.TheVariants.{Preamble, Authority, Certificate, Entry, Footer}
 use Rattle.vote_frame.specs.declared.frame.VoteValue.{VoteValue}
-use Rattle.vote_doc.specs.Lists.{lists_in, no_lists}
+use Rattle.vote_terms.specs.ListLines.{lists_in, no_lists}
 use Rattle.vote_doc.specs.Saying.{delays_in, no_source, source_in, random_in, no_signature, signature_in}
 
 -- what is kept where nothing was read

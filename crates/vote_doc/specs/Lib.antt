@@ -1,5 +1,4 @@
 pub mod Saying
-pub mod Lists
 pub mod Heads
 pub mod Kept
 pub mod Facts

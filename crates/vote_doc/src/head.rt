@@ -3,7 +3,6 @@ ghost use Rattle.std.specs.Prelude.{◌≡◌};
 ghost use Rattle.frame_values.specs.Values as values;
 ghost use Rattle.vote_doc.specs.Heads as heads;
 
-use crate::lists::{ListSpans, lists_at, no_lists};
 use crate::says::{delays_at, no_signature, no_source, random_at, signature_at, source_at};
 use authority_certs::{CertHead, head_of, no_head};
 use frame_terms::{Keyword, Taken};
@@ -13,6 +12,7 @@ use frame_values::{
 };
 use value_groups::SharedRandom;
 use vote_frame::{VoteSection, VoteValue};
+use vote_terms::{ListSpans, lists_at, no_lists};
 
 /// What a vote's items say, and where its texts stand in its bytes. Moments are seconds since 1970-01-01 00:00:00 UTC.
 #[derive(Clone, Copy, Debug)]

@@ -3,14 +3,13 @@ ghost use Rattle.std.specs.Prelude.{◌≡◌, ◌<◌, ◌^◌, IfOk, length};
 ghost use Rattle.vote_doc.specs.Facts as facts;
 
 use crate::head::Head;
-use crate::lists::vote_lists;
 use authority_certs::{Cert, cert_at};
 use dir_bytes::Memory;
 use dir_values::{Algorithm, FlagSet};
 use frame_values::{VoteSignature, decode_part, part};
 use std::alloc::Global;
 use vote_entries::set_of;
-use vote_terms::{SignatureFacts, VoteLists};
+use vote_terms::{SignatureFacts, VoteLists, vote_lists};
 
 /// What a vote says in values of their own.
 #[derive(Debug, Drop)]

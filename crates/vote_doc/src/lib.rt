@@ -9,7 +9,6 @@ mod head;
 mod head_values;
 mod held;
 mod kept;
-mod lists;
 mod reading;
 mod says;
 mod vote;

@@ -15,7 +15,7 @@ use Rattle.authority_certs.specs.Heads.{head_of}
 use Rattle.value_groups.specs.declared.line.RandomLine.TheVariants as line
 use Rattle.vote_terms.specs.declared.facts.VoteFacts.{VoteFacts}
 use Rattle.vote_text.specs.Made.{made_text}
-use Rattle.vote_doc.specs.Lists.{lists_in, vote_lists}
+use Rattle.vote_terms.specs.ListLines.{lists_in, vote_lists}
 use Rattle.vote_terms.specs.Votes.{max_vote}
 use Rattle.vote_frame.specs.Tables.{vote_tables}
 use Rattle.vote_laws.proofs.EntryKept.{entries_say}

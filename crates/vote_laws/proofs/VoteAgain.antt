@@ -23,7 +23,7 @@ use Rattle.certificate_laws.proofs.CertRows.{certificate_rows, certificate_same,
 use Rattle.certificate_laws.proofs.CertSays.{certificate_says, whole_is}
 use Rattle.vote_terms.specs.declared.facts.VoteFacts.{VoteFacts}
 use Rattle.vote_text.specs.Texts.{vote_text}
-use Rattle.vote_doc.specs.Lists.{lists_in, vote_lists}
+use Rattle.vote_terms.specs.ListLines.{lists_in, vote_lists}
 use Rattle.value_groups.specs.declared.line.RandomLine.TheVariants as line
 use Rattle.vote_terms.specs.Votes.{max_vote}
 use Rattle.vote_frame.specs.Tables.{vote_tables}

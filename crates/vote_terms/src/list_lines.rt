@@ -1,18 +1,17 @@
-// What the lines of a preamble say that are lists of values.
+// What lines say that are lists of values, in a vote's preamble and in what a vote is made of.
 ghost use Rattle.std.specs.Prelude.{◌≡◌, IfOk};
-ghost use Rattle.vote_doc.specs.Lists as terms;
+ghost use Rattle.vote_terms.specs.ListLines as terms;
 
+use crate::lists::VoteLists;
 use dir_bytes::Memory;
 use frame_terms::{Keyword, Taken};
 use frame_values::{Span, Value, text_if};
 use std::alloc::Global;
 use value_groups::{params_if, protocols_if, versions_if};
-use vote_frame::VoteValue;
-use vote_terms::VoteLists;
 
-/// Where lists of values stand in a vote's bytes, of those that it has.
+/// Where lists of values stand in the bytes of a document, of those that it has.
 #[derive(Clone, Copy, Debug)]
-pub(crate) struct ListSpans {
+pub struct ListSpans {
     /// The versions that are recommended to clients.
     pub client_versions: Option<Span>,
     /// The versions that are recommended to relays.
@@ -29,8 +28,8 @@ pub(crate) struct ListSpans {
     pub params: Option<Span>,
 }
 
-/// The lists of a vote that has none.
-pub(crate) fn no_lists() -> ListSpans
+/// The lists of a document that has none.
+pub fn no_lists() -> ListSpans
     ensures { result ≡ terms.no_lists }
 {
     ListSpans {
@@ -44,8 +43,8 @@ pub(crate) fn no_lists() -> ListSpans
     }
 }
 
-/// Where the lists of a preamble stand.
-pub(crate) fn lists_at(taken: &[Taken<Value<VoteValue>>]) -> ListSpans
+/// Where the lists stand that were taken of a document.
+pub fn lists_at<V: Copy>(taken: &[Taken<Value<V>>]) -> ListSpans
     ensures { result ≡ terms.lists_in taken.now }
 {
     ListSpans {
@@ -63,11 +62,7 @@ pub(crate) fn lists_at(taken: &[Taken<Value<VoteValue>>]) -> ListSpans
 ///
 /// # Errors
 /// `Memory` is want of memory.
-pub(crate) fn vote_lists(
-    alloc: Global,
-    bytes: &[u8],
-    spans: &ListSpans,
-) -> Result<VoteLists, Memory>
+pub fn vote_lists(alloc: Global, bytes: &[u8], spans: &ListSpans) -> Result<VoteLists, Memory>
     ensures { IfOk result (λ lists. lists ≡ terms.vote_lists bytes.now spans.now) }
 {
     Ok(VoteLists {

@@ -1,4 +1,4 @@
--- What the lines of a preamble say that are lists of values (dir-spec, "Vote and consensus status document formats").
+-- What lines say that are lists of values, in a vote's preamble and in what a vote is made of (dir-spec, "Vote and consensus status document formats").
 use Rattle.std.specs.Prelude.{ℕ, ℤ, List, option_map, Option, None}
 use Rattle.frame_terms.specs.declared.document.Taken.{Taken}
 use Rattle.frame_terms.specs.declared.keyword.Keyword.TheVariants.{ClientVersions, ServerVersions, Params}
@@ -11,11 +11,10 @@ use Rattle.frame_values.specs.Parts.{part}
 use Rattle.frame_values.specs.Values.{item_at, text_if}
 use Rattle.value_groups.specs.Listed.{params_in, protocols_in, versions_in}
 use Rattle.list_values.specs.declared.named.Named.{Named}
-use Rattle.vote_frame.specs.declared.frame.VoteValue.{VoteValue}
 use Rattle.vote_terms.specs.declared.lists.VoteLists.{VoteLists}
-use Rattle.vote_doc.specs.declared.lists.ListSpans.{ListSpans}
+use Rattle.vote_terms.specs.declared.list_lines.ListSpans.{ListSpans}
 
--- the lists of a vote that has none
+-- the lists of a document that has none
 abbrev pub no_lists : ListSpans
 no_lists = record {
   client_versions = None;
@@ -27,8 +26,8 @@ no_lists = record {
   params = None;
 }
 
--- where the lists of a preamble stand
-abbrev pub lists_in : List (Taken (Value VoteValue)) → ListSpans
+-- where the lists stand that were taken of a document
+abbrev pub lists_in : {V : Type 0} → List (Taken (Value V)) → ListSpans
 lists_in taken = record {
   client_versions = text_if (item_at taken ClientVersions);
   server_versions = text_if (item_at taken ServerVersions);
