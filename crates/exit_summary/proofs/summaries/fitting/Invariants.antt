@@ -1,6 +1,6 @@
 use Rattle.std.proofs.Common.{◌≡◌, ◌++◌, take, drop}
 use Rattle.exit_summary.specs.Summaries as summaries
-use Rattle.exit_summary.proofs.summaries.ranges_fitting.Given as goal
+use Rattle.exit_summary.proofs.summaries.fitting.Given as goal
 
 abbrev pub invariant-loop-range : goal.invariant-loop-range
 invariant-loop-range l = record {
