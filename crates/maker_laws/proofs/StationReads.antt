@@ -1,7 +1,7 @@
 -- What the items of a station input say is in range, by the kinds of their rows.
 use Rattle.std.proofs.Common.{◌≡◌, ℕ, ◌≤◌, Bool, true, false, List, Option, Some, None, Result, Ok, Err, refl}
 use Rattle.std.proofs.Common.{subst}
-use Rattle.std.specs.Prelude.{IfSome, codes, option_map, if◌then◌else◌, ◌||◌}
+use Rattle.std.specs.Prelude.{IfSome, option_map, if◌then◌else◌}
 use Rattle.item_terms.specs.Items.{Item}
 use Rattle.dir_values.specs.Arguments.{Argument}
 use Rattle.dir_values.specs.Numbers.{number_of}
@@ -9,19 +9,16 @@ use Rattle.dir_values.specs.declared.digest.Fingerprint.{Fingerprint}
 use Rattle.dirdoc_grammar.specs.Writing.{IsLineRest}
 use Rattle.frame_terms.specs.declared.row.Limit.TheVariants as limit
 use Rattle.frame_values.specs.Arguments.{arguments_of, field, front, next, others}
-use Rattle.frame_values.specs.Lines.{argument_of, fingerprint_of, literal, source_of, time_of}
-use Rattle.frame_values.specs.Signatures.{has_words, object_of}
+use Rattle.frame_values.specs.Lines.{source_of}
 use Rattle.frame_values.specs.declared.found.Span.{Span}
 use Rattle.frame_values.specs.declared.found.DirSource.{DirSource}
 use Rattle.frame_values.specs.declared.values.Value.{Value}
 use Rattle.frame_values.specs.declared.values.Value.TheVariants as value
-use Rattle.value_groups.specs.ListLines.{params_of, protocols_of, versions_of}
+use Rattle.value_groups.specs.ListLines.{params_of}
 use Rattle.list_values.specs.Params.{wrong_param}
-use Rattle.authority_certs.specs.Tables.{cert_value}
-use Rattle.authority_certs.specs.declared.frame.CertKind.{CertKind}
 use Rattle.authority_certs.specs.declared.frame.CertKind.TheVariants as cert
 use Rattle.station_input.specs.Fields.{Identities, bandwidth, is_dash, long_number, new_identity}
-use Rattle.station_input.specs.Lines.{measured_of, member_of, own_of, rule_of, schedule_of}
+use Rattle.station_input.specs.Lines.{measured_of, own_of}
 use Rattle.station_input.specs.Sources.{fits_line}
 use Rattle.station_input.specs.Tables.{over_limit, station_tables, value_at}
 use Rattle.station_input.specs.declared.across.Across.{Across}
@@ -35,6 +32,7 @@ use Rattle.row_laws.proofs.ItemArguments.{IsSound}
 use Rattle.range_laws.proofs.LineReads.{IsSourceIn, few_words, source_reads}
 use Rattle.row_laws.proofs.ReadSteps.{ReadAs, any_reads, field_reads, if_reads, next_reads, no_fault, number_within}
 use Rattle.row_laws.proofs.ReadSteps.{was_read}
+use Rattle.row_laws.proofs.SaidByKinds.{said_of_any}
 use Rattle.row_laws.proofs.Saying.{Says}
 use Rattle.range_laws.proofs.VoteReads.{AreFew}
 use Rattle.maker_laws.specs.Ranges.{IsMeasuredInRange}
@@ -158,53 +156,21 @@ measured_reads earlier item =
     next_reads Any Relay f4 (m4 i a b c) (any_reads f4) (λ d is_d.
     next_reads KbIs Relay f5 (m5 i a b c d) (kb_reads t5) (λ k is_k. is_k))))))
 
--- what is said of what is read, where that is never of a measured relay
-never_measured : {A : Type 0} (read : Result A ℕ) (of : A → Value StationValue) → ((a : A) → MeasuredIs (of a))
-    → ReadAs MeasuredIs (next read (λ a. Ok (of a)))
-never_measured (Ok a) of is = is a
-never_measured (Err place) of is = tt
-
-text_not : (read : Result Span ℕ) → ReadAs MeasuredIs (next read (λ text. Ok (value.Text text)))
-text_not read = never_measured read (λ text. value.Text text) (λ text. tt)
-
-object_not : (read : Result Span ℕ) → ReadAs MeasuredIs (next read (λ lines. Ok (value.Object lines)))
-object_not read = never_measured read (λ lines. value.Object lines) (λ lines. tt)
-
-certificates_measured : (of : CertKind) (item : Item) → ReadAs MeasuredIs (cert_value of item)
-certificates_measured cert.Version item = never_measured (literal (codes "3") item) (λ _. value.Nothing) (λ _. tt)
-certificates_measured cert.Address item = text_not (argument_of item)
-certificates_measured cert.Fingerprint item =
-    never_measured (fingerprint_of item) (λ identity. value.Fingerprint identity) (λ identity. tt)
-certificates_measured cert.Time item = never_measured (time_of item) (λ number. value.Number number) (λ number. tt)
-certificates_measured cert.Key item = object_not (object_of (has_words item.object (codes "RSA PUBLIC KEY")) item)
-certificates_measured cert.Crosscert item =
-    object_not (object_of (has_words item.object (codes "ID SIGNATURE") || has_words item.object
-    (codes "SIGNATURE")) item)
-certificates_measured cert.Certification item = object_not (object_of (has_words item.object (codes "SIGNATURE")) item)
-
-kinds_measured : (across : Across) (of : StationKind) (item : Item) → ReadAs MeasuredIs (value_at across of item)
-kinds_measured across kind.Version item = never_measured (literal (codes "1") item) (λ _. value.Nothing) (λ _. tt)
-kinds_measured across kind.Source item =
-    never_measured (own_of item) (λ source. value.Own (own.Source source)) (λ source. tt)
-kinds_measured across kind.Rest item = tt
-kinds_measured across kind.Schedule item =
-    never_measured (schedule_of item) (λ line. value.Own (own.Schedule line)) (λ line. tt)
-kinds_measured across kind.Member item =
-    never_measured (member_of item) (λ line. value.Own (own.Member line)) (λ line. tt)
-kinds_measured across kind.Versions item = text_not (versions_of item)
-kinds_measured across kind.Protocols item = text_not (protocols_of item)
-kinds_measured across kind.Params item = text_not (params_of item)
-kinds_measured across kind.Rule item =
-    never_measured (rule_of across.ruled item) (λ rule. value.Own (own.Rule rule)) (λ rule. tt)
-kinds_measured across kind.Measured item =
-    next_reads IsMeasuredInRange MeasuredIs (measured_of across.measured item)
-    (λ relay. Ok (value.Own (own.Measured relay))) (measured_reads across.measured item) (λ relay is. is)
-kinds_measured across kind.Nothing item = tt
-kinds_measured across (kind.Certificate of) item = certificates_measured of item
+-- whatever the kind, what is said is of no measured relay, or of one that is in range
+kinds_measured : (across : Across) (of : StationKind) (item : Item) (v : Value StationValue)
+    → value_at across of item ≡ Ok v → MeasuredIs v
+kinds_measured across kind.Rest item v is = was_read MeasuredIs (Ok (value.Text (rest_of item))) v tt is
+kinds_measured across kind.Nothing item v is = was_read MeasuredIs (Ok value.Nothing) v tt is
+kinds_measured across kind.Measured item v is =
+    was_read MeasuredIs (value_at across kind.Measured item) v
+    (next_reads IsMeasuredInRange MeasuredIs (measured_of across.measured item)
+    (λ relay. Ok (value.Own (own.Measured relay))) (measured_reads across.measured item) (λ relay is. is)) is
+kinds_measured across (kind.Certificate cert.Version) item v is = said_of_any MeasuredIs _ _ v is (λ a. tt)
+kinds_measured across of item v is = said_of_any MeasuredIs _ _ v is (λ a. tt)
 
 pub measured_says : {bytes : List ℕ} {of : StationKind} {v : Value StationValue} → StationSays bytes of v
     → MeasuredIs v
 measured_says {bytes} {of} {v} says =
     let across = says.remembered in
-    was_read MeasuredIs (value_at across of says.item) v (kinds_measured across of says.item)
+    kinds_measured across of says.item v
     (no_fault (over_limit of says.item) (value_at across of says.item) v says.says).1

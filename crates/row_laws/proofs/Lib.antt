@@ -3,6 +3,7 @@ pub mod ItemRests
 pub mod ItemWords
 pub mod ReadBytes
 pub mod ReadSteps
+pub mod SaidByKinds
 pub mod Saying
 pub mod Spoken
 pub mod Ties
