@@ -62,12 +62,10 @@ span_unmoved : (s : Span) → moved_span 0 s ≡ s
 span_unmoved s = λ i. record { start = none_more s.start i; end = none_more s.end i }
 
 said_unmoved : (end : ℕ) (said : Said) → IsValueIn end said → lifted_value {W = Unit {0}} 0 said ≡ said
-said_unmoved end value.Nothing is = refl
 said_unmoved end (value.Text s) is = ap (λ (s : Span). value.Text s) (span_unmoved s)
-said_unmoved end (value.Number number) is = refl
-said_unmoved end (value.Fingerprint identity) is = refl
 said_unmoved end (value.Object s) is = ap (λ (s : Span). value.Object s) (span_unmoved s)
 said_unmoved end (value.Own own) is = absurd is
+said_unmoved end said is = refl
 
 unmoved : (end : ℕ) (one : CertTaken) → IsTakenIn end one → moved_taken {W = Unit {0}} 0 one ≡ one
 unmoved end one is =

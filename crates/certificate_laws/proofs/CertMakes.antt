@@ -1,5 +1,5 @@
 -- What an item makes of a certificate that stands alone.
-use Rattle.std.proofs.Common.{◌≡◌, ℕ, ◌+◌, Bool, true, false, List, [], ◌∷◌, ◌++◌, Option, Some, None, Result, Ok, Err}
+use Rattle.std.proofs.Common.{◌≡◌, ℕ, Bool, true, false, List, [], ◌∷◌, ◌++◌, Option, Some, None, Result, Ok, Err}
 use Rattle.std.proofs.Common.{refl, sym, ap, subst, ◌∙◌}
 use Rattle.std.specs.Prelude.{not, ◌&&◌, if◌then◌else◌, is_some, codes}
 use Rattle.std.specs.List.{AllByRecursion, find}
@@ -26,6 +26,7 @@ use Rattle.frame_values.specs.Arguments.{next}
 use Rattle.frame_values.specs.Faults.{at_place}
 use Rattle.frame_values.specs.Signatures.{has_words, object_if}
 use Rattle.frame_values.specs.declared.found.Span.{Span}
+use Rattle.frame_values.specs.declared.values.Value.{Value}
 use Rattle.frame_values.specs.declared.values.Value.TheVariants as value
 use Rattle.authority_certs.specs.Tables.{cert_tables, cert_value}
 use Rattle.authority_certs.specs.declared.frame.CertKind.{CertKind}
@@ -82,11 +83,11 @@ abbrev pub made_or : Result (Made (Unit {0}) Said) ReadRefusal → Made (Unit {0
 made_or (Ok made) = made
 made_or (Err r) = Stops
 
-pub object_there : (of : CertKind) (item : Item) (said : Said) → of ≡ Certification → cert_value of item ≡ Ok said
-    → is_some item.object ≡ true
-object_there of item said is says =
+pub object_there : {V : Type 0} (of : CertKind) (item : Item) (said : Value V) → of ≡ Certification
+    → cert_value of item ≡ Ok said → is_some item.object ≡ true
+object_there {V} of item said is says =
     by (has_words item.object (codes "SIGNATURE")) item.object
-    (sym (ap (λ (k : CertKind). cert_value k item) is) ∙ says)
+    (sym (ap (λ (k : CertKind). cert_value {V = V} k item) is) ∙ says)
   where
     by : (t : Bool) (object : Option Object)
         → next (object_if t item.place object) (λ (lines : Span). Ok (value.Object lines)) ≡ Ok said

@@ -8,7 +8,6 @@ pub mod CertMakes
 pub mod Embedded
 pub mod FirstItem
 pub mod TakenIn
-pub mod AllTakenIn
 pub mod Lone
 pub mod StandInside
 pub mod MovedParts

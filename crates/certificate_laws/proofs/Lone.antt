@@ -2,7 +2,8 @@
 use Rattle.std.proofs.Common.{◌≡◌, ℕ, ◌+◌, ◌≤◌, List, [], ◌∷◌, ◌++◌, length, Option, Some, Result, Ok, Err, refl, sym}
 use Rattle.std.proofs.Common.{ap}
 use Rattle.std.proofs.Common.{subst, ◌∙◌, arith}
-use Rattle.std.specs.Prelude.{is_some, None}
+use Rattle.std.specs.Prelude.{All, is_some, None}
+use Rattle.std.proofs.lemmas.List.Elements.{All-head}
 use Rattle.std.specs.List.{AllByRecursion}
 use Rattle.item_terms.specs.Items.{Item, items_of, nothing}
 use Rattle.item_terms.specs.Lines.{lines}
@@ -25,19 +26,20 @@ use Rattle.authority_certs.specs.Reading.{cert_of, max_cert, with_cert}
 use Rattle.authority_certs.specs.Tables.{cert_tables}
 use Rattle.authority_certs.specs.declared.cert.Cert.{Cert}
 use Rattle.authority_certs.specs.declared.frame.CertKind.{CertKind}
-use Rattle.authority_certs.specs.declared.frame.CertKind.TheVariants.{Version}
 use Rattle.grammar_laws.specs.Moved.{Reads, sizes}
 use Rattle.grammar_laws.proofs.LastLines.{last_lines}
 use Rattle.grammar_laws.proofs.LinesTogether.{sizes_all}
 use Rattle.grammar_laws.proofs.SoundLines.{items_within, some_lines, within_all}
 use Rattle.grammar_laws.proofs.WithinLines.{IsIn, items_in}
+use Rattle.document_laws.specs.Items.{AreItemsIn}
+use Rattle.document_laws.proofs.Taking.{are_said}
+use Rattle.row_laws.proofs.Saying.{all_sound}
 use Rattle.certificate_laws.specs.Within.{AreTakenIn}
-use Rattle.certificate_laws.proofs.AllTakenIn.{all_taken_in}
 use Rattle.certificate_laws.proofs.Embedded.{CertDocument, GoesOn, goes_on_so}
 use Rattle.certificate_laws.proofs.FirstItem.{Begins, first_begins}
 use Rattle.certificate_laws.proofs.Holding.{CertTaken, HoldsCertificates, Said}
 use Rattle.certificate_laws.proofs.Simulated.{alone}
-use Rattle.certificate_laws.proofs.TakenIn.{value_in}
+use Rattle.certificate_laws.proofs.TakenIn.{all_taken_in}
 
 -- ---- the document
 
@@ -183,23 +185,18 @@ module _ {S K W X : Type 0} (tables : Tables S K (Value W) X) (outer name : S) (
   -- what is taken lies within the bytes
   taken_within : (lone : Alone (length bytes) fault_is all_items document)
       (goes : GoesOn tables outer name kind opening holds (first_taken lone.begins) [] lone.items document)
-      → AllByRecursion (IsIn (length bytes)) (lone.item ∷ lone.items)
-      → AreTakenIn bytes (first_taken lone.begins ∷ goes.taken)
+      → document_of cert_tables (length bytes) (items_of max_cert bytes) ≡ Ok document
+      → AllByRecursion (IsIn (length bytes)) all_items → AreTakenIn bytes (first_taken lone.begins ∷ goes.taken)
   unfolding same
-  taken_within lone goes are =
-      let first = are.0 in
+  taken_within lone goes read are =
+      let taken = first_taken lone.begins ∷ goes.taken in
+      let AreSaid : Group (Unit {0}) Said → Type 0 =
+      λ group. AreItemsIn cert_tables group.section all_items group.taken in
+      let said = are_said cert_tables (length bytes) (items_of max_cert bytes) document read in
       record {
         each =
-            all_taken_in (length bytes) (length bytes) (first_taken lone.begins) [] fault_is lone.items document
-            (first_taken lone.begins ∷ goes.taken) are.1 (
-              record {
-                value = value_in (length bytes) Version lone.item lone.begins.said first lone.begins.value;
-                place = first.place;
-                line = first.line;
-                after = first.after;
-              },
-              tt,
-            ) lone.read goes.groups;
+            all_taken_in bytes all_items taken (all_sound 0 max_cert bytes) are
+            (All-head AreSaid (group tt taken) [] (subst (All AreSaid) goes.groups said));
         version = refl;
         certification = ap (λ (o : Option CertTaken). is_some o) goes.last_there;
       }
@@ -224,6 +221,6 @@ module _ {S K W X : Type 0} (tables : Tables S K (Value W) X) (outer name : S) (
         near =
             items_within 65536 0 nothing (lines bytes) all_items nothing 65536 last.reads tt
             (omega (arith, size, fits));
-        within = taken_within lone goes (subst (AllByRecursion (IsIn (length bytes))) lone.parts are);
+        within = taken_within lone goes read are;
         end = ap after_in goes.last_there ∙ goes.last_ends ∙ whole;
       }

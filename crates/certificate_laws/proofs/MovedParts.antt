@@ -1,6 +1,6 @@
 -- What is taken of a certificate says the same where its bytes stand behind others.
 use Rattle.std.proofs.Common.{◌≡◌, ℕ, ◌+◌, ◌-◌, ◌≤◌, Bool, true, false, List, [], ◌∷◌, ◌++◌, length, take, drop, Option}
-use Rattle.std.proofs.Common.{Some, None, refl, ap, subst, ◌∙◌, arith}
+use Rattle.std.proofs.Common.{Some, refl, ap, ◌∙◌, arith}
 use Rattle.std.specs.Prelude.{map, option_map, is_some, slice_range, unwrap_or, if◌then◌else◌}
 use Rattle.std.specs.List.{AllByRecursion}
 use Rattle.std.proofs.Math.Seq.{drop-append-add}
@@ -12,17 +12,16 @@ use Rattle.frame_terms.specs.declared.document.Taken.{Taken}
 use Rattle.frame_terms.specs.declared.keyword.Keyword.{Keyword}
 use Rattle.frame_terms.specs.declared.keyword.Keyword.TheVariants as the
 use Rattle.frame_values.specs.Parts.{bytes_in, moment_of, part}
-use Rattle.frame_values.specs.Values.{after_in, fingerprint_in, item_at, line_end_in, number_in, object_in, place_in}
-use Rattle.frame_values.specs.Values.{text_if}
+use Rattle.frame_values.specs.Values.{after_in, fingerprint_of_value, item_at, line_end_in, number_of_value, place_in}
+use Rattle.frame_values.specs.Values.{object_of_value, text_of_value, value_if}
 use Rattle.frame_values.specs.declared.found.Span.{Span}
 use Rattle.frame_values.specs.declared.values.Value.{Value}
 use Rattle.frame_values.specs.declared.values.Value.TheVariants as value
-use Rattle.dir_values.specs.declared.digest.Fingerprint.{Fingerprint}
 use Rattle.authority_certs.specs.Certs.{cert_in, whole_part}
 use Rattle.authority_certs.specs.Heads.{head_of}
 use Rattle.certificate_laws.specs.Lifted.{lifted_value, moved_span, moved_taken}
 use Rattle.certificate_laws.specs.Within.{AreTakenIn, CertsSayTheSame, IsSpanIn, IsTakenIn, IsValueIn}
-use Rattle.certificate_laws.proofs.Holding.{CertTaken, Said, found_in}
+use Rattle.certificate_laws.proofs.Holding.{CertTaken, Said}
 
 slice_moved : (front bytes rest : List ℕ) (a b : ℕ) → a ≤ length bytes → b ≤ length bytes
     → slice_range (front ++ (bytes ++ rest)) (a + length front) (b + length front) ≡ slice_range bytes a b
@@ -35,30 +34,7 @@ slice_moved front bytes rest a b begins within =
     ∙ ap (λ (l : List ℕ). take (b - a) l) (drop-append-add front (bytes ++ rest) a ∙ drop-append-le a bytes rest begins)
     ∙ take-append-le (b - a) (drop a bytes) rest size
 
-module _ {W : Type 0} where
-  item_at_moved : (n : ℕ) (taken : List CertTaken) (keyword : Keyword)
-      → item_at (map (moved_taken {W = W} n) taken) keyword ≡ option_map (moved_taken n) (item_at taken keyword)
-  item_at_moved n taken keyword =
-      found_in (moved_taken n) (λ (one : CertTaken). same one.keyword keyword)
-      (λ (one : Taken (Value W)). same one.keyword keyword) (λ one. refl) taken
-
-found_in_all : (P : CertTaken → Type 0) (taken : List CertTaken) (keyword : Keyword) → AllByRecursion P taken
-    → (one : CertTaken) → item_at taken keyword ≡ Some one → P one
-found_in_all P [] keyword all one is = absurd (cc is)
-found_in_all P (a ∷ taken) keyword all one is =
-    by (λ is. found_in_all P taken keyword all.1 one is) (same a.keyword keyword) is
-  where
-    pick : (x y : CertTaken) → Some x ≡ Some y → x ≡ y
-    pick x y e = cc e
-
-    by : (item_at taken keyword ≡ Some one → P one) → (t : Bool)
-        → (if t then Some a else item_at taken keyword) ≡ Some one → P one
-    by again true is = subst P (pick a one is) all.0
-    by again false is = again is
-
--- ---- what one item says
-
-module _ (front bytes rest : List ℕ) where
+module _ (front bytes rest : List ℕ) (W : Type 0) where
   abbrev n : ℕ
   n = length front
 
@@ -70,151 +46,96 @@ module _ (front bytes rest : List ℕ) where
       let begins : span.start ≤ length bytes = omega (arith, is.order, is.within) in
       slice_moved front bytes rest span.start span.end begins is.within
 
-  module _ (W : Type 0) where
-    text_same : (o : Option CertTaken) → ((one : CertTaken) → o ≡ Some one → IsTakenIn (length bytes) one)
-        → option_map (part all) (text_if (option_map (moved_taken {W = W} n) o)) ≡ option_map (part bytes) (text_if o)
-    text_same None is = refl
-    text_same (Some one) is = by one.value (is one refl).value
-      where
-        by : (said : Said) → IsValueIn (length bytes) said
-            → option_map (part all) (text_if (Some (record (moved_taken {W = W} n one) { value = lifted_value n said })))
-            ≡ option_map (part bytes) (text_if (Some (record one { value = said })))
-        by (value.Text span) is = ap (λ (l : List ℕ). Some l) (part_same span is)
-        by value.Nothing is = refl
-        by (value.Number k) is = refl
-        by (value.Fingerprint f) is = refl
-        by (value.Object lines) is = refl
-        by (value.Own own) is = refl
+  -- ---- what one item says
 
-    object_same : (o : Option CertTaken) → ((one : CertTaken) → o ≡ Some one → IsTakenIn (length bytes) one)
-        → bytes_in all (object_in (option_map (moved_taken {W = W} n) o)) ≡ bytes_in bytes (object_in o)
-    object_same None is = refl
-    object_same (Some one) is = by one.value (is one refl).value
-      where
-        by : (said : Said) → IsValueIn (length bytes) said
-            → bytes_in all (object_in (Some (record (moved_taken {W = W} n one) { value = lifted_value n said })))
-            ≡ bytes_in bytes (object_in (Some (record one { value = said })))
-        by (value.Object lines) is = ap (λ (l : List ℕ). unwrap_or (decoded_bytes l) []) (part_same lines is)
-        by value.Nothing is = refl
-        by (value.Number k) is = refl
-        by (value.Fingerprint f) is = refl
-        by (value.Text span) is = refl
-        by (value.Own own) is = refl
+  -- a value says in all the bytes what another says in its own
+  record SaysAlike (there : Value W) (here : Said) : Type 0 where
+    text : option_map (part all) (text_of_value there) ≡ option_map (part bytes) (text_of_value here)
+    object : bytes_in all (object_of_value there) ≡ bytes_in bytes (object_of_value here)
+    number : number_of_value there ≡ number_of_value here
+    identity : fingerprint_of_value there ≡ fingerprint_of_value here
 
-    number_same : (o : Option CertTaken) → number_in (option_map (moved_taken {W = W} n) o) ≡ number_in o
-    number_same None = refl
-    number_same (Some one) = by one.value
-      where
-        by : (said : Said) → number_in (Some (record (moved_taken {W = W} n one) { value = lifted_value n said }))
-            ≡ number_in (Some (record one { value = said }))
-        by (value.Number k) = refl
-        by value.Nothing = refl
-        by (value.Object lines) = refl
-        by (value.Fingerprint f) = refl
-        by (value.Text span) = refl
-        by (value.Own own) = refl
+  values_alike : (said : Said) → IsValueIn (length bytes) said → SaysAlike (lifted_value n said) said
+  values_alike (value.Text span) is =
+      record { text = ap (λ (l : List ℕ). Some l) (part_same span is); object = refl; number = refl; identity = refl }
+  values_alike (value.Object lines) is = record {
+    text = refl;
+    object = ap (λ (l : List ℕ). unwrap_or (decoded_bytes l) []) (part_same lines is);
+    number = refl;
+    identity = refl;
+  }
+  values_alike _ is = record { text = refl; object = refl; number = refl; identity = refl }
 
-    identity_same : (o : Option CertTaken) → fingerprint_in (option_map (moved_taken {W = W} n) o) ≡ fingerprint_in o
-    identity_same None = refl
-    identity_same (Some one) = by one.value
-      where
-        by : (said : Said) → fingerprint_in (Some (record (moved_taken {W = W} n one) { value = lifted_value n said }))
-            ≡ fingerprint_in (Some (record one { value = said }))
-        by (value.Number k) = refl
-        by value.Nothing = refl
-        by (value.Object lines) = refl
-        by (value.Fingerprint f) = refl
-        by (value.Text span) = refl
-        by (value.Own own) = refl
+  -- an item that is there stands within the bytes, and another so many bytes further on
+  record StandsAlike (there : Option (Taken (Value W))) (here : Option CertTaken) : Type 0 where
+    place : place_in there ≡ place_in here + n
+    line : line_end_in there ≡ line_end_in here + n
+    after : after_in there ≡ after_in here + n
+    place_in_it : place_in here ≤ length bytes
+    line_in_it : line_end_in here ≤ length bytes
+    after_in_it : after_in here ≤ length bytes
 
-    place_moved : (o : Option CertTaken) → is_some o ≡ true
-        → place_in (option_map (moved_taken {W = W} n) o) ≡ place_in o + n
-    place_moved None is = absurd (cc is)
-    place_moved (Some one) is = refl
+  record IsAlike (there : Option (Taken (Value W))) (here : Option CertTaken) : Type 0 where
+    says : SaysAlike (value_if there) (value_if here)
+    stands : is_some here ≡ true → StandsAlike there here
 
-    line_moved : (o : Option CertTaken) → is_some o ≡ true
-        → line_end_in (option_map (moved_taken {W = W} n) o) ≡ line_end_in o + n
-    line_moved None is = absurd (cc is)
-    line_moved (Some one) is = refl
+  -- the item of a keyword
+  found_alike : (taken : List CertTaken) → AllByRecursion (IsTakenIn (length bytes)) taken → (keyword : Keyword)
+      → IsAlike (item_at (map (moved_taken n) taken) keyword) (item_at taken keyword)
+  found_alike [] are keyword = record { says = values_alike value.Nothing tt; stands = λ some. absurd (cc some) }
+  found_alike (one ∷ taken) are keyword = by (found_alike taken are.1 keyword) (same one.keyword keyword)
+    where
+      by : IsAlike (item_at (map (moved_taken n) taken) keyword) (item_at taken keyword) → (t : Bool)
+          → IsAlike (if t then Some (moved_taken n one) else item_at (map (moved_taken n) taken) keyword)
+          (if t then Some one else item_at taken keyword)
+      by more true = record {
+        says = values_alike one.value are.0.value;
+        stands = λ some. record {
+          place = refl;
+          line = refl;
+          after = refl;
+          place_in_it = are.0.place;
+          line_in_it = are.0.line;
+          after_in_it = are.0.after;
+        };
+      }
+      by more false = more
 
-    place_within : (o : Option CertTaken)
-        → ((one : CertTaken) → o ≡ Some one → IsTakenIn (length bytes) one) → place_in o ≤ length bytes
-    place_within None is = omega arith
-    place_within (Some one) is = (is one refl).place
+  -- ---- the certificate
 
-    after_moved : (o : Option CertTaken) → is_some o ≡ true
-        → after_in (option_map (moved_taken {W = W} n) o) ≡ after_in o + n
-    after_moved None is = absurd (cc is)
-    after_moved (Some one) is = refl
+  part_alike : (begin end there_begin there_end : ℕ) → there_begin ≡ begin + n → there_end ≡ end + n
+      → begin ≤ length bytes → end ≤ length bytes → slice_range all there_begin there_end ≡ slice_range bytes begin end
+  part_alike begin end there_begin there_end first last begins ends =
+      ap (λ (k : ℕ). slice_range all k there_end) first ∙ ap (λ (k : ℕ). slice_range all (begin + n) k) last
+      ∙ slice_moved front bytes rest begin end begins ends
 
-    after_within : (o : Option CertTaken)
-        → ((one : CertTaken) → o ≡ Some one → IsTakenIn (length bytes) one) → after_in o ≤ length bytes
-    after_within None is = omega arith
-    after_within (Some one) is = (is one refl).after
+  cert_alike : (taken : List CertTaken) → AreTakenIn bytes taken
+      → cert_in all (head_of (map (moved_taken {W = W} n) taken)) ≡ cert_in bytes (head_of taken)
+  cert_alike taken are =
+      let found = found_alike taken are.each in
+      let first = (found the.DirKeyCertificateVersion).stands are.version in
+      let last = (found the.DirKeyCertification).stands are.certification in
+      let covered = part_alike _ _ _ _ first.place last.line first.place_in_it last.line_in_it in
+      λ i. record {
+        address = (found the.DirAddress).says.text i;
+        fingerprint = (found the.Fingerprint).says.identity i;
+        identity_key = (found the.DirIdentityKey).says.object i;
+        published = moment_of ((found the.DirKeyPublished).says.number i);
+        expires = moment_of ((found the.DirKeyExpires).says.number i);
+        signing_key = (found the.DirSigningKey).says.object i;
+        crosscert = (found the.DirKeyCrosscert).says.object i;
+        certification = (found the.DirKeyCertification).says.object i;
+        covered = record { 0 = sha1 (covered i) };
+      }
 
-    line_within : (o : Option CertTaken) → ((one : CertTaken) → o ≡ Some one → IsTakenIn (length bytes) one)
-        → line_end_in o ≤ length bytes
-    line_within None is = omega arith
-    line_within (Some one) is = (is one refl).line
-
-says_same : (W : Type 0) (front bytes rest : List ℕ) (taken : List CertTaken) → AreTakenIn bytes taken
-    → cert_in (front ++ (bytes ++ rest)) (head_of (map (moved_taken {W = W} (length front)) taken))
-    ≡ cert_in bytes (head_of taken)
-says_same W front bytes rest taken are =
-    let n = length front in
-    let all = front ++ (bytes ++ rest) in
-    let at_ = item_at_moved {W = W} n taken in
-    let in_ = found_in_all (IsTakenIn (length bytes)) taken in
-    let text = λ (k : Keyword). ap (λ (o : Option (Taken (Value W))). option_map (part all) (text_if o)) (at_ k)
-    ∙ text_same front bytes rest W (item_at taken k) (in_ k are.each) in
-    let object = λ (k : Keyword). ap (λ (o : Option (Taken (Value W))). bytes_in all (object_in o)) (at_ k)
-    ∙ object_same front bytes rest W (item_at taken k) (in_ k are.each) in
-    let moment = λ (k : Keyword). ap (λ (o : Option (Taken (Value W))). moment_of (number_in o)) (at_ k)
-    ∙ ap moment_of (number_same front bytes rest W (item_at taken k)) in
-    let v = the.DirKeyCertificateVersion in
-    let c = the.DirKeyCertification in
-    let begin = ap place_in (at_ v) ∙ place_moved front bytes rest W (item_at taken v) are.version in
-    let end = ap line_end_in (at_ c) ∙ line_moved front bytes rest W (item_at taken c) are.certification in
-    let covered = ap (λ (k : ℕ). slice_range all k (line_end_in (item_at (map (moved_taken {W = W} n) taken) c))) begin
-    ∙ ap (λ (k : ℕ). slice_range all (place_in (item_at taken v) + n) k) end
-    ∙ slice_moved front bytes rest (place_in (item_at taken v)) (line_end_in (item_at taken c))
-    (place_within front bytes rest W (item_at taken v) (in_ v are.each))
-    (line_within front bytes rest W (item_at taken c) (in_ c are.each)) in
-    λ i. record {
-      address = text the.DirAddress i;
-      fingerprint =
-          (ap fingerprint_in (at_ the.Fingerprint)
-          ∙ identity_same front bytes rest W (item_at taken the.Fingerprint)) i;
-      identity_key = object the.DirIdentityKey i;
-      published = moment the.DirKeyPublished i;
-      expires = moment the.DirKeyExpires i;
-      signing_key = object the.DirSigningKey i;
-      crosscert = object the.DirKeyCrosscert i;
-      certification = object the.DirKeyCertification i;
-      covered = record { 0 = sha1 (covered i) };
-    }
-
-whole_same : (W : Type 0) (front bytes rest : List ℕ) (taken : List CertTaken) → AreTakenIn bytes taken
-    → whole_part (front ++ (bytes ++ rest)) (head_of (map (moved_taken {W = W} (length front)) taken))
-    ≡ whole_part bytes (head_of taken)
-whole_same W front bytes rest taken are =
-    let n = length front in
-    let all = front ++ (bytes ++ rest) in
-    let there : List (Taken (Value W)) = map (moved_taken n) taken in
-    let in_ = found_in_all (IsTakenIn (length bytes)) taken in
-    let v = the.DirKeyCertificateVersion in
-    let c = the.DirKeyCertification in
-    let begin =
-    ap place_in (item_at_moved {W = W} n taken v) ∙ place_moved front bytes rest W (item_at taken v) are.version in
-    let end =
-    ap after_in (item_at_moved {W = W} n taken c)
-    ∙ after_moved front bytes rest W (item_at taken c) are.certification in
-    ap (λ (k : ℕ). slice_range all k (after_in (item_at there c))) begin
-    ∙ ap (λ (k : ℕ). slice_range all (place_in (item_at taken v) + n) k) end
-    ∙ slice_moved front bytes rest (place_in (item_at taken v)) (after_in (item_at taken c))
-    (place_within front bytes rest W (item_at taken v) (in_ v are.each))
-    (after_within front bytes rest W (item_at taken c) (in_ c are.each))
+  whole_alike : (taken : List CertTaken) → AreTakenIn bytes taken
+      → whole_part all (head_of (map (moved_taken {W = W} n) taken)) ≡ whole_part bytes (head_of taken)
+  whole_alike taken are =
+      let found = found_alike taken are.each in
+      let first = (found the.DirKeyCertificateVersion).stands are.version in
+      let last = (found the.DirKeyCertification).stands are.certification in
+      part_alike _ _ _ _ first.place last.after first.place_in_it last.after_in_it
 
 pub certs_say : (W : Type 0) → CertsSayTheSame W
 certs_say W front bytes rest taken are =
-    record { says = says_same W front bytes rest taken are; whole = whole_same W front bytes rest taken are }
+    record { says = cert_alike front bytes rest W taken are; whole = whole_alike front bytes rest W taken are }

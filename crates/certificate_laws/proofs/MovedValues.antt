@@ -1,7 +1,8 @@
--- What an item of a certificate says, so many bytes further on.
+-- What is read of an item of a certificate so many bytes further on is what is read of it here, so many bytes further on;
+-- and where nothing is read of it here, nothing is there.
 use Rattle.std.proofs.Common.{◌≡◌, ℕ, ◌+◌, Bool, true, false, List, [], ◌∷◌, length, Option, Some, None, Result, Ok}
-use Rattle.std.proofs.Common.{Err, refl, ap, ◌∙◌, arith}
-use Rattle.std.specs.Prelude.{map, option_map, codes, if◌then◌else◌, ◌||◌, ◌*◌}
+use Rattle.std.proofs.Common.{Err, refl, sym, ap, ◌∙◌, arith}
+use Rattle.std.specs.Prelude.{map, option_map, codes, if◌then◌else◌, ◌||◌}
 use Rattle.std.specs.Str.{bytes_eq}
 use Rattle.item_terms.specs.Items.{Item, Object}
 use Rattle.item_terms.specs.Words.{is_blank, ends_or_blank}
@@ -10,11 +11,11 @@ use Rattle.dir_values.specs.Arguments.{Argument, arguments_at, onto}
 use Rattle.dir_values.specs.Digests.{fingerprint}
 use Rattle.dir_values.specs.declared.digest.Fingerprint.{Fingerprint}
 use Rattle.frame_values.specs.Arguments.{arguments_of, field, front, next, others}
-use Rattle.frame_values.specs.Fields.{is_there, span, span_if, span_of}
+use Rattle.frame_values.specs.Fields.{is_there, span, span_if}
+use Rattle.frame_values.specs.Lines.{argument_of, literal, time_of}
 use Rattle.frame_values.specs.Signatures.{has_words, object_if}
 use Rattle.frame_values.specs.declared.found.Span.{Span}
 use Rattle.frame_values.specs.declared.values.Value.{Value}
-use Rattle.frame_values.specs.declared.values.Value.TheVariants as value
 use Rattle.authority_certs.specs.Tables.{cert_value}
 use Rattle.authority_certs.specs.declared.frame.CertKind.{CertKind}
 use Rattle.authority_certs.specs.declared.frame.CertKind.TheVariants as kind
@@ -28,7 +29,7 @@ onto_moved : (n place byte : ℕ) (list : List Argument)
 onto_moved n place byte [] = refl
 onto_moved n place byte (argument ∷ rest) = refl
 
-pub arguments_moved : (n place : ℕ) (text : List ℕ)
+arguments_moved : (n place : ℕ) (text : List ℕ)
     → arguments_at (place + n) text ≡ map (moved_argument n) (arguments_at place text)
 unfolding arguments_at
 arguments_moved n place [] = refl
@@ -61,10 +62,10 @@ others_moved n [] = refl
 others_moved n (argument ∷ rest) = refl
 
 -- its first argument, and its second
-abbrev pub first_of : Item → Argument
+abbrev first_of : Item → Argument
 first_of item = front item.place (arguments_of item)
 
-abbrev pub second_of : Item → Argument
+abbrev second_of : Item → Argument
 second_of item = front item.place (others (arguments_of item))
 
 first_moved : (n : ℕ) (item : Item) → first_of (moved_item n item) ≡ moved_argument n (first_of item)
@@ -78,129 +79,136 @@ second_moved n item =
     ∙ ap (λ (l : List Argument). front (item.place + n) l) (others_moved n (arguments_of item))
     ∙ front_moved n item.place (others (arguments_of item))
 
--- ---- values
+-- ---- steps of reading
+
+module _ {A B : Type 0} where
+  -- what is made of what is read, or the place of what is wrong, so many bytes further on
+  abbrev read_moved : ℕ → (A → B) → Result A ℕ → Result B ℕ
+  read_moved n to (Ok a) = Ok (to a)
+  read_moved n to (Err place) = Err (place + n)
+
+-- what is read after another
+next_moved : {A B C D : Type 0} (n : ℕ) (to : A → B) (into : C → D) (read : Result A ℕ) (further : Result B ℕ)
+    (more : A → Result C ℕ) (more_there : B → Result D ℕ) → further ≡ read_moved n to read
+    → ((a : A) → more_there (to a) ≡ read_moved n into (more a))
+    → next further more_there ≡ read_moved n into (next read more)
+next_moved {A} {B} n to into read further more more_there is then_ =
+    ap (λ (r : Result B ℕ). next r more_there) is ∙ by read
+  where
+    by : (r : Result A ℕ) → next (read_moved n to r) more_there ≡ read_moved n into (next r more)
+    by (Ok a) = then_ a
+    by (Err place) = refl
+
+-- a value of an argument's text alone
+field_moved : {A : Type 0} (read : List ℕ → Option A) (n : ℕ) (a b : Argument) → b ≡ moved_argument n a
+    → field b (read b.text) ≡ read_moved n (λ (x : A). x) (field a (read a.text))
+field_moved {A} read n a b is = ap (λ (c : Argument). field c (read c.text)) is ∙ by (read a.text)
+  where
+    by : (o : Option A) → field (moved_argument n a) o ≡ read_moved n (λ (x : A). x) (field a o)
+    by (Some x) = refl
+    by None = refl
 
 span_moved : (n place : ℕ) (text : List ℕ) → span (place + n) text ≡ moved_span n (span place text)
 span_moved n place text =
     let end : place + n + length text ≡ place + length text + n = omega arith in
     λ i. record { start = place + n; end = end i }
 
-words_moved : (n : ℕ) (object : Option Object) (words : List ℕ)
+-- ---- what is read of an item
+
+argument_moved : (n : ℕ) (item : Item)
+    → argument_of (moved_item n item) ≡ read_moved n (moved_span n) (argument_of item)
+argument_moved n item =
+    ap (λ (a : Argument). field a (span_if (is_there a.text) a)) (first_moved n item)
+    ∙ by (first_of item) (is_there (first_of item).text)
+  where
+    by : (a : Argument) (t : Bool) → field (moved_argument n a) (span_if t (moved_argument n a))
+        ≡ read_moved n (moved_span n) (field a (span_if t a))
+    by a true = ap (λ (s : Span). Ok s) (span_moved n a.place a.text)
+    by a false = refl
+
+literal_moved : (word : List ℕ) (n : ℕ) (item : Item)
+    → literal word (moved_item n item) ≡ read_moved n (λ (u : Unit {0}). u) (literal word item)
+literal_moved word n item =
+    ap (λ (a : Argument). wanted_if (bytes_eq a.text word) a.place) (first_moved n item)
+    ∙ by (bytes_eq (first_of item).text word) (first_of item).place
+  where
+    wanted_if : Bool → ℕ → Result (Unit {0}) ℕ
+    wanted_if t place = if t then Ok tt else Err place
+
+    by : (t : Bool) (place : ℕ) → wanted_if t (place + n) ≡ read_moved n (λ (u : Unit {0}). u) (wanted_if t place)
+    by true place = refl
+    by false place = refl
+
+time_moved : (n : ℕ) (item : Item) → time_of (moved_item n item) ≡ read_moved n (λ (k : ℕ). k) (time_of item)
+time_moved n item =
+    next_moved n (λ (k : ℕ). k) (λ (k : ℕ). k) _ _ _ _ (field_moved date n _ _ (first_moved n item))
+    (λ days. next_moved n (λ (k : ℕ). k) (λ (k : ℕ). k) _ _ _ _ (field_moved time_of_day n _ _ (second_moved n item))
+    (λ seconds. refl))
+
+words_moved : (n : ℕ) (words : List ℕ) (object : Option Object)
     → has_words (option_map (moved_object n) object) words ≡ has_words object words
-words_moved n None words = refl
-words_moved n (Some object) words = refl
+words_moved n words None = refl
+words_moved n words (Some object) = refl
 
-abbrev pub wanted_if : Bool → ℕ → Result (Unit {0}) ℕ
-wanted_if t place = if t then Ok tt else Err place
+-- an object, if it is the one that is wanted
+object_moved : (n place : ℕ) (object : Option Object) (t u : Bool) → u ≡ t
+    → object_if u (place + n) (option_map (moved_object n) object) ≡ read_moved n (moved_span n) (object_if t place object)
+object_moved n place object t u is =
+    ap (λ (v : Bool). object_if v (place + n) (option_map (moved_object n) object)) is ∙ by t object
+  where
+    by : (t : Bool) (object : Option Object) → object_if t (place + n) (option_map (moved_object n) object)
+        ≡ read_moved n (moved_span n) (object_if t place object)
+    by t None = refl
+    by true (Some object) = ap (λ (s : Span). Ok s) (span_moved n object.start object.text)
+    by false (Some object) = refl
 
-module _ {W : Type 0} where
-  abbrev lifted_if : ℕ → Result (Value (Unit {0})) ℕ → Result (Value W) ℕ
-  lifted_if n (Ok value) = Ok (lifted_value n value)
-  lifted_if n (Err place) = Err place
-
-  -- what a first argument says
-  abbrev version_of : Argument → Result (Value W) ℕ
-  version_of first = next (wanted_if (bytes_eq first.text (codes "3")) first.place) (λ _. Ok value.Nothing)
-
-  abbrev text_of : Argument → Result (Value W) ℕ
-  text_of first = next (field first (span_if (is_there first.text) first)) (λ text. Ok (value.Text text))
-
-  abbrev identity_of : Argument → Result (Value W) ℕ
-  identity_of first = next (field first (fingerprint first.text)) (λ identity. Ok (value.Fingerprint identity))
-
-  abbrev moment_of : Argument → Argument → Result (Value W) ℕ
-  moment_of first second =
-      next (next (field first (date first.text)) (λ days.
-      next (field second (time_of_day second.text)) (λ seconds.
-      Ok (86400 * days + seconds)))) (λ number. Ok (value.Number number))
-
-  abbrev pub object_said : Bool → ℕ → Option Object → Result (Value W) ℕ
-  object_said wanted place object = next (object_if wanted place object) (λ lines. Ok (value.Object lines))
+-- ---- what an item says
 
 module _ {W : Type 0} where
-  version_moved : (n : ℕ) (first : Argument) (said : Value (Unit {0})) → version_of first ≡ Ok said
-      → version_of {W = W} (moved_argument n first) ≡ Ok (lifted_value n said)
-  version_moved n first said is = by (bytes_eq first.text (codes "3")) is
-    where
-      by : (t : Bool) → next (wanted_if t first.place) (λ _. Ok value.Nothing) ≡ Ok said
-          → next (wanted_if t (first.place + n)) (λ _. Ok value.Nothing) ≡ Ok (lifted_value {W = W} n said)
-      by true is = ap (lifted_if n) is
-      by false is = absurd (cc is)
-
-  text_moved : (n : ℕ) (first : Argument) (said : Value (Unit {0})) → text_of first ≡ Ok said
-      → text_of {W = W} (moved_argument n first) ≡ Ok (lifted_value n said)
-  text_moved n first said is = by (is_there first.text) is
-    where
-      by : (t : Bool) → next (field first (if t then Some (span_of first) else None)) (λ text. Ok (value.Text text))
-          ≡ Ok said
-          → next (field (moved_argument n first) (if t then Some (span_of (moved_argument n first)) else None))
-          (λ text. Ok (value.Text text))
-          ≡ Ok (lifted_value {W = W} n said)
-      by true is = ap (λ (s : Span). Ok (value.Text s)) (span_moved n first.place first.text) ∙ ap (lifted_if n) is
-      by false is = absurd (cc is)
-
-  identity_moved : (n : ℕ) (first : Argument) (said : Value (Unit {0})) → identity_of first ≡ Ok said
-      → identity_of {W = W} (moved_argument n first) ≡ Ok (lifted_value n said)
-  identity_moved n first said is = by (fingerprint first.text) is
-    where
-      by : (f : Option Fingerprint) → next (field first f) (λ identity. Ok (value.Fingerprint identity)) ≡ Ok said
-          → next (field (moved_argument n first) f) (λ identity. Ok (value.Fingerprint identity))
-          ≡ Ok (lifted_value {W = W} n said)
-      by (Some f) is = ap (lifted_if n) is
-      by None is = absurd (cc is)
-
-  moment_moved : (n : ℕ) (first second : Argument) (said : Value (Unit {0})) → moment_of first second ≡ Ok said
-      → moment_of {W = W} (moved_argument n first) (moved_argument n second) ≡ Ok (lifted_value n said)
-  moment_moved n first second said is = by (date first.text) (time_of_day second.text) is
-    where
-      by : (d t : Option ℕ)
-          → next (next (field first d) (λ days. next (field second t) (λ seconds. Ok (86400 * days + seconds))))
-          (λ number. Ok (value.Number number))
-          ≡ Ok said
-          → next (next (field (moved_argument n first) d)
-          (λ days. next (field (moved_argument n second) t) (λ seconds. Ok (86400 * days + seconds))))
-          (λ number. Ok (value.Number number))
-          ≡ Ok (lifted_value {W = W} n said)
-      by (Some d) (Some t) is = ap (lifted_if n) is
-      by (Some d) None is = absurd (cc is)
-      by None t is = absurd (cc is)
-
-  object_moved : (n place : ℕ) (wanted : Bool) (object : Option Object) (said : Value (Unit {0}))
-      → object_said wanted place object ≡ Ok said
-      → object_said {W = W} wanted (place + n) (option_map (moved_object n) object) ≡ Ok (lifted_value n said)
-  object_moved n place wanted None said is = absurd (cc is)
-  object_moved n place false (Some object) said is = absurd (cc is)
-  object_moved n place true (Some object) said is =
-      ap (λ (s : Span). Ok (value.Object s)) (span_moved n object.start object.text) ∙ ap (lifted_if n) is
+  value_moves : (n : ℕ) (of : CertKind) (item : Item)
+      → cert_value {V = W} of (moved_item n item) ≡ read_moved n (lifted_value n) (cert_value of item)
+  value_moves n kind.Version item =
+      next_moved n (λ (u : Unit {0}). u) (lifted_value n) _ _ _ _ (literal_moved (codes "3") n item) (λ u. refl)
+  value_moves n kind.Address item =
+      next_moved n (moved_span n) (lifted_value n) _ _ _ _ (argument_moved n item) (λ s. refl)
+  value_moves n kind.Fingerprint item =
+      next_moved n (λ (f : Fingerprint). f) (lifted_value n) _ _ _ _
+      (field_moved fingerprint n _ _ (first_moved n item)) (λ f. refl)
+  value_moves n kind.Time item =
+      next_moved n (λ (k : ℕ). k) (lifted_value n) _ _ _ _ (time_moved n item) (λ k. refl)
+  value_moves n kind.Key item =
+      let words = codes "RSA PUBLIC KEY" in
+      next_moved n (moved_span n) (lifted_value n) _ _ _ _
+      (object_moved n item.place item.object _ _ (words_moved n words item.object)) (λ s. refl)
+  value_moves n kind.Crosscert item =
+      let a = codes "ID SIGNATURE" in
+      let b = codes "SIGNATURE" in
+      let there = option_map (moved_object n) item.object in
+      next_moved n (moved_span n) (lifted_value n) _ _ _ _
+      (object_moved n item.place item.object _ _ (ap (λ (t : Bool). t || has_words there b) (words_moved n a item.object)
+      ∙ ap (λ (t : Bool). has_words item.object a || t) (words_moved n b item.object))) (λ s. refl)
+  value_moves n kind.Certification item =
+      let words = codes "SIGNATURE" in
+      next_moved n (moved_span n) (lifted_value n) _ _ _ _
+      (object_moved n item.place item.object _ _ (words_moved n words item.object)) (λ s. refl)
 
   -- What an item of a certificate says is the same so many bytes further on.
   pub value_moved : (n : ℕ) (of : CertKind) (item : Item) (said : Value (Unit {0})) → cert_value of item ≡ Ok said
       → cert_value {V = W} of (moved_item n item) ≡ Ok (lifted_value n said)
-  value_moved n kind.Version item said is =
-      ap version_of (first_moved n item) ∙ version_moved n (first_of item) said is
-  value_moved n kind.Address item said is =
-      ap text_of (first_moved n item) ∙ text_moved n (first_of item) said is
-  value_moved n kind.Fingerprint item said is =
-      ap identity_of (first_moved n item) ∙ identity_moved n (first_of item) said is
-  value_moved n kind.Time item said is =
-      ap (λ (a : Argument). moment_of a (second_of (moved_item n item))) (first_moved n item)
-      ∙ ap (λ (a : Argument). moment_of (moved_argument n (first_of item)) a) (second_moved n item)
-      ∙ moment_moved n (first_of item) (second_of item) said is
-  value_moved n kind.Key item said is =
-      let words = codes "RSA PUBLIC KEY" in
-      ap (λ (t : Bool). object_said t (item.place + n) (option_map (moved_object n) item.object))
-      (words_moved n item.object words)
-      ∙ object_moved n item.place (has_words item.object words) item.object said is
-  value_moved n kind.Crosscert item said is =
-      let a = codes "ID SIGNATURE" in
-      let b = codes "SIGNATURE" in
-      ap (λ (t : Bool). object_said (t || has_words (option_map (moved_object n) item.object) b) (item.place + n)
-      (option_map (moved_object n) item.object)) (words_moved n item.object a)
-      ∙ ap (λ (t : Bool). object_said (has_words item.object a || t) (item.place + n)
-      (option_map (moved_object n) item.object)) (words_moved n item.object b)
-      ∙ object_moved n item.place (has_words item.object a || has_words item.object b) item.object said is
-  value_moved n kind.Certification item said is =
-      let words = codes "SIGNATURE" in
-      ap (λ (t : Bool). object_said t (item.place + n) (option_map (moved_object n) item.object))
-      (words_moved n item.object words)
-      ∙ object_moved n item.place (has_words item.object words) item.object said is
+  value_moved n of item said is = value_moves n of item ∙ ap (read_moved n (lifted_value n)) is
+
+-- it says this here
+pub record WasSaid {W : Type 0} (n : ℕ) (of : CertKind) (item : Item) (v : Value W) : Type 0 where
+  pub said : Value (Unit {0})
+  pub is : cert_value of item ≡ Ok said
+  pub lifts : lifted_value n said ≡ v
+
+-- What it says so many bytes further on, it says here.
+pub said_back : {W : Type 0} (n : ℕ) (of : CertKind) (item : Item) (v : Value W)
+    → cert_value {V = W} of (moved_item n item) ≡ Ok v → WasSaid n of item v
+said_back {W} n of item v is = by (cert_value of item) refl (sym (value_moves n of item) ∙ is)
+  where
+    by : (r : Result (Value (Unit {0})) ℕ) → cert_value of item ≡ r → read_moved n (lifted_value n) r ≡ Ok v
+        → WasSaid n of item v
+    by (Err place) e is = absurd (cc is)
+    by (Ok said) e is = record { said = said; is = e; lifts = cc }

@@ -1,160 +1,106 @@
--- What is taken of a certificate lies within the items that it is taken of.
-use Rattle.std.proofs.Common.{◌≡◌, ℕ, ◌+◌, ◌≤◌, Bool, true, false, List, [], ◌∷◌, ◌++◌, length, Option, Some, None}
-use Rattle.std.proofs.Common.{Result, Ok, Err, refl, sym, ap, subst, ◌∙◌, arith}
-use Rattle.std.specs.Prelude.{IfSome, if◌then◌else◌, codes, ◌||◌, ◌*◌}
-use Rattle.std.specs.Str.{bytes_eq}
+-- What is taken of a certificate lies within the bytes whose items it is taken of.
+use Rattle.std.proofs.Common.{◌≡◌, ℕ, ◌+◌, ◌-◌, ◌≤◌, Bool, true, false, List, [], ◌∷◌, ◌++◌, length, take, drop, Option}
+use Rattle.std.proofs.Common.{Some, None, Ok, sym, ap, subst, inl, inr, arith, length-drop, length-take}
+use Rattle.std.specs.Prelude.{IfSome, codes, ◌||◌}
+use Rattle.std.specs.List.{AllByRecursion}
 use Rattle.item_terms.specs.Items.{Item, Object}
-use Rattle.item_terms.specs.Words.{ends_or_blank, is_blank}
-use Rattle.dir_bytes.specs.Fields.{date, time_of_day}
-use Rattle.dir_values.specs.Arguments.{Argument, arguments_at, onto}
-use Rattle.dir_values.specs.Digests.{fingerprint}
-use Rattle.dir_values.specs.declared.digest.Fingerprint.{Fingerprint}
-use Rattle.frame_values.specs.Arguments.{arguments_of, field, front, next}
+use Rattle.dir_values.specs.Arguments.{Argument}
+use Rattle.frame_values.specs.Arguments.{arguments_of, front, next}
 use Rattle.frame_values.specs.Fields.{is_there, span_of}
-use Rattle.frame_values.specs.Signatures.{has_words}
+use Rattle.frame_values.specs.Lines.{argument_of}
+use Rattle.frame_values.specs.Parts.{part}
+use Rattle.frame_values.specs.Signatures.{has_words, object_if, object_of}
 use Rattle.frame_values.specs.declared.values.Value.TheVariants as value
-use Rattle.authority_certs.specs.Tables.{cert_value}
+use Rattle.authority_certs.specs.Tables.{cert_tables, cert_value}
 use Rattle.authority_certs.specs.declared.frame.CertKind.{CertKind}
 use Rattle.authority_certs.specs.declared.frame.CertKind.TheVariants as kind
-use Rattle.certificate_laws.specs.Within.{IsValueIn}
-use Rattle.certificate_laws.proofs.MovedValues.{first_of, object_said, second_of, wanted_if}
-use Rattle.certificate_laws.proofs.Holding.{Said}
+use Rattle.document_laws.specs.Items.{AreItemsIn, IsItemIn, IsItemOf}
 use Rattle.grammar_laws.proofs.WithinLines.{IsIn}
+use Rattle.row_laws.proofs.ItemArguments.{IsSound, are_found, front_found}
+use Rattle.row_laws.proofs.ReadSteps.{ReadAs, next_reads, placed, span_reads, was_read}
+use Rattle.row_laws.proofs.SaidByKinds.{said_of_any}
+use Rattle.row_laws.proofs.Saying.{EachSound, sound_parts}
+use Rattle.certificate_laws.specs.Within.{IsSpanIn, IsTakenIn, IsValueIn}
+use Rattle.certificate_laws.proofs.Holding.{CertTaken, Said}
 
--- each argument ends within the text
-abbrev EndBy : ℕ → List Argument → Type 0
-EndBy end [] = Unit {0}
-EndBy end (argument ∷ rest) = (argument.place + length argument.text ≤ end) × EndBy end rest
-
-onto_ends : (place byte end : ℕ) (list : List Argument) → place + 1 ≤ end → EndBy end list
-    → ((argument : Argument) (rest : List Argument) → list ≡ argument ∷ rest → argument.place ≡ place + 1)
-    → EndBy end (onto place byte list)
-onto_ends place byte end [] le all begins = (omega (arith, le), tt)
-onto_ends place byte end (argument ∷ rest) le all begins =
-    let p = begins argument rest refl in
-    let a = all.0 in
-    (omega (arith, p, a), all.1)
-
-first_begins : (place : ℕ) (text : List ℕ) → ends_or_blank text ≡ false
-    → (argument : Argument) (rest : List Argument) → arguments_at place text ≡ argument ∷ rest → argument.place ≡ place
-unfolding arguments_at
-first_begins place [] dark argument rest is = absurd (cc dark)
-first_begins place (byte ∷ text) dark argument rest is =
-    by (arguments_at (place + 1) text) (is_blank byte) (ends_or_blank text) dark is
+-- an argument that stands in the bytes ends within them
+ends_within : (bytes : List ℕ) (a : Argument) → part bytes (span_of a) ≡ a.text → is_there a.text ≡ true
+    → a.place + length a.text ≤ length bytes
+ends_within bytes a stands some =
+    let k = a.place + length a.text - a.place in
+    let size : length (take k (drop a.place bytes)) ≡ length a.text = ap (λ (l : List ℕ). length l) stands in
+    let one = not_empty a.text some in
+    omega (arith, one, size, length-take k (drop a.place bytes), length-drop a.place bytes)
   where
-    place_or : List Argument → ℕ
-    place_or [] = place
-    place_or (a ∷ l) = a.place
+    not_empty : (text : List ℕ) → is_there text ≡ true → 1 ≤ length text
+    not_empty [] some = absurd (cc some)
+    not_empty (b ∷ text) some = omega arith
 
-    by_onto : (list : List Argument) → onto place byte list ≡ argument ∷ rest → argument.place ≡ place
-    by_onto [] is = sym (place_of_first (onto place byte []) is)
-      where
-        place_of_first : (l : List Argument) → l ≡ argument ∷ rest → place ≡ argument.place
-        place_of_first l e = cc is
-    by_onto (a ∷ l) is = cc is
+module _ (bytes : List ℕ) where
+  abbrev ValueIsIn : Said → Type 0
+  ValueIsIn said = IsValueIn (length bytes) said
 
-    by : (list : List Argument) (blank ends : Bool) → blank ≡ false
-        → (if blank then list
-        else if ends then record { place = place; text = byte ∷ [] } ∷ list else onto place byte list) ≡ argument ∷ rest
-        → argument.place ≡ place
-    by list true ends e is = absurd (cc e)
-    by list false true e is = cc is
-    by list false false e is = by_onto list is
+  object_in : (wanted : Bool) (item : Item) (said : Said) → IsIn (length bytes) item
+      → next (object_of wanted item) (λ lines. Ok (value.Object lines)) ≡ Ok said → ValueIsIn said
+  object_in wanted item said within is =
+      was_read ValueIsIn (next (object_of wanted item) (λ lines. Ok (value.Object lines))) said
+      (next_reads (IsSpanIn (length bytes)) ValueIsIn (object_of wanted item) (λ lines. Ok (value.Object lines))
+      (by wanted item.object within.object) (λ lines in_. in_)) is
+    where
+      by : (t : Bool) (object : Option Object) → IfSome object (λ (o : Object). o.start + length o.text ≤ length bytes)
+          → ReadAs (IsSpanIn (length bytes)) (object_if t item.place object)
+      by t None is = tt
+      by true (Some object) is = record { order = omega arith; within = is }
+      by false (Some object) is = tt
 
-pub ends_by : (place : ℕ) (text : List ℕ) → EndBy (place + length text) (arguments_at place text)
-unfolding arguments_at
-ends_by place [] = tt
-ends_by place (byte ∷ text) =
-    let here : place + 1 + length text ≡ place + length (byte ∷ text) = omega arith in
-    by (subst (λ (k : ℕ). EndBy k (arguments_at (place + 1) text)) here (ends_by (place + 1) text)) (is_blank byte)
-    (ends_or_blank text) refl
-  where
-    by : EndBy (place + length (byte ∷ text)) (arguments_at (place + 1) text) → (blank ends : Bool)
-        → ends_or_blank text ≡ ends
-        → EndBy (place + length (byte ∷ text)) (if blank then arguments_at (place + 1) text
-        else if ends then record { place = place; text = byte ∷ [] } ∷ arguments_at
-        (place + 1) text else onto place byte (arguments_at (place + 1) text))
-    by more true ends e = more
-    by more false true e = (omega arith, more)
-    by more false false e =
-        onto_ends place byte (place + length (byte ∷ text)) (arguments_at (place + 1) text) (omega arith) more
-        (first_begins (place + 1) text e)
+  -- what an item of a certificate says
+  value_in : (of : CertKind) (item : Item) (said : Said) → IsSound bytes item → IsIn (length bytes) item
+      → cert_value of item ≡ Ok said → ValueIsIn said
+  value_in kind.Address item said sound within is =
+      let first = front item.place (arguments_of item) in
+      was_read ValueIsIn (cert_value kind.Address item) said
+      (next_reads (IsSpanIn (length bytes)) ValueIsIn (argument_of item) (λ text. Ok (value.Text text))
+      (span_reads (IsSpanIn (length bytes)) first (is_there first.text) (λ some. record {
+        order = omega arith;
+        within = ends_within bytes first
+            (front_found bytes item.place (arguments_of item) (are_found sound) some).part some;
+      })) (λ text in_. in_)) is
+  value_in kind.Key item said sound within is =
+      object_in (has_words item.object (codes "RSA PUBLIC KEY")) item said within is
+  value_in kind.Crosscert item said sound within is =
+      object_in (has_words item.object (codes "ID SIGNATURE") || has_words item.object (codes "SIGNATURE")) item said
+      within is
+  value_in kind.Certification item said sound within is =
+      object_in (has_words item.object (codes "SIGNATURE")) item said within is
+  value_in of item said sound within is = said_of_any ValueIsIn _ _ said is (λ a. tt)
 
--- a first argument that is there ends within the rest of the line
-front_ends : (end place : ℕ) (list : List Argument) → EndBy end list → is_there (front place list).text ≡ true
-    → (front place list).place + length (front place list).text ≤ end
-front_ends end place [] all is = absurd (cc is)
-front_ends end place (argument ∷ rest) all is = all.0
+  -- what is taken of an item
+  by_row : (across name : Unit {0}) (item : Item) (one : CertTaken) → IsSound bytes item → IsIn (length bytes) item
+      → IsItemOf cert_tables across name item one → IsTakenIn (length bytes) one
+  by_row across name item one sound within is = subst (IsTakenIn (length bytes)) (sym is.stands) (record {
+    value =
+        value_in is.row.kind item is.value sound within (placed (cert_value is.row.kind item) is.value is.says);
+    place = within.place;
+    line = within.line;
+    after = within.after;
+  })
 
-widened : (a b : ℕ) (list : List Argument) → a ≤ b → EndBy a list → EndBy b list
-widened a b [] le all = tt
-widened a b (argument ∷ rest) le all = let one = all.0 in (omega (arith, le, one), widened a b rest le all.1)
+  by_either : (across name : Unit {0}) (item : Item) (one : CertTaken) → IsSound bytes item → IsIn (length bytes) item
+      → IsItemIn cert_tables across name item one → IsTakenIn (length bytes) one
+  by_either across name item one sound within (inl is) = by_row across name item one sound within is
+  by_either across name item one sound within (inr is) = by_row across is.around item one sound within is.taken
 
--- What an item of a certificate says lies within it.
-abbrev said_or : Said → Result Said ℕ → Said
-said_or other (Ok said) = said
-said_or other (Err place) = other
+  behind : (before rest : List Item) → AllByRecursion (IsIn (length bytes)) (before ++ rest)
+      → AllByRecursion (IsIn (length bytes)) rest
+  behind [] rest all = all
+  behind (item ∷ before) rest all = behind before rest all.1
 
-abbrev ok_said : Said → Result Said ℕ
-ok_said said = Ok said
-
-to_said : (end : ℕ) (found said : Said) → ok_said found ≡ Ok said → IsValueIn end found → IsValueIn end said
-to_said end found said is within = subst (IsValueIn end) (pick (Ok found) is) within
-  where
-    pick : (r : Result Said ℕ) → r ≡ Ok said → said_or found r ≡ said
-    pick r e = ap (said_or found) e
-
-object_in : (end place : ℕ) (wanted : Bool) (object : Option Object) (said : Said)
-    → IfSome object (λ (o : Object). o.start + length o.text ≤ end)
-    → object_said wanted place object ≡ Ok said → IsValueIn end said
-object_in end place wanted None said within is = absurd (cc is)
-object_in end place false (Some object) said within is = absurd (cc is)
-object_in end place true (Some object) said within is =
-    to_said end (value.Object (record { start = object.start; end = object.start + length object.text })) said is
-    (record { order = omega arith; within = within })
-
-pub value_in : (end : ℕ) (of : CertKind) (item : Item) (said : Said) → IsIn end item → cert_value of item ≡ Ok said
-    → IsValueIn end said
-value_in end kind.Version item said within is = by (bytes_eq (first_of item).text (codes "3")) is
-  where
-    by : (t : Bool) → next (wanted_if t (first_of item).place) (λ _. Ok value.Nothing) ≡ Ok said → IsValueIn end said
-    by true is = to_said end value.Nothing said is tt
-    by false is = absurd (cc is)
-value_in end kind.Key item said within is =
-    object_in end item.place (has_words item.object (codes "RSA PUBLIC KEY")) item.object said within.object is
-value_in end kind.Crosscert item said within is =
-    object_in end item.place (has_words item.object (codes "ID SIGNATURE") || has_words item.object
-    (codes "SIGNATURE")) item.object said within.object is
-value_in end kind.Certification item said within is =
-    object_in end item.place (has_words item.object (codes "SIGNATURE")) item.object said within.object is
-value_in end kind.Fingerprint item said within is = by (fingerprint (first_of item).text) is
-  where
-    by : (f : Option Fingerprint) → next (field (first_of item) f) (λ identity. Ok (value.Fingerprint identity))
-        ≡ Ok said → IsValueIn end said
-    by (Some f) is = to_said end (value.Fingerprint f) said is tt
-    by None is = absurd (cc is)
-value_in end kind.Time item said within is = by (date (first_of item).text) (time_of_day (second_of item).text) is
-  where
-    by : (d t : Option ℕ)
-        → next (next (field (first_of item) d)
-        (λ days. next (field (second_of item) t) (λ seconds. Ok (86400 * days + seconds))))
-        (λ number. Ok (value.Number number))
-        ≡ Ok said → IsValueIn end said
-    by (Some d) (Some t) is = to_said end (value.Number (86400 * d + t)) said is tt
-    by (Some d) None is = absurd (cc is)
-    by None t is = absurd (cc is)
-value_in end kind.Address item said within is = by (is_there (first_of item).text) refl is
-  where
-    by : (t : Bool) → is_there (first_of item).text ≡ t
-        → next (field (first_of item) (if t then Some (span_of (first_of item)) else None))
-        (λ text. Ok (value.Text text)) ≡ Ok said → IsValueIn end said
-    by false e is = absurd (cc is)
-    by true e is =
-        to_said end (value.Text (span_of (first_of item))) said is
-        (record {
-          order = omega arith;
-          within =
-              front_ends end item.place (arguments_of item)
-              (widened (item.start + length item.arguments) end (arguments_of item) within.rest
-              (ends_by item.start item.arguments)) e;
-        })
+  -- what is taken of items
+  pub all_taken_in : (items : List Item) (taken : List CertTaken) → EachSound bytes items
+      → AllByRecursion (IsIn (length bytes)) items → AreItemsIn cert_tables tt items taken
+      → AllByRecursion (IsTakenIn (length bytes)) taken
+  all_taken_in items [] sound all are = tt
+  all_taken_in items (one ∷ taken) sound all are =
+      let here = sound_parts bytes are.0 (are.1 ∷ are.2) (subst (EachSound bytes) are.3 sound) in
+      let there = behind are.0 (are.1 ∷ are.2) (subst (AllByRecursion (IsIn (length bytes))) are.3 all) in
+      (by_either are.4 tt are.1 one here.0 there.0 are.5, all_taken_in are.2 taken here.1 there.1 are.6)

@@ -2,9 +2,9 @@
 use Rattle.std.proofs.Common.{◌≡◌, ℕ, Bool, true, false, List, Option, Some, None, Result}
 use Rattle.std.proofs.Common.{Ok}
 use Rattle.std.proofs.Common.{refl, sym, ap, ◌∙◌, inl, inr}
-use Rattle.std.specs.Prelude.{IfSome, codes, is_some, option_map, ◌||◌}
+use Rattle.std.specs.Prelude.{IfSome, is_some, option_map, ◌||◌}
 use Rattle.std.specs.List.{AllByRecursion}
-use Rattle.item_terms.specs.Items.{Item, Object}
+use Rattle.item_terms.specs.Items.{Item}
 use Rattle.frame_terms.specs.Keywords.{same, word_of}
 use Rattle.frame_terms.specs.Order.{is_strange, knows, knows_in, knows_with}
 use Rattle.frame_terms.specs.Sections.{row_of, taken_of}
@@ -16,7 +16,6 @@ use Rattle.frame_terms.specs.declared.row.Count.TheVariants.{One}
 use Rattle.frame_terms.specs.declared.row.Row.{Row}
 use Rattle.frame_terms.specs.Rows.{row}
 use Rattle.frame_values.specs.Faults.{at_place}
-use Rattle.frame_values.specs.Signatures.{has_words}
 use Rattle.frame_values.specs.declared.values.Value.{Value}
 use Rattle.authority_certs.specs.Tables.{cert_tables, cert_value}
 use Rattle.authority_certs.specs.declared.frame.CertKind.{CertKind}
@@ -31,7 +30,8 @@ use Rattle.grammar_laws.specs.Moved.{moved_item}
 use Rattle.certificate_laws.specs.Given.{IsNoStranger}
 use Rattle.certificate_laws.specs.Lifted.{moved_taken}
 use Rattle.certificate_laws.proofs.Holding.{CertTaken, Said, alone_rows, row_inside, row_there}
-use Rattle.certificate_laws.proofs.MovedValues.{object_said}
+use Rattle.certificate_laws.proofs.CertMakes.{object_there}
+use Rattle.certificate_laws.proofs.MovedValues.{said_back}
 use Rattle.certificate_laws.proofs.Simulated.{taken_of_moved}
 use Rattle.row_laws.proofs.ReadSteps.{placed}
 use Rattle.vote_frame.specs.Tables.{vote_tables}
@@ -43,7 +43,6 @@ use Rattle.station_input.specs.declared.frame.StationKind.TheVariants as kind
 use Rattle.station_input.specs.declared.frame.StationSection.{StationSection}
 use Rattle.station_input.specs.declared.frame.StationSection.TheVariants as its
 use Rattle.station_input.specs.declared.frame_said.StationValue.{StationValue}
-use Rattle.maker_laws.proofs.SaidBack.{said_back}
 
 abbrev pub StationTaken : Type 0
 StationTaken = Taken (Value StationValue)
@@ -247,14 +246,6 @@ last_there : row_of alone_rows the.DirKeyCertification ≡ Some (row the.DirKeyC
 unfolding same
 last_there = refl
 
-object_of_last : (item : Item) (v : Value StationValue) → cert_value cert.Certification item ≡ Ok v
-    → is_some item.object ≡ true
-object_of_last item v is = by item.object is
-  where
-    by : (o : Option Object) → object_said (has_words o (codes "SIGNATURE")) item.place o ≡ Ok v → is_some o ≡ true
-    by None e = absurd (cc (e))
-    by (Some object) e = refl
-
 abbrev alone_or : Row CertKind → Option (Row CertKind) → Row CertKind
 alone_or other (Some row) = row
 alone_or other None = other
@@ -278,4 +269,4 @@ has_object item one remembered of ends =
     ap (λ (o : Option (Row CertKind)). in_station (alone_or found.alone o)) both ∙ found.is in
     let says : station_tables.value_of remembered (kind.Certificate cert.Certification) item ≡ Ok of.value =
     ap (λ (r : Row StationKind). station_tables.value_of remembered r.kind item) row_is ∙ of.says in
-    object_of_last item of.value (placed (cert_value cert.Certification item) of.value says)
+    object_there cert.Certification item of.value refl (placed (cert_value cert.Certification item) of.value says)

@@ -4,7 +4,6 @@ pub mod StationKept
 pub mod SoundBack
 pub mod Backwards
 pub mod FrontCut
-pub mod SaidBack
 pub mod CertItems
 pub mod CertInside
 pub mod CutText
