@@ -1,7 +1,7 @@
 -- What the lines of a station input say of relays is new: none before names such a relay.
 use Rattle.std.proofs.Common.{◌≡◌, ℕ, Bool, true, false, List, Option, Some, None, Result, Ok, Err, refl}
 use Rattle.std.proofs.Common.{sym, ap, subst, ◌∙◌}
-use Rattle.std.specs.Prelude.{IfSome, codes, if◌then◌else◌, option_and_then, ◌||◌}
+use Rattle.std.specs.Prelude.{IfSome, if◌then◌else◌, option_and_then}
 use Rattle.std.specs.FinSet as set
 use Rattle.item_terms.specs.Items.{Item}
 use Rattle.dir_values.specs.Arguments.{Argument}
@@ -13,17 +13,11 @@ use Rattle.flag_rules.specs.declared.operator.OperatorRule.{OperatorRule}
 use Rattle.flag_rules.specs.declared.ruling.Ruling.{Ruling}
 use Rattle.frame_values.specs.Arguments.{arguments_of, field, front, next, others}
 use Rattle.frame_values.specs.Faults.{at_place, unless_fault}
-use Rattle.frame_values.specs.Lines.{argument_of, fingerprint_of, literal, rest_of, time_of}
-use Rattle.frame_values.specs.Signatures.{has_words, object_of}
-use Rattle.frame_values.specs.declared.found.Span.{Span}
-use Rattle.value_groups.specs.ListLines.{params_of, protocols_of, versions_of}
 use Rattle.frame_values.specs.declared.values.Value.{Value}
 use Rattle.frame_values.specs.declared.values.Value.TheVariants as value
-use Rattle.authority_certs.specs.Tables.{cert_value}
-use Rattle.authority_certs.specs.declared.frame.CertKind.{CertKind}
 use Rattle.authority_certs.specs.declared.frame.CertKind.TheVariants as cert
 use Rattle.station_input.specs.Fields.{Identities, bandwidth, long_number, new_identity, ruling_named, unless_there}
-use Rattle.station_input.specs.Lines.{measured_of, member_of, own_of, rule_of, schedule_of}
+use Rattle.station_input.specs.Lines.{measured_of, rule_of}
 use Rattle.station_input.specs.Tables.{over_limit, station_tables, value_at}
 use Rattle.station_input.specs.declared.across.Across.{Across}
 use Rattle.station_input.specs.declared.frame.StationKind.{StationKind}
@@ -183,69 +177,22 @@ said_new : {A : Type 0} (before : Across) (read : Result A ℕ) (of : A → Valu
 said_new before (Ok a) of is = is a
 said_new before (Err place) of is = tt
 
-nothing_new : (before : Across) (v : Value StationValue) → rule_if v ≡ None → measured_if v ≡ None → SaysNew before v
-nothing_new before v no_rule no_relay = record {
-  rule = subst (λ (o : Option OperatorRule). IfSome o (λ rule. IsNew before.ruled rule.identity)) (sym no_rule) tt;
-  measured = subst (λ (o : Option MeasuredRelay). IfSome o (λ relay. IsNew before.measured relay.identity))
-      (sym no_relay) tt;
-}
-
-texts_new : (before : Across) (read : Result Span ℕ) → ReadsNew before (next read (λ text. Ok (value.Text text)))
-texts_new before read =
-    said_new before read (λ text. value.Text text) (λ text. nothing_new before (value.Text text) refl refl)
-
-objects_new : (before : Across) (read : Result Span ℕ) → ReadsNew before (next read (λ lines. Ok (value.Object lines)))
-objects_new before read =
-    said_new before read (λ lines. value.Object lines) (λ lines. nothing_new before (value.Object lines) refl refl)
-
-certificates_new : (before : Across) (of : CertKind) (item : Item) → ReadsNew before (cert_value of item)
-certificates_new before cert.Version item =
-    said_new before (literal (codes "3") item) (λ _. value.Nothing) (λ _. nothing_new before value.Nothing refl refl)
-certificates_new before cert.Address item = texts_new before (argument_of item)
-certificates_new before cert.Fingerprint item =
-    said_new before (fingerprint_of item) (λ identity. value.Fingerprint identity)
-    (λ identity. nothing_new before (value.Fingerprint identity) refl refl)
-certificates_new before cert.Time item =
-    said_new before (time_of item) (λ number. value.Number number)
-    (λ number. nothing_new before (value.Number number) refl refl)
-certificates_new before cert.Key item =
-    objects_new before (object_of (has_words item.object (codes "RSA PUBLIC KEY")) item)
-certificates_new before cert.Crosscert item =
-    objects_new before
-    (object_of (has_words item.object (codes "ID SIGNATURE") || has_words item.object (codes "SIGNATURE")) item)
-certificates_new before cert.Certification item =
-    objects_new before (object_of (has_words item.object (codes "SIGNATURE")) item)
-
 kinds_new : (before : Across) (of : StationKind) (item : Item) → ReadsNew before (value_at before of item)
-kinds_new before kind.Version item =
-    said_new before (literal (codes "1") item) (λ _. value.Nothing) (λ _. nothing_new before value.Nothing refl refl)
-kinds_new before kind.Source item =
-    said_new before (own_of item) (λ source. value.Own (own.Source source))
-    (λ source. nothing_new before (value.Own (own.Source source)) refl refl)
-kinds_new before kind.Rest item = nothing_new before (value.Text (rest_of item)) refl refl
-kinds_new before kind.Schedule item =
-    said_new before (schedule_of item) (λ line. value.Own (own.Schedule line))
-    (λ line. nothing_new before (value.Own (own.Schedule line)) refl refl)
-kinds_new before kind.Member item =
-    said_new before (member_of item) (λ line. value.Own (own.Member line))
-    (λ line. nothing_new before (value.Own (own.Member line)) refl refl)
-kinds_new before kind.Versions item = texts_new before (versions_of item)
-kinds_new before kind.Protocols item = texts_new before (protocols_of item)
-kinds_new before kind.Params item = texts_new before (params_of item)
+kinds_new before kind.Rest item = record { rule = tt; measured = tt }
+kinds_new before kind.Nothing item = record { rule = tt; measured = tt }
 kinds_new before kind.Rule item =
     next_reads (λ (rule : OperatorRule). IsNew before.ruled rule.identity) (SaysNew before) (rule_of before.ruled item)
     (λ rule. Ok (value.Own (own.Rule rule))) (new_rule before.ruled item) (λ rule is. record {
       rule = is;
-      measured =
-          tt;
+      measured = tt;
     })
 kinds_new before kind.Measured item =
     next_reads (λ (relay : MeasuredRelay). IsNew before.measured relay.identity) (SaysNew before)
     (measured_of before.measured item) (λ relay. Ok (value.Own (own.Measured relay)))
     (new_measured before.measured item)
     (λ relay is. record { rule = tt; measured = is })
-kinds_new before kind.Nothing item = nothing_new before value.Nothing refl refl
-kinds_new before (kind.Certificate of) item = certificates_new before of item
+kinds_new before (kind.Certificate cert.Version) item = said_new before _ _ (λ a. record { rule = tt; measured = tt })
+kinds_new before of item = said_new before _ _ (λ a. record { rule = tt; measured = tt })
 
 pub says_new : (before : Across) (of : StationKind) (item : Item) (v : Value StationValue)
     → station_tables.value_of before of item ≡ Ok v → SaysNew before v
