@@ -1,7 +1,7 @@
 -- What the items of a server descriptor say can be written, by the kinds of their rows.
 use Rattle.std.proofs.Common.{◌≡◌, ℕ, Bool, true, false, List, [], ◌∷◌, Option, Some, None, Result, Ok, refl, sym}
 use Rattle.std.proofs.Common.{subst, inl, inr}
-use Rattle.std.specs.Prelude.{All, IfSome, codes, filter_map, if◌then◌else◌}
+use Rattle.std.specs.Prelude.{All, IfSome, filter_map, if◌then◌else◌}
 use Rattle.std.specs.List.{cons_option}
 use Rattle.std.proofs.lemmas.Bool.{leb-true}
 use Rattle.std.proofs.lemmas.List.Elements.{All-cons, All-nil}
@@ -14,31 +14,29 @@ use Rattle.dir_values.specs.declared.policy.Net.TheVariants as net
 use Rattle.dir_values.specs.declared.policy.PolicyItem.{PolicyItem}
 use Rattle.exit_summary.specs.Policies.{is_net}
 use Rattle.frame_values.specs.Arguments.{arguments_of, front, next}
-use Rattle.frame_values.specs.Lines.{time_of}
+use Rattle.frame_values.specs.Lines.{rest_of}
 use Rattle.frame_values.specs.Ranges.{AreTwenty}
-use Rattle.frame_values.specs.Signatures.{has_words, object_of}
-use Rattle.frame_values.specs.declared.found.Span.{Span}
 use Rattle.frame_values.specs.declared.values.Value.TheVariants as value
 use Rattle.frame_laws.proofs.StandingParts.{rest_part}
 use Rattle.document_laws.specs.Items.{IsItemIn}
 use Rattle.exit_summary.specs.PolicyItems.{item_of}
-use Rattle.descriptor_frame.specs.Fields.{hibernating, key, long_number, padded_key, signature}
-use Rattle.descriptor_frame.specs.Lines.{address_of, bandwidth_of, certificate_lines, first_of, identity_of, ports_of}
-use Rattle.descriptor_frame.specs.Lines.{router_of, value_at}
+use Rattle.descriptor_frame.specs.Fields.{key, long_number, padded_key, signature}
+use Rattle.descriptor_frame.specs.Lines.{bandwidth_of, first_of, identity_of}
+use Rattle.descriptor_frame.specs.Lines.{value_at}
 use Rattle.descriptor_frame.specs.Tables.{descriptor_tables}
 use Rattle.descriptor_frame.specs.declared.said.BandwidthLine.{BandwidthLine}
 use Rattle.descriptor_frame.specs.declared.said.DescriptorKind.{DescriptorKind}
 use Rattle.descriptor_frame.specs.declared.said.DescriptorKind.TheVariants as kind
 use Rattle.descriptor_frame.specs.declared.said.DescriptorValue.{DescriptorValue}
 use Rattle.descriptor_frame.specs.declared.said.DescriptorValue.TheVariants as own
-use Rattle.descriptor_frame.specs.declared.said.RouterLine.{RouterLine}
 use Rattle.descriptor_doc.specs.Saying as says
 use Rattle.descriptor_laws.specs.Ranges.{AreBytes, IsBandwidthInRange, IsItemInRange, IsNetInRange}
 use Rattle.descriptor_parts.proofs.DescriptorDocument.{DescriptorTaken, Said}
 use Rattle.descriptor_laws.proofs.DescriptorReads.{DescriptorSays, EachDescriptorStands}
 use Rattle.range_laws.proofs.ValueTexts.{TextIs}
 use Rattle.row_laws.proofs.ItemArguments.{IsSound}
-use Rattle.row_laws.proofs.ReadSteps.{ReadAs, any_reads, field_reads, next_reads, placed, was_read}
+use Rattle.row_laws.proofs.ReadSteps.{ReadAs, field_reads, next_reads, placed, was_read}
+use Rattle.row_laws.proofs.SaidByKinds.{said_of_any}
 use Rattle.row_laws.proofs.Saying.{Stands}
 use Rattle.descriptor_laws.proofs.KeysRead.{IsLong, bandwidth_reads, identity_reads, key_reads, long_reads}
 use Rattle.descriptor_laws.proofs.KeysRead.{padded_reads, signature_reads}
@@ -131,40 +129,16 @@ module _ {bytes : List ℕ} {v : Said} where
 
 -- ---- what is said of the policy, by any kind
 
--- a kind that says no item of a policy
-any_of : {A : Type 0} (read : Result A ℕ) (of : A → Said) → ((a : A) → PolicyIs (of a))
-    → ReadAs PolicyIs (next read (λ a. Ok (of a)))
-any_of {A} read of none = made_reads (λ (a : A). Unit {0}) PolicyIs read of (any_reads read) (λ a is. none a)
-
-policy_reads : (of : DescriptorKind) (item : Item) → ReadAs PolicyIs (value_at of item)
-policy_reads kind.Router item =
-    any_of (router_of item) (λ (r : RouterLine). value.Own (own.Router r)) (λ r. tt)
-policy_reads kind.Certificate item = any_of (certificate_lines item) (λ (s : Span). value.Object s) (λ s. tt)
-policy_reads kind.Key item = any_of (first_of key item) (λ (b : List ℕ). value.Own (own.Key b)) (λ b. tt)
-policy_reads kind.Rest item = tt
-policy_reads kind.Time item = any_of (time_of item) (λ (n : ℕ). value.Number n) (λ n. tt)
-policy_reads kind.Fingerprint item = any_of (identity_of item) (λ (f : Fingerprint). value.Fingerprint f) (λ f. tt)
-policy_reads kind.Uptime item =
-    any_of (first_of long_number item) (λ (s : ℕ). value.Own (own.Uptime s)) (λ s. tt)
-policy_reads kind.Bandwidth item =
-    any_of (bandwidth_of item) (λ (w : BandwidthLine). value.Own (own.Bandwidth w)) (λ w. tt)
-policy_reads kind.Hibernating item =
-    any_of (first_of hibernating item) (λ (r : Bool). value.Own (own.Hibernating r)) (λ r. tt)
-policy_reads kind.Object item = any_of (object_of true item) (λ (s : Span). value.Object s) (λ s. tt)
-policy_reads kind.PaddedKey item =
-    any_of (first_of padded_key item) (λ (b : List ℕ). value.Own (own.Key b)) (λ b. tt)
-policy_reads (kind.Policy accept) item =
+policy_of_kinds : (of : DescriptorKind) (item : Item) (v : Said) → value_at of item ≡ Ok v → PolicyIs v
+policy_of_kinds kind.Rest item v is = was_read PolicyIs (Ok (value.Text (rest_of item))) v tt is
+policy_of_kinds kind.Nothing item v is = was_read PolicyIs (Ok value.Nothing) v tt is
+policy_of_kinds (kind.Policy accept) item v is =
     let first = front item.place (arguments_of item) in
-    made_reads IsItemRead PolicyIs (first_of (item_of accept) item) (λ (p : PolicyItem). value.Own (own.Policy p))
+    was_read PolicyIs (value_at (kind.Policy accept) item) v
+    (made_reads IsItemRead PolicyIs (first_of (item_of accept) item) (λ (p : PolicyItem). value.Own (own.Policy p))
     (field_reads IsItemRead first (item_of accept first.text) (λ p is.
-    subst (λ (o : Option PolicyItem). IfSome o IsItemRead) is (item_in accept first.text))) (λ p is. is)
-policy_reads kind.Ports item = any_of (ports_of item) (λ (s : Span). value.Text s) (λ s. tt)
-policy_reads kind.Address item = any_of (address_of item) (λ (s : Span). value.Text s) (λ s. tt)
-policy_reads kind.Nothing item = tt
-policy_reads kind.EdSignature item =
-    any_of (first_of signature item) (λ (b : List ℕ). value.Own (own.EdSignature b)) (λ b. tt)
-policy_reads kind.Signature item =
-    any_of (object_of (has_words item.object (codes "SIGNATURE")) item) (λ (s : Span). value.Object s) (λ s. tt)
+    subst (λ (o : Option PolicyItem). IfSome o IsItemRead) is (item_in accept first.text))) (λ p is. is)) is
+policy_of_kinds of item v is = said_of_any PolicyIs _ _ v is (λ a. tt)
 
 policy_says : (bytes : List ℕ) (one : DescriptorTaken) → Stands descriptor_tables bytes tt one → PolicyIs one.value
 policy_says bytes one stands = by stands.within
@@ -172,7 +146,7 @@ policy_says bytes one stands = by stands.within
     by : IsItemIn descriptor_tables stands.remembered tt stands.item one → PolicyIs one.value
     by (inl is) =
         subst (λ (o : DescriptorTaken). PolicyIs o.value) (sym is.stands)
-        (was_read PolicyIs (value_at is.row.kind stands.item) is.value (policy_reads is.row.kind stands.item)
+        (policy_of_kinds is.row.kind stands.item is.value
         (placed (value_at is.row.kind stands.item) is.value is.says))
     by (inr is) = absurd (cc is.begins)
 
