@@ -1,5 +1,5 @@
--- What is read of an item of a certificate so many bytes further on is what is read of it here, so many bytes further on;
--- and where nothing is read of it here, nothing is there.
+-- What is read of an item of a certificate so many bytes further on is what is read of it here, moved as far; and
+-- where nothing is read of it here, nothing is there.
 use Rattle.std.proofs.Common.{◌≡◌, ℕ, ◌+◌, Bool, true, false, List, [], ◌∷◌, length, Option, Some, None, Result, Ok}
 use Rattle.std.proofs.Common.{Err, refl, sym, ap, ◌∙◌, arith}
 use Rattle.std.specs.Prelude.{map, option_map, codes, if◌then◌else◌, ◌||◌}
@@ -152,7 +152,8 @@ words_moved n words (Some object) = refl
 
 -- an object, if it is the one that is wanted
 object_moved : (n place : ℕ) (object : Option Object) (t u : Bool) → u ≡ t
-    → object_if u (place + n) (option_map (moved_object n) object) ≡ read_moved n (moved_span n) (object_if t place object)
+    → object_if u (place + n) (option_map (moved_object n) object)
+    ≡ read_moved n (moved_span n) (object_if t place object)
 object_moved n place object t u is =
     ap (λ (v : Bool). object_if v (place + n) (option_map (moved_object n) object)) is ∙ by t object
   where
@@ -185,7 +186,8 @@ module _ {W : Type 0} where
       let b = codes "SIGNATURE" in
       let there = option_map (moved_object n) item.object in
       next_moved n (moved_span n) (lifted_value n) _ _ _ _
-      (object_moved n item.place item.object _ _ (ap (λ (t : Bool). t || has_words there b) (words_moved n a item.object)
+      (object_moved n item.place item.object _ _
+      (ap (λ (t : Bool). t || has_words there b) (words_moved n a item.object)
       ∙ ap (λ (t : Bool). has_words item.object a || t) (words_moved n b item.object))) (λ s. refl)
   value_moves n kind.Certification item =
       let words = codes "SIGNATURE" in

@@ -56,7 +56,8 @@ may_relay (kind.Entry entry.Relay) = true
 may_relay _ = false
 
 -- an entry's item of another kind does not say who a relay is
-entry_relay : (item : Item) (of : EntryKind) → may_relay (kind.Entry of) ≡ false → ReadAs NoRelayEntry (entry_value of item)
+entry_relay : (item : Item) (of : EntryKind) → may_relay (kind.Entry of) ≡ false
+    → ReadAs NoRelayEntry (entry_value of item)
 entry_relay item entry.Relay other = absurd (cc other)
 entry_relay item entry.Rest other = refl
 entry_relay item of other = made_of_any NoRelayEntry _ _ (λ a. refl)

@@ -1,5 +1,5 @@
--- What the items of a kind say is such, by what is read of them. So it is told in a line which kinds of a document's items
--- never say this or that, whatever its tables: `made_of_any` for all kinds at once that are read alike.
+-- What the items of a kind say is such, by what is read of them. So it is told in a line which kinds of a document's
+-- items never say this or that, whatever its tables: `made_of_any` and `said_of_any` for all kinds at once.
 use Rattle.std.proofs.Common.{◌≡◌, ℕ, Result, Ok, Err}
 use Rattle.frame_terms.specs.declared.fault.FrameFault.{FrameFault}
 use Rattle.frame_values.specs.Arguments.{next}
