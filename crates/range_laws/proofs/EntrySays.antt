@@ -1,118 +1,125 @@
--- What the items of a vote's entry say is in range, by the kinds of their rows.
-use Rattle.std.proofs.Common.{◌≡◌, ℕ, true, List, Result, Ok, Err, refl}
+-- What the items of a vote's entry say is in range, by their kinds.
+use Rattle.std.proofs.Common.{◌≡◌, ℕ, true, List, Result, Ok, Err, refl, ap, ◌∙◌}
 use Rattle.std.specs.Prelude.{All}
 use Rattle.base64.specs.GeneralPurpose.{IsBytes}
+use Rattle.item_terms.specs.Items.{Item}
 use Rattle.item_terms.specs.Words.{words_of}
 use Rattle.dirdoc_grammar.specs.Writing.{IsLineRest}
 use Rattle.frame_values.specs.Arguments.{next}
-use Rattle.frame_values.specs.Lines.{flags_of}
+use Rattle.frame_values.specs.Faults.{at_place, unless_fault}
+use Rattle.frame_values.specs.Lines.{flags_of, rest_of}
+use Rattle.frame_values.specs.Parts.{part}
 use Rattle.frame_values.specs.declared.found.Span.{Span}
 use Rattle.frame_values.specs.declared.values.Value.{Value}
 use Rattle.frame_values.specs.declared.values.Value.TheVariants as value
-use Rattle.relay_entries.specs.Lines.{address_of, bandwidths_of, ed_of, lifted_entry_value, micro_of, relay_of}
+use Rattle.relay_entries.specs.Lines.{address_of, bandwidths_of, ed_of, entry_value, lifted_entry_value, micro_of, relay_of}
 use Rattle.relay_entries.specs.declared.said.Bandwidths.{Bandwidths}
 use Rattle.relay_entries.specs.declared.said.EdOpinion.{EdOpinion}
+use Rattle.relay_entries.specs.declared.said.EntryKind.{EntryKind}
 use Rattle.relay_entries.specs.declared.said.EntryKind.TheVariants as entry
 use Rattle.relay_entries.specs.declared.said.EntryValue.{EntryValue}
 use Rattle.relay_entries.specs.declared.said.EntryValue.TheVariants as entry_said
 use Rattle.relay_entries.specs.declared.said.MicroLine.{MicroLine}
 use Rattle.relay_entries.specs.declared.said.RelayLine.{RelayLine}
-use Rattle.group_laws.specs.Ranges.{AreBandwidthsInRange, IsAddressInRange, IsOpinionInRange}
-use Rattle.vote_frame.specs.Tables.{value_at}
+use Rattle.group_laws.specs.Ranges.{AreBandwidthsInRange, IsOpinionInRange}
+use Rattle.vote_frame.specs.Tables.{over_limit}
 use Rattle.vote_frame.specs.declared.frame.VoteKind.{VoteKind}
 use Rattle.vote_frame.specs.declared.frame.VoteKind.TheVariants as kind
 use Rattle.vote_frame.specs.declared.frame.VoteValue.{VoteValue}
 use Rattle.vote_frame.specs.declared.frame.VoteValue.TheVariants as own
 use Rattle.vote_laws.proofs.Heard.{is_quiet, kinds_pass}
-use Rattle.row_laws.proofs.ReadSteps.{ReadAs, any_reads, was_read}
-use Rattle.range_laws.proofs.ValueTexts.{TextIs}
+use Rattle.row_laws.proofs.ItemArguments.{IsSound}
+use Rattle.row_laws.proofs.KindRanges.{kind_unless}
+use Rattle.row_laws.proofs.ReadSteps.{ReadAs}
 use Rattle.range_laws.proofs.EntryReads.{IsMicro, bandwidths_read, ed_reads, micro_reads}
+use Rattle.range_laws.proofs.LineReads.{rest_read}
 use Rattle.range_laws.proofs.ReadNames.{IsName}
 use Rattle.range_laws.proofs.RelayReads.{AreNamesAt, IsAddressAt, IsLine, address_reads, flags_read, relay_reads}
-use Rattle.range_laws.proofs.LineReads.{rest_read}
-use Rattle.range_laws.proofs.VoteReads.{VoteSays, said}
+use Rattle.range_laws.proofs.VoteReads.{VoteIs, VoteSays, random_is, says_so}
 
--- ---- values of their own
+-- ---- what an entry says, among what a vote says
 
--- a relay
-abbrev pub RelayIs : List ℕ → Value VoteValue → Type 0
-RelayIs bytes (value.Own (own.Entry (entry_said.Relay line))) = IsLine bytes line
-RelayIs bytes _ = ⊥
-
--- bandwidths
-abbrev pub WidthsAre : Value VoteValue → Type 0
-WidthsAre (value.Own (own.Entry (entry_said.Bandwidths w))) = AreBandwidthsInRange w
-WidthsAre _ = Unit {0}
-
--- the digest of a microdescriptor
-abbrev pub MicroIs : Value VoteValue → Type 0
-MicroIs (value.Own (own.Entry (entry_said.Micro line))) = IsMicro line
-MicroIs _ = Unit {0}
-
--- an opinion of a key
-abbrev pub OpinionIs : Value VoteValue → Type 0
-OpinionIs (value.Own (own.Entry (entry_said.Ed opinion))) = IsOpinionInRange opinion
-OpinionIs _ = Unit {0}
-
--- ---- what items say
-
--- what an entry says is read as the same among what a vote says
+-- it is read as the same
 pub lifted_reads : {A : Type 0} (P : A → Type 0) (Q : Value VoteValue → Type 0) (read : Result A ℕ)
     (of : A → Value EntryValue) → ReadAs P read → ((a : A) → P a → Q (lifted_entry_value own.Entry (of a)))
     → ReadAs Q (next (next read (λ a. Ok (of a))) (λ found. Ok (lifted_entry_value own.Entry found)))
 lifted_reads P Q (Ok a) of reads is = is a reads
 lifted_reads P Q (Err place) of reads is = tt
 
-pub relay_says : {bytes : List ℕ} {v : Value VoteValue} → IsBytes bytes → VoteSays bytes (kind.Entry entry.Relay) v
-    → RelayIs bytes v
-relay_says {bytes} {v} are says =
-    let of : RelayLine → Value EntryValue = λ relay. value.Own (entry_said.Relay relay) in
-    was_read (RelayIs bytes) (value_at (kind.Entry entry.Relay) says.item) v
-    (lifted_reads (IsLine bytes) (RelayIs bytes) (relay_of says.item) of (relay_reads bytes says.item are says.sound)
-    (λ line is. is)) (said says).1
+lifted_next : {A : Type 0} (read : Result A ℕ) (of : A → Value EntryValue)
+    → next (next read (λ a. Ok (of a))) (λ found. Ok (lifted_entry_value own.Entry found))
+    ≡ next read (λ a. Ok (lifted_entry_value own.Entry (of a)))
+lifted_next (Ok a) of = refl
+lifted_next (Err place) of = refl
 
-pub address_says : {bytes : List ℕ} {v : Value VoteValue} → VoteSays bytes (kind.Entry entry.Address) v
-    → TextIs IsAddressInRange bytes v
-address_says {bytes} {v} says =
-    let of : Span → Value EntryValue = λ text. value.Text text in
-    was_read (TextIs IsAddressInRange bytes) (value_at (kind.Entry entry.Address) says.item) v
-    (lifted_reads (IsAddressAt bytes) (TextIs IsAddressInRange bytes) (address_of says.item) of
-    (address_reads bytes says.item says.sound) (λ span is. is)) (said says).1
+-- ---- kinds
+
+-- items of this kind of an entry say such
+abbrev EntryIs : {A : Type 0} → EntryKind → (A → Value EntryValue) → (List ℕ → A → Type 0) → Type 0
+EntryIs of make Is = VoteIs (kind.Entry of) (λ a. lifted_entry_value own.Entry (make a)) Is
+
+-- where what is read of a line is such
+entry_kind : {A : Type 0} {Is : List ℕ → A → Type 0} (of : EntryKind) (make : A → Value EntryValue)
+    (read : Item → Result A ℕ)
+    → ((item : Item) → entry_value of item ≡ next (read item) (λ a. Ok (make a)))
+    → ((bytes : List ℕ) → IsBytes bytes → (item : Item) → IsSound bytes item → ReadAs (Is bytes) (read item))
+    → EntryIs of make Is
+entry_kind of make read values reads =
+    kind_unless (λ across item. over_limit across.listed (kind.Entry of) item) (λ across item. read item)
+    (λ across item.
+    ap (λ (r : Result (Value VoteValue) ℕ). unless_fault (over_limit across.listed (kind.Entry of) item) (at_place r))
+    (ap (λ (r : Result (Value EntryValue) ℕ). next r (λ found. Ok (lifted_entry_value own.Entry found))) (values item)
+    ∙ lifted_next (read item) make))
+    (λ bytes are across item sound passes. reads bytes are item sound)
+
+pub relay_is : EntryIs entry.Relay (λ (line : RelayLine). value.Own (entry_said.Relay line)) IsLine
+relay_is =
+    entry_kind entry.Relay (λ (line : RelayLine). value.Own (entry_said.Relay line)) relay_of (λ item. refl)
+    (λ bytes are item sound. relay_reads bytes item are sound)
+
+pub address_is : EntryIs entry.Address (λ (span : Span). value.Text span) IsAddressAt
+address_is =
+    entry_kind entry.Address (λ (span : Span). value.Text span) address_of (λ item. refl)
+    (λ bytes are item sound. address_reads bytes item sound)
 
 -- the names of flags
 abbrev pub AreNames : List ℕ → Type 0
 AreNames text = All IsName (words_of text)
 
-pub entry_flags_say : {bytes : List ℕ} {v : Value VoteValue} → VoteSays bytes (kind.Entry entry.Flags) v
-    → TextIs AreNames bytes v
-entry_flags_say {bytes} {v} says =
-    let of : Span → Value EntryValue = λ text. value.Text text in
-    was_read (TextIs AreNames bytes) (value_at (kind.Entry entry.Flags) says.item) v
-    (lifted_reads (AreNamesAt bytes) (TextIs AreNames bytes) (flags_of says.item) of
-    (flags_read bytes says.item says.sound) (λ span is. is)) (said says).1
+pub entry_flags_are : EntryIs entry.Flags (λ (span : Span). value.Text span) AreNamesAt
+entry_flags_are =
+    entry_kind entry.Flags (λ (span : Span). value.Text span) flags_of (λ item. refl)
+    (λ bytes are item sound. flags_read bytes item sound)
 
-pub entry_rest_says : {bytes : List ℕ} {v : Value VoteValue} → VoteSays bytes (kind.Entry entry.Rest) v
-    → TextIs IsLineRest bytes v
-entry_rest_says {bytes} {v} says =
-    was_read (TextIs IsLineRest bytes) (value_at (kind.Entry entry.Rest) says.item) v
-    (rest_read VoteValue bytes says.item says.sound) (said says).1
+pub entry_rests_are : EntryIs entry.Rest (λ (span : Span). value.Text span)
+    (λ bytes span. IsLineRest (part bytes span))
+entry_rests_are =
+    entry_kind entry.Rest (λ (span : Span). value.Text span) (λ (item : Item). Ok (rest_of item)) (λ item. refl)
+    (λ bytes are item sound. rest_read VoteValue bytes item sound)
 
-pub widths_say : {bytes : List ℕ} {v : Value VoteValue} → VoteSays bytes (kind.Entry entry.Bandwidths) v → WidthsAre v
-widths_say {bytes} {v} says =
-    let of : Bandwidths → Value EntryValue = λ w. value.Own (entry_said.Bandwidths w) in
-    was_read WidthsAre (value_at (kind.Entry entry.Bandwidths) says.item) v
-    (lifted_reads AreBandwidthsInRange WidthsAre (bandwidths_of says.item) of (bandwidths_read says.item)
-    (λ w is. is)) (said says).1
+pub widths_are : EntryIs entry.Bandwidths (λ (w : Bandwidths). value.Own (entry_said.Bandwidths w))
+    (λ bytes w. AreBandwidthsInRange w)
+widths_are =
+    entry_kind entry.Bandwidths (λ (w : Bandwidths). value.Own (entry_said.Bandwidths w)) bandwidths_of (λ item. refl)
+    (λ bytes are item sound. bandwidths_read item)
 
-pub opinion_says : {bytes : List ℕ} {v : Value VoteValue} → IsBytes bytes → VoteSays bytes (kind.Entry entry.Ed) v
-    → OpinionIs v
-opinion_says {bytes} {v} are says =
-    let of : EdOpinion → Value EntryValue = λ opinion. value.Own (entry_said.Ed opinion) in
-    was_read OpinionIs (value_at (kind.Entry entry.Ed) says.item) v
-    (lifted_reads IsOpinionInRange OpinionIs (ed_of says.item) of (ed_reads bytes says.item are says.sound)
-    (λ opinion is. is)) (said says).1
+pub opinion_is : EntryIs entry.Ed (λ (opinion : EdOpinion). value.Own (entry_said.Ed opinion))
+    (λ bytes opinion. IsOpinionInRange opinion)
+opinion_is =
+    entry_kind entry.Ed (λ (opinion : EdOpinion). value.Own (entry_said.Ed opinion)) ed_of (λ item. refl)
+    (λ bytes are item sound. ed_reads bytes item are sound)
+
+micro_is : EntryIs entry.Micro (λ (line : MicroLine). value.Own (entry_said.Micro line)) (λ bytes line. IsMicro line)
+micro_is =
+    entry_kind entry.Micro (λ (line : MicroLine). value.Own (entry_said.Micro line)) micro_of (λ item. refl)
+    (λ bytes are item sound. micro_reads bytes item are sound)
 
 -- ---- whatever the kind of an item, a microdescriptor that it names is in range
+
+-- the digest of a microdescriptor
+abbrev pub MicroIs : Value VoteValue → Type 0
+MicroIs (value.Own (own.Entry (entry_said.Micro line))) = IsMicro line
+MicroIs _ = Unit {0}
 
 quiet_micro : (v : Value VoteValue) → is_quiet v ≡ true → MicroIs v
 quiet_micro (value.Own (own.Entry (entry_said.Micro line))) is = absurd (cc (is))
@@ -120,21 +127,8 @@ quiet_micro _ is = tt
 
 pub micro_says : {bytes : List ℕ} {v : Value VoteValue} → IsBytes bytes → (of : VoteKind) → VoteSays bytes of v
     → MicroIs v
-micro_says {bytes} {v} are (kind.Entry entry.Micro) says =
-    let of : MicroLine → Value EntryValue = λ line. value.Own (entry_said.Micro line) in
-    was_read MicroIs (value_at (kind.Entry entry.Micro) says.item) v
-    (lifted_reads IsMicro MicroIs (micro_of says.item) of (micro_reads bytes says.item are says.sound)
-    (λ line is. is)) (said says).1
-micro_says {bytes} {v} are (kind.Entry entry.Relay) says =
-    let of : RelayLine → Value EntryValue = λ relay. value.Own (entry_said.Relay relay) in
-    was_read MicroIs (value_at (kind.Entry entry.Relay) says.item) v
-    (lifted_reads (λ (line : RelayLine). Unit {0}) MicroIs (relay_of says.item) of (any_reads (relay_of says.item))
-    (λ line is. tt)) (said says).1
-micro_says {bytes} {v} are (kind.Entry entry.Ed) says =
-    let of : EdOpinion → Value EntryValue = λ opinion. value.Own (entry_said.Ed opinion) in
-    was_read MicroIs (value_at (kind.Entry entry.Ed) says.item) v
-    (lifted_reads (λ (opinion : EdOpinion). Unit {0}) MicroIs (ed_of says.item) of (any_reads (ed_of says.item))
-    (λ opinion is. tt)) (said says).1
-micro_says {bytes} {v} are (kind.Random line) says =
-    was_read MicroIs (value_at (kind.Random line) says.item) v tt (said says).1
-micro_says {bytes} {v} are of says = quiet_micro v (kinds_pass says.remembered of says.item v refl says.says)
+micro_says are (kind.Entry entry.Micro) says = says_so micro_is are MicroIs (λ line is. is) says
+micro_says are (kind.Entry entry.Relay) says = says_so relay_is are MicroIs (λ line is. tt) says
+micro_says are (kind.Entry entry.Ed) says = says_so opinion_is are MicroIs (λ opinion is. tt) says
+micro_says are (kind.Random line) says = says_so (random_is line) are MicroIs (λ read is. tt) says
+micro_says {v = v} are of says = quiet_micro v (kinds_pass says.remembered of says.item v refl says.says)

@@ -1,7 +1,7 @@
 -- What is kept of a vote's entries says what is in range.
 use Rattle.std.proofs.Common.{◌≡◌, ℕ, suc, ◌≤◌, Bool, true, false, List, [], ◌∷◌, ◌++◌, length, map, Option, Some}
 use Rattle.std.proofs.Common.{None, refl, ap, arith}
-use Rattle.std.specs.Prelude.{All, AllPairs, IfSome, is_some, option_map, unwrap_or, if◌then◌else◌}
+use Rattle.std.specs.Prelude.{All, AllPairs, IfSome, unwrap_or, if◌then◌else◌}
 use Rattle.std.proofs.lemmas.List.Elements.{All-cons, All-map, All-nil, All-push}
 use Rattle.std.proofs.lemmas.List.Quantifiers.{all_pairs_push}
 use Rattle.std.proofs.lemmas.List.Splits.{length-slice_split}
@@ -16,11 +16,10 @@ use Rattle.dir_values.proofs.Flags.{Ascend-as_set}
 use Rattle.frame_terms.specs.Keywords.{same}
 use Rattle.frame_terms.specs.Rows.{row}
 use Rattle.frame_terms.specs.Sections.{row_of}
-use Rattle.frame_terms.specs.declared.keyword.Keyword.{Keyword}
 use Rattle.frame_terms.specs.declared.keyword.Keyword.TheVariants as the
-use Rattle.frame_terms.specs.declared.row.Count.TheVariants.{One, Optional, Many}
+use Rattle.frame_terms.specs.declared.row.Count.TheVariants.{Many}
 use Rattle.frame_values.specs.Parts.{part}
-use Rattle.frame_values.specs.Values.{item_at, own_of_value, text_if, text_in, text_of_value}
+use Rattle.frame_values.specs.Values.{item_at, text_if, text_in, text_of_value}
 use Rattle.frame_values.specs.declared.found.Span.{Span}
 use Rattle.frame_values.specs.declared.values.Value.{Value}
 use Rattle.frame_values.specs.declared.values.Value.TheVariants as value
@@ -36,21 +35,21 @@ use Rattle.vote_frame.specs.declared.frame.VoteValue.{VoteValue}
 use Rattle.vote_frame.specs.declared.frame.VoteValue.TheVariants as own
 use Rattle.vote_entries.specs.Entries.{entry_in, micro_in}
 use Rattle.vote_entries.specs.Kept.{KeptEntry, entry_of, is_after, with_entry}
-use Rattle.vote_entries.specs.Saying.{addresses_in, bandwidths_in, bandwidths_of_value, ed_in, ed_of_value, micro_if}
-use Rattle.vote_entries.specs.Saying.{micro_with, micros_in, onto_if, relay_in, relay_of_value}
+use Rattle.vote_entries.specs.Saying.{addresses_in, bandwidths_in, ed_in, micro_if}
+use Rattle.vote_entries.specs.Saying.{micro_with, micros_in, onto_if, relay_in}
 use Rattle.vote_entries.specs.declared.row.KeptMicro.{KeptMicro}
 use Rattle.vote_laws.specs.Again.{IsEntryInRange, IsMicroInRange}
 use Rattle.document_laws.specs.Order.{BeginsWithOpener}
 use Rattle.row_laws.proofs.ReadSteps.{number_within}
-use Rattle.range_laws.proofs.ValueTexts.{TextIs, text_ranged}
 use Rattle.range_laws.proofs.EntryReads.{HasDigest}
-use Rattle.range_laws.proofs.EntrySays.{AreNames, MicroIs, OpinionIs, RelayIs, WidthsAre, address_says}
-use Rattle.range_laws.proofs.EntrySays.{entry_flags_say, entry_rest_says, micro_says, opinion_says, relay_says}
-use Rattle.range_laws.proofs.EntrySays.{widths_say}
+use Rattle.range_laws.proofs.EntrySays.{AreNames, MicroIs, address_is, entry_flags_are, entry_rests_are, micro_says}
+use Rattle.range_laws.proofs.EntrySays.{opinion_is, relay_is, widths_are}
 use Rattle.range_laws.proofs.EntryTexts.{HasRests}
 use Rattle.range_laws.proofs.ReadNames.{IsName, each_of_set}
 use Rattle.range_laws.proofs.RelayReads.{IsLine}
-use Rattle.range_laws.proofs.VoteStands.{EachVoteStands, VoteTaken, any_says, item_says, opener_found, stands_for}
+use Rattle.range_laws.proofs.VoteReads.{says_so}
+use Rattle.range_laws.proofs.VoteStands.{EachVoteStands, IsReadSection, VoteTaken, any_says, kept_is, opener_there}
+use Rattle.range_laws.proofs.VoteStands.{stands_for, text_is}
 
 -- ---- numbers of methods
 
@@ -91,24 +90,22 @@ abbrev pub KeptBelow : KeptEntry → KeptEntry → Type 0
 KeptBelow earlier later = identity_below earlier.relay.identity later.relay.identity ≡ true
 
 module _ (bytes : List ℕ) where
-  text_onto : (P : List ℕ → Type 0) (v : Value VoteValue) (list : List Span) → TextIs P bytes v
-      → All P (map (part bytes) list) → All P (map (part bytes) (onto_if (text_of_value v) list))
-  text_onto P (value.Text span) list is all = All-cons P (part bytes span) (map (part bytes) list) is all
-  text_onto P _ list is all = all
-
-  addresses_ranged : (taken : List VoteTaken) → EachVoteStands bytes section.Entry taken
+  addresses_ranged : IsBytes bytes → (taken : List VoteTaken) → EachVoteStands bytes section.Entry taken
       → All IsAddressInRange (map (part bytes) (addresses_in taken))
-  addresses_ranged [] each = All-nil IsAddressInRange
-  addresses_ranged (one ∷ taken) each =
-      by (same one.keyword the.A) refl (addresses_ranged taken each.1)
+  addresses_ranged are [] each = All-nil IsAddressInRange
+  addresses_ranged are (one ∷ taken) each =
+      by (same one.keyword the.A) refl (addresses_ranged are taken each.1)
     where
       by : (t : Bool) → same one.keyword the.A ≡ t → All IsAddressInRange (map (part bytes) (addresses_in taken))
           → All IsAddressInRange
           (map (part bytes) (onto_if (if t then text_of_value one.value else None) (addresses_in taken)))
       by true is all =
-          text_onto IsAddressInRange one.value (addresses_in taken)
-          (address_says (stands_for bytes section.Entry one the.A (row the.A Many (kind.Entry entry.Address)) is_entry
-          address_row each.0 is)) all
+          let list = addresses_in taken in
+          says_so address_is are
+          (λ (v : Value VoteValue). All IsAddressInRange (map (part bytes) (onto_if (text_of_value v) list)))
+          (λ span its. All-cons IsAddressInRange (part bytes span) (map (part bytes) list) its all)
+          (stands_for bytes section.Entry one the.A (row the.A Many (kind.Entry entry.Address)) is_entry address_row
+          each.0 is)
       by false is all = all
 
   micro_onto : (v : Value VoteValue) (list : List KeptMicro) → MicroIs v
@@ -132,44 +129,6 @@ module _ (bytes : List ℕ) where
       let says = any_says each.0 in
       micro_onto one.value (micros_in taken) (micro_says are says.0 says.1) (micros_ranged are taken each.1)
 
-  -- ---- single items
-
-  relay_of : (one : Option VoteTaken) → is_some one ≡ true → IfSome one (λ o. RelayIs bytes o.value)
-      → IsLine bytes (relay_in one)
-  relay_of None some is = absurd (cc (some))
-  relay_of (Some one) some is = by one.value is
-    where
-      by : (v : Value VoteValue) → RelayIs bytes v → IsLine bytes (relay_of_value (own_of_value v))
-      by (value.Own (own.Entry (entry_said.Relay line))) it = it
-      by _ it = absurd it
-
-  widths_of : (one : Option VoteTaken) → IfSome one (λ o. WidthsAre o.value)
-      → IfSome (bandwidths_in one) AreBandwidthsInRange
-  widths_of None is = tt
-  widths_of (Some one) is = by one.value is
-    where
-      by : (v : Value VoteValue) → WidthsAre v → IfSome (bandwidths_of_value (own_of_value v)) AreBandwidthsInRange
-      by (value.Own (own.Entry (entry_said.Bandwidths w))) it = it
-      by _ it = tt
-
-  opinion_of : (one : Option VoteTaken) → IfSome one (λ o. OpinionIs o.value) → IsOpinionInRange (ed_in one)
-  opinion_of None is = tt
-  opinion_of (Some one) is = by one.value is
-    where
-      by : (v : Value VoteValue) → OpinionIs v → IsOpinionInRange (ed_of_value (own_of_value v))
-      by (value.Own (own.Entry (entry_said.Ed opinion))) it = it
-      by _ it = tt
-
-  -- what the text of an item is, or no text
-  pub text_in_ranged : (P : List ℕ → Type 0) (one : Option VoteTaken) → P []
-      → IfSome one (λ o. TextIs P bytes o.value) → P (part bytes (text_in (text_if one)))
-  text_in_ranged P None none is = none
-  text_in_ranged P (Some one) none is = by one.value is
-    where
-      by : (v : Value VoteValue) → TextIs P bytes v → P (part bytes (text_in (text_of_value v)))
-      by (value.Text span) it = it
-      by _ it = none
-
   -- ---- an entry
 
   -- what is kept of it says what is in range
@@ -177,45 +136,32 @@ module _ (bytes : List ℕ) where
     pub says : IsEntryInRange (entry_in bytes kept)
     pub rests : HasRests (entry_in bytes kept)
 
-  rest_of : (taken : List VoteTaken) (keyword : Keyword) → EachVoteStands bytes section.Entry taken
-      → row_of (vote_tables.rows section.Entry) keyword ≡ Some (row keyword Optional (kind.Entry entry.Rest))
-      → IfSome (option_map (part bytes) (text_if (item_at taken keyword))) IsLineRest
-  rest_of taken keyword each there =
-      text_ranged IsLineRest bytes (item_at taken keyword)
-      (item_says bytes (TextIs IsLineRest bytes) section.Entry taken keyword
-      (row keyword Optional (kind.Entry entry.Rest)) is_entry there (λ v says. entry_rest_says says) each)
-
-  entry_kept : IsBytes bytes → (taken : List VoteTaken) → EachVoteStands bytes section.Entry taken
+  entry_kept : (taken : List VoteTaken) → IsReadSection bytes section.Entry taken
       → BeginsWithOpener vote_tables section.Entry taken → IsKept (entry_of taken)
   unfolding same
-  entry_kept are taken each begins =
-      let line =
-      relay_of (item_at taken the.R) (opener_found section.Entry taken begins)
-      (item_says bytes (RelayIs bytes) section.Entry taken the.R (row the.R One (kind.Entry entry.Relay)) is_entry refl
-      (λ v says. relay_says are says) each) in
-      let names =
-      text_in_ranged AreNames (item_at taken the.S) (All-nil IsName)
-      (item_says bytes (TextIs AreNames bytes) section.Entry taken the.S (row the.S One (kind.Entry entry.Flags)) is_entry
-      refl (λ v says. entry_flags_say says) each) in
+  entry_kept taken here begins =
       let flags = words_of (part bytes (text_in (text_if (item_at taken the.S)))) in
       record {
         says = record {
-          relay = line;
+          relay = kept_is here the.R refl relay_is relay_in (IsLine bytes)
+              (λ none. absurd (opener_there section.Entry taken begins none)) (λ one line is. is);
           published = omega arith;
-          addresses = addresses_ranged taken each;
-          flags = record { ascend = Ascend-as_set flags; each = each_of_set IsName flags names };
-          bandwidths = widths_of (item_at taken the.W)
-              (item_says bytes WidthsAre section.Entry taken the.W (row the.W Optional (kind.Entry entry.Bandwidths))
-              is_entry refl (λ v says. widths_say says) each);
-          micros = micros_ranged are taken each;
-          ed = opinion_of (item_at taken the.Id)
-              (item_says bytes OpinionIs section.Entry taken the.Id (row the.Id Optional (kind.Entry entry.Ed)) is_entry
-              refl (λ v says. opinion_says are says) each);
+          addresses = addresses_ranged here.are taken here.each;
+          flags = record {
+            ascend = Ascend-as_set flags;
+            each = each_of_set IsName flags
+                (kept_is here the.S refl entry_flags_are (λ o. part bytes (text_in (text_if o))) AreNames
+                (λ none. All-nil IsName) (λ one span is. is));
+          };
+          bandwidths = kept_is here the.W refl widths_are bandwidths_in (λ o. IfSome o AreBandwidthsInRange)
+              (λ none. tt) (λ one w is. is);
+          micros = micros_ranged here.are taken here.each;
+          ed = kept_is here the.Id refl opinion_is ed_in IsOpinionInRange (λ none. tt) (λ one opinion is. is);
         };
         rests = record {
-          version = rest_of taken the.V each refl;
-          protocols = rest_of taken the.Pr each refl;
-          policy = rest_of taken the.P each refl;
+          version = text_is here IsLineRest the.V refl entry_rests_are;
+          protocols = text_is here IsLineRest the.Pr refl entry_rests_are;
+          policy = text_is here IsLineRest the.P refl entry_rests_are;
         };
       }
 
@@ -231,7 +177,8 @@ module _ (bytes : List ℕ) where
       → EachVoteStands bytes section.Entry taken → BeginsWithOpener vote_tables section.Entry taken → AreKept entries
       → AreKept (with_entry entries (entry_of taken))
   kept_more are entries taken each begins kept =
-      by (is_after entries (entry_of taken).relay.identity) refl (entry_kept are taken each begins)
+      by (is_after entries (entry_of taken).relay.identity) refl
+      (entry_kept taken (record { are = are; other = is_entry; each = each }) begins)
     where
       new : KeptEntry
       new = entry_of taken

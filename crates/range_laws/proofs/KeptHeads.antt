@@ -10,11 +10,10 @@ use Rattle.frame_terms.specs.Keywords.{same}
 use Rattle.frame_terms.specs.Rows.{row}
 use Rattle.frame_terms.specs.Sections.{row_of}
 use Rattle.frame_terms.specs.declared.document.Group.{Group}
-use Rattle.frame_terms.specs.declared.keyword.Keyword.{Keyword}
 use Rattle.frame_terms.specs.declared.keyword.Keyword.TheVariants as the
-use Rattle.frame_terms.specs.declared.row.Count.TheVariants.{One, Optional}
+use Rattle.frame_terms.specs.declared.row.Count.TheVariants.{Optional}
 use Rattle.frame_values.specs.Parts.{part}
-use Rattle.frame_values.specs.Values.{item_at, text_if}
+use Rattle.frame_values.specs.Values.{item_at, text_if, text_in}
 use Rattle.frame_values.specs.declared.found.DirSource.{DirSource}
 use Rattle.frame_values.specs.declared.found.Span.{Span}
 use Rattle.frame_values.specs.declared.values.Value.{Value}
@@ -30,23 +29,22 @@ use Rattle.vote_frame.specs.declared.frame.VoteKind.TheVariants as kind
 use Rattle.vote_frame.specs.declared.frame.VoteSection.{VoteSection}
 use Rattle.vote_frame.specs.declared.frame.VoteSection.TheVariants as section
 use Rattle.vote_frame.specs.declared.frame.VoteValue.{VoteValue}
-use Rattle.vote_doc.specs.Heads.{with_authority, with_preamble}
+use Rattle.vote_doc.specs.Heads.{no_head, with_authority, with_preamble}
 use Rattle.vote_doc.specs.Kept.{kept_with, none_kept}
-use Rattle.vote_doc.specs.Saying.{random_in, signature_in}
+use Rattle.vote_doc.specs.Saying.{delays_in, random_in, signature_in, source_in}
 use Rattle.vote_doc.specs.declared.head.Head.{Head}
 use Rattle.vote_doc.specs.declared.kept.Kept.{Kept}
 use Rattle.document_laws.specs.Order.{BeginsWithOpener}
 use Rattle.row_laws.proofs.ReadBytes.{twenty_zeros}
 use Rattle.range_laws.proofs.CertRanges.{HaveCertificates, nothing_says, section_says}
-use Rattle.range_laws.proofs.ValueTexts.{TextIs, text_ranged}
-use Rattle.range_laws.proofs.KeptEntries.{AreKept, IsKept, KeptBelow, kept_more, text_in_ranged}
+use Rattle.range_laws.proofs.KeptEntries.{AreKept, IsKept, KeptBelow, kept_more}
+use Rattle.range_laws.proofs.LineReads.{AreDelays, IsSigned, IsSourceIn}
+use Rattle.range_laws.proofs.RandomReads.{either_ranged, random_ranged}
 use Rattle.range_laws.proofs.ReadNames.{IsName}
-use Rattle.range_laws.proofs.RandomReads.{RandomIs, either_ranged, random_ranged, random_says}
-use Rattle.range_laws.proofs.LineReads.{IsSigned, IsSourceIn}
-use Rattle.range_laws.proofs.VoteReads.{AreFew, AreKnown, DelaysAre, SignatureIs, SourceIs, delays_ranged, delays_say}
-use Rattle.range_laws.proofs.VoteReads.{flags_say, methods_say, params_say, rest_says, signature_ranged}
-use Rattle.range_laws.proofs.VoteReads.{signature_says, source_ranged, source_says}
-use Rattle.range_laws.proofs.VoteStands.{EachVoteStands, VoteTaken, item_says, only_certificates, opener_found}
+use Rattle.range_laws.proofs.VoteReads.{AreFew, AreKnown, delays_are, flags_are, methods_are, params_are, random_is}
+use Rattle.range_laws.proofs.VoteReads.{rests_are, signature_is, source_is}
+use Rattle.range_laws.proofs.VoteStands.{EachVoteStands, IsReadSection, VoteTaken, kept_is, only_certificates}
+use Rattle.range_laws.proofs.VoteStands.{opener_there, text_is}
 
 -- ---- what is kept
 
@@ -104,113 +102,67 @@ module _ (bytes : List ℕ) where
   no_flags : AreKnown []
   no_flags = record { few = omega arith; names = All-nil IsName }
 
-  -- where nothing was read
-  pub nothing_kept : (groups : List (Group VoteSection (Value VoteValue))) → HasAuthority groups → KeptIs none_kept groups
-  nothing_kept groups has = record {
-    head = record {
-      preamble = record {
-        methods = tt;
-        vote_seconds = omega arith;
-        dist_seconds = omega arith;
-        known_flags = no_flags;
-        flag_thresholds = tt;
-        params = tt;
-      };
-      randoms = record { previous = tt; current = tt };
-      certificate = nothing_says bytes;
-      signature = (twenty_zeros, twenty_zeros);
-    };
-    authority = inr has;
-    entries = record { each = All-nil (IsKept bytes); ascend = AllPairs-nil KeptBelow };
-  }
-
   -- ---- sections
 
-  -- the rest of the line of a keyword, where there is one
-  rest_is : (name : VoteSection) (taken : List VoteTaken) (keyword : Keyword) → (name ≡ section.Certificate → ⊥)
-      → row_of (vote_tables.rows name) keyword ≡ Some (row keyword Optional kind.Rest) → EachVoteStands bytes name taken
-      → IfSome (option_map (part bytes) (text_if (item_at taken keyword))) IsLineRest
-  rest_is name taken keyword other there each =
-      text_ranged IsLineRest bytes (item_at taken keyword)
-      (item_says bytes (TextIs IsLineRest bytes) name taken keyword (row keyword Optional kind.Rest) other there
-      (λ v says. rest_says says) each)
-
-  preamble_is : (head : Head) (taken : List VoteTaken) → EachVoteStands bytes section.Preamble taken
+  -- a preamble
+  preamble_is : (head : Head) (taken : List VoteTaken) → IsReadSection bytes section.Preamble taken
       → PreambleOf (with_preamble head taken)
   unfolding same
-  preamble_is head taken each =
-      let other : section.Preamble ≡ section.Certificate → ⊥ = λ e. absurd (cc (e)) in
+  preamble_is head taken here =
       let delays =
-      delays_ranged (item_at taken the.VotingDelay)
-      (item_says bytes DelaysAre section.Preamble taken the.VotingDelay (row the.VotingDelay One kind.Delays) other refl
-      (λ v says. delays_say says) each) in
+      kept_is here the.VotingDelay refl delays_are delays_in AreDelays (λ none. (omega arith, omega arith))
+      (λ one d is. is) in
       record {
-        methods = text_ranged (AreFew 64) bytes (item_at taken the.ConsensusMethods)
-            (item_says bytes (TextIs (AreFew 64) bytes) section.Preamble taken the.ConsensusMethods
-            (row the.ConsensusMethods Optional kind.Methods) other refl (λ v says. methods_say says) each);
+        methods = text_is here (AreFew 64) the.ConsensusMethods refl methods_are;
         vote_seconds = delays.0;
         dist_seconds = delays.1;
-        known_flags = text_in_ranged bytes AreKnown (item_at taken the.KnownFlags) no_flags
-            (item_says bytes (TextIs AreKnown bytes) section.Preamble taken the.KnownFlags
-            (row the.KnownFlags One kind.KnownFlags) other refl (λ v says. flags_say says) each);
-        flag_thresholds = rest_is section.Preamble taken the.FlagThresholds other refl each;
-        params = text_ranged (AreFew 1024) bytes (item_at taken the.Params)
-            (item_says bytes (TextIs (AreFew 1024) bytes) section.Preamble taken the.Params
-            (row the.Params Optional kind.Params) other refl (λ v says. params_say says) each);
+        known_flags = kept_is here the.KnownFlags refl flags_are (λ o. part bytes (text_in (text_if o))) AreKnown
+            (λ none. no_flags) (λ one span is. is);
+        flag_thresholds = text_is here IsLineRest the.FlagThresholds refl rests_are;
+        params = text_is here (AreFew 1024) the.Params refl params_are;
       }
 
   -- the shared random value that a section has on a line
-  random_is : IsBytes bytes → (name : VoteSection) (taken : List VoteTaken) (line : RandomLine)
-      → (name ≡ section.Certificate → ⊥)
+  line_is : (line : RandomLine) {name : VoteSection} {taken : List VoteTaken} → IsReadSection bytes name taken
       → row_of (vote_tables.rows name) (keyword_of line) ≡ Some (row (keyword_of line) Optional (kind.Random line))
-      → EachVoteStands bytes name taken → IfSome (random_in (item_at taken (keyword_of line))) IsRandomInRange
-  random_is are name taken line other there each =
-      random_ranged (item_at taken (keyword_of line))
-      (item_says bytes RandomIs name taken (keyword_of line) (row (keyword_of line) Optional (kind.Random line)) other
-      there (λ v says. random_says are line says) each)
+      → IfSome (random_in (item_at taken (keyword_of line))) IsRandomInRange
+  line_is line here there =
+      kept_is here (keyword_of line) there (random_is line) random_in (λ o. IfSome o IsRandomInRange) (λ none. tt)
+      (λ one read is. random_ranged line read is)
 
-  randoms_of_preamble : IsBytes bytes → (head : Head) (taken : List VoteTaken)
-      → EachVoteStands bytes section.Preamble taken → RandomsOf (with_preamble head taken)
+  randoms_of_preamble : (head : Head) (taken : List VoteTaken) → IsReadSection bytes section.Preamble taken
+      → RandomsOf (with_preamble head taken)
   unfolding same
-  randoms_of_preamble are head taken each =
-      let other : section.Preamble ≡ section.Certificate → ⊥ = λ e. absurd (cc (e)) in
-      record {
-        previous = random_is are section.Preamble taken line.Previous other refl each;
-        current = random_is are section.Preamble taken line.Current other refl each;
-      }
+  randoms_of_preamble head taken here =
+      record { previous = line_is line.Previous here refl; current = line_is line.Current here refl }
 
-  randoms_of_authority : IsBytes bytes → (head : Head) (taken : List VoteTaken)
-      → EachVoteStands bytes section.Authority taken → RandomsOf head → RandomsOf (with_authority head taken)
+  randoms_of_authority : (head : Head) (taken : List VoteTaken) → IsReadSection bytes section.Authority taken
+      → RandomsOf head → RandomsOf (with_authority head taken)
   unfolding same
-  randoms_of_authority are head taken each is =
-      let other : section.Authority ≡ section.Certificate → ⊥ = λ e. absurd (cc (e)) in
-      record {
-        previous = either_ranged head.random_previous (random_in (item_at taken (keyword_of line.Previous))) is.previous
-            (random_is are section.Authority taken line.Previous other refl each);
-        current = either_ranged head.random_current (random_in (item_at taken (keyword_of line.Current))) is.current
-            (random_is are section.Authority taken line.Current other refl each);
-      }
+  randoms_of_authority head taken here is = record {
+    previous = either_ranged head.random_previous (random_in (item_at taken (keyword_of line.Previous))) is.previous
+        (line_is line.Previous here refl);
+    current = either_ranged head.random_current (random_in (item_at taken (keyword_of line.Current))) is.current
+        (line_is line.Current here refl);
+  }
 
-  authority_is : (head : Head) (taken : List VoteTaken) → EachVoteStands bytes section.Authority taken
+  -- an authority
+  authority_is : (head : Head) (taken : List VoteTaken) → IsReadSection bytes section.Authority taken
       → BeginsWithOpener vote_tables section.Authority taken → AuthorityOf (with_authority head taken)
   unfolding same
-  authority_is head taken each begins =
-      let other : section.Authority ≡ section.Certificate → ⊥ = λ e. absurd (cc (e)) in
-      record {
-        source = source_ranged bytes (item_at taken the.DirSource) (opener_found section.Authority taken begins)
-            (item_says bytes (SourceIs bytes) section.Authority taken the.DirSource (row the.DirSource One kind.Source)
-            other refl (λ v says. source_says says) each);
-        contact = rest_is section.Authority taken the.Contact other refl each;
-      }
+  authority_is head taken here begins = record {
+    source = kept_is here the.DirSource refl source_is source_in (IsSourceIn bytes)
+        (λ none. absurd (opener_there section.Authority taken begins none)) (λ one source is. is);
+    contact = text_is here IsLineRest the.Contact refl rests_are;
+  }
 
-  signature_is : (taken : List VoteTaken) → EachVoteStands bytes section.Footer taken
+  -- a footer
+  footer_is : (taken : List VoteTaken) → IsReadSection bytes section.Footer taken
       → IsSigned (signature_in (item_at taken the.DirectorySignature))
   unfolding same
-  signature_is taken each =
-      let other : section.Footer ≡ section.Certificate → ⊥ = λ e. absurd (cc (e)) in
-      signature_ranged (item_at taken the.DirectorySignature)
-      (item_says bytes SignatureIs section.Footer taken the.DirectorySignature
-      (row the.DirectorySignature One kind.Signature) other refl (λ v says. signature_says says) each)
+  footer_is taken here =
+      kept_is here the.DirectorySignature refl signature_is signature_in IsSigned
+      (λ none. (twenty_zeros, twenty_zeros)) (λ one signature is. is)
 
   certificates : HaveCertificates vote_tables section.Certificate kind.Certificate
   certificates = record {
@@ -220,6 +172,23 @@ module _ (bytes : List ℕ) where
   }
 
   -- ---- one more section
+
+  -- where nothing was read, what is kept is as if each section had no items
+  pub nothing_kept : IsBytes bytes → (groups : List (Group VoteSection (Value VoteValue))) → HasAuthority groups
+      → KeptIs none_kept groups
+  nothing_kept are groups has =
+      let here : IsReadSection bytes section.Preamble [] =
+      record { are = are; other = λ e. absurd (cc (e)); each = tt } in
+      record {
+        head = record {
+          preamble = preamble_is no_head [] here;
+          randoms = randoms_of_preamble no_head [] here;
+          certificate = nothing_says bytes;
+          signature = (twenty_zeros, twenty_zeros);
+        };
+        authority = inr has;
+        entries = record { each = All-nil (IsKept bytes); ascend = AllPairs-nil KeptBelow };
+      }
 
   -- the authority is there, or still to come
   later : (head : Head) (g : Group VoteSection (Value VoteValue)) (left : List (Group VoteSection (Value VoteValue)))
@@ -235,8 +204,8 @@ module _ (bytes : List ℕ) where
       → KeptIs (kept_with kept name taken) left
   heads_with_one_group_kept are section.Preamble taken kept left each begins is = record {
     head = record {
-      preamble = preamble_is kept.head taken each;
-      randoms = randoms_of_preamble are kept.head taken each;
+      preamble = preamble_is kept.head taken (record { are = are; other = λ e. absurd (cc (e)); each = each });
+      randoms = randoms_of_preamble kept.head taken (record { are = are; other = λ e. absurd (cc (e)); each = each });
       certificate = is.head.certificate;
       signature = is.head.signature;
     };
@@ -246,11 +215,13 @@ module _ (bytes : List ℕ) where
   heads_with_one_group_kept are section.Authority taken kept left each begins is = record {
     head = record {
       preamble = is.head.preamble;
-      randoms = randoms_of_authority are kept.head taken each is.head.randoms;
+      randoms = randoms_of_authority kept.head taken (record { are = are; other = λ e. absurd (cc (e)); each = each })
+          is.head.randoms;
       certificate = is.head.certificate;
       signature = is.head.signature;
     };
-    authority = inl (authority_is kept.head taken each begins);
+    authority = inl (authority_is kept.head taken
+        (record { are = are; other = λ e. absurd (cc (e)); each = each }) begins);
     entries = is.entries;
   }
   heads_with_one_group_kept are section.Certificate taken kept left each begins is = record {
@@ -273,7 +244,7 @@ module _ (bytes : List ℕ) where
       preamble = is.head.preamble;
       randoms = is.head.randoms;
       certificate = is.head.certificate;
-      signature = signature_is taken each;
+      signature = footer_is taken (record { are = are; other = λ e. absurd (cc (e)); each = each });
     };
     authority = later kept.head (group section.Footer taken) left (λ e. absurd (cc (e))) is.authority;
     entries = is.entries;

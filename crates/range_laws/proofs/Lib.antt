@@ -8,13 +8,13 @@ pub mod CertRead
 pub mod RelayReads
 pub mod EntryReads
 pub mod LineReads
+pub mod RandomReads
 pub mod VoteReads
 pub mod EntrySays
 pub mod VoteStands
 pub mod EntryTexts
 pub mod VoteTexts
 pub mod KeptEntries
-pub mod RandomReads
 pub mod KeptHeads
 pub mod Noting
 pub mod EntryRoom

@@ -15,7 +15,6 @@ use Rattle.dir_values.specs.declared.algorithm.Algorithm.{Algorithm}
 use Rattle.dir_values.specs.declared.digest.Digest1.{Digest1}
 use Rattle.dir_values.specs.declared.digest.Fingerprint.{Fingerprint}
 use Rattle.frame_terms.specs.Rows.{limit_number}
-use Rattle.frame_terms.specs.Tables.{Tables}
 use Rattle.frame_terms.specs.declared.fault.FrameFault.{FrameFault}
 use Rattle.frame_terms.specs.declared.fault.FrameReason.TheVariants.{TooMany}
 use Rattle.frame_terms.specs.declared.row.Limit.{Limit}
@@ -30,15 +29,11 @@ use Rattle.frame_values.specs.Signatures.{signed_by}
 use Rattle.frame_values.specs.declared.found.DirSource.{DirSource}
 use Rattle.frame_values.specs.declared.found.Span.{Span}
 use Rattle.frame_values.specs.declared.found.VoteSignature.{VoteSignature}
-use Rattle.frame_values.specs.declared.values.Value.{Value}
 use Rattle.frame_values.specs.declared.values.Value.TheVariants as value
 use Rattle.frame_laws.proofs.StandingParts.{rest_part}
-use Rattle.group_laws.proofs.Readings.{Reads, over, said_of, text_at}
-use Rattle.group_laws.proofs.SourceRows.{HasRests}
 use Rattle.row_laws.proofs.ItemArguments.{IsSound, are_found, found_word, front_found, others_found}
 use Rattle.row_laws.proofs.ReadSteps.{ReadAs, any_reads, field_reads, fingerprint_reads, if_reads, key_digest_reads}
-use Rattle.row_laws.proofs.ReadSteps.{next_reads, no_fault, number_within, rest_reads, span_reads, was_read}
-use Rattle.row_laws.proofs.Saying.{Says}
+use Rattle.row_laws.proofs.ReadSteps.{next_reads, number_within, rest_reads, span_reads}
 use Rattle.range_laws.proofs.ValueTexts.{TextIs}
 use Rattle.range_laws.proofs.ReadNames.{count_words}
 use Rattle.range_laws.proofs.RelayReads.{IsNickname, ip_reads, nickname_reads, port_reads}
@@ -162,26 +157,13 @@ signature_reads item =
     (next_reads (λ (n : Option Algorithm). Unit {0}) IsSigned name more (any_reads name)
     (λ n is. signed_reads n (after_algorithm n (arguments_of item)) item))
 
--- ---- what items of a kind say
+-- ---- what follows
 
 -- what follows from what was read
 pub made_reads : {A V : Type 0} (P : A → Type 0) (Q : V → Type 0) (read : Result A ℕ) (of : A → V) → ReadAs P read
     → ((a : A) → P a → Q (of a)) → ReadAs Q (next read (λ a. Ok (of a)))
 made_reads P Q (Ok a) of reads is = is a reads
 made_reads P Q (Err place) of reads is = tt
-
-module _ {S K W X A : Type 0} {tables : Tables S K (Value W) X} {kind : K} {most : Option Limit}
-    {read : X → Item → Result A ℕ} {of : A → Value W} {bytes : List ℕ} {v : Value W} where
-  -- what is read of an item that passes its limit is such, and so what it says is
-  pub reads_say : Reads tables kind most read of → (P : A → Type 0) (Q : Value W → Type 0)
-      → ((across : X) (item : Item) → IsSound bytes item → over most item ≡ Ok tt → ReadAs P (read across item))
-      → ((a : A) → P a → Q (of a)) → Says tables bytes kind v → Q v
-  reads_say has P Q reads then_ says =
-      let item = says.item in
-      let found = read says.remembered item in
-      let is = no_fault (over most item) (said_of of found) v (sym (has.values says.remembered item) ∙ says.says) in
-      was_read Q (said_of of found) v
-      (made_reads P Q found of (reads says.remembered item says.sound is.0) then_) is.1
 
 -- ---- rests of lines
 
@@ -190,26 +172,12 @@ pub rest_read : (W : Type 0) (bytes : List ℕ) (item : Item) → IsSound bytes 
     → TextIs {W = W} IsLineRest bytes (value.Text (rest_of item))
 rest_read W bytes item sound = subst IsLineRest (sym (rest_part sound.in_place)) sound.rest
 
-module _ {S K W X : Type 0} {tables : Tables S K (Value W) X} {kind : K} {most : Option Limit} {bytes : List ℕ}
-    {v : Value W} where
-  -- a text in which nothing is wrong is what stands there
-  pub texts_say : (wrong : Item → Option ℕ) → Reads tables kind most (λ across item. rest_unless (wrong item) item) text_at
-      → (P : List ℕ → Type 0)
-      → ((item : Item) → over most item ≡ Ok tt → wrong item ≡ None → P item.arguments)
-      → Says tables bytes kind v → TextIs P bytes v
-  texts_say wrong has P is says =
-      reads_say has (λ (span : Span). P (part bytes span)) (TextIs P bytes)
-      (λ across item sound passes.
-      rest_reads (λ (span : Span). P (part bytes span)) item (wrong item)
-      (λ right. subst P (sym (rest_part sound.in_place)) (is item passes right)))
-      (λ span it. it) says
-
-module _ {S K W X : Type 0} {tables : Tables S K (Value W) X} {kind : K} {bytes : List ℕ} {v : Value W} where
-  -- the rest of a line, whatever it is
-  pub rests_say : HasRests tables kind → Says tables bytes kind v → TextIs IsLineRest bytes v
-  rests_say has says =
-      reads_say has (λ (span : Span). IsLineRest (part bytes span)) (TextIs IsLineRest bytes)
-      (λ across item sound passes. rest_read W bytes item sound) (λ span it. it) says
+-- a text in which nothing is wrong is what stands there
+pub text_reads : (P : List ℕ → Type 0) (bytes : List ℕ) (item : Item) (wrong : Option ℕ) → IsSound bytes item
+    → (wrong ≡ None → P item.arguments) → ReadAs (λ (span : Span). P (part bytes span)) (rest_unless wrong item)
+text_reads P bytes item wrong sound is =
+    rest_reads (λ (span : Span). P (part bytes span)) item wrong
+    (λ right. subst P (sym (rest_part sound.in_place)) (is right))
 
 abbrev passes : Result (Unit {0}) FrameFault
 passes = Ok tt

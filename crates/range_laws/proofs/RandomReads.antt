@@ -7,8 +7,6 @@ use Rattle.item_terms.specs.Items.{Item}
 use Rattle.dir_values.specs.Numbers.{number_of}
 use Rattle.dir_values.specs.declared.digest.Digest2.{Digest2}
 use Rattle.frame_values.specs.Arguments.{arguments_of, field, front, next, others}
-use Rattle.frame_values.specs.Values.{own_of_value}
-use Rattle.frame_values.specs.declared.values.Value.{Value}
 use Rattle.frame_values.specs.declared.values.Value.TheVariants as value
 use Rattle.value_groups.specs.Lines.{random_of}
 use Rattle.value_groups.specs.Values.{padded_digest, without_padding}
@@ -16,17 +14,12 @@ use Rattle.value_groups.specs.declared.line.RandomLine.{RandomLine}
 use Rattle.value_groups.specs.declared.value.SharedRandom.{SharedRandom}
 use Rattle.group_laws.specs.LineAgain.{IsRandomInRange}
 use Rattle.group_laws.specs.Ranges.{AreThirtyTwo}
-use Rattle.vote_frame.specs.Tables.{value_at}
-use Rattle.vote_frame.specs.declared.frame.VoteKind.TheVariants as kind
-use Rattle.vote_frame.specs.declared.frame.VoteValue.{VoteValue}
 use Rattle.vote_frame.specs.declared.frame.VoteValue.TheVariants as own
-use Rattle.vote_doc.specs.Saying.{random_in, random_of_value}
+use Rattle.vote_doc.specs.Saying.{random_of_value}
 use Rattle.row_laws.proofs.ItemArguments.{IsSound, are_found, others_found}
 use Rattle.row_laws.proofs.ReadBytes.{bytes_take}
-use Rattle.row_laws.proofs.ReadSteps.{ReadAs, field_reads, next_reads, number_within, was_read, front_bytes}
+use Rattle.row_laws.proofs.ReadSteps.{ReadAs, field_reads, next_reads, number_within, front_bytes}
 use Rattle.range_laws.proofs.EntryReads.{thirty_two}
-use Rattle.range_laws.proofs.VoteReads.{VoteSays, said}
-use Rattle.range_laws.proofs.VoteStands.{VoteTaken}
 
 -- without its padding a text is of bytes too
 bare_bytes : (text : List ℕ) → IsBytes text → IsBytes (without_padding text)
@@ -66,28 +59,11 @@ random_reads bytes item are sound =
 
 -- ---- what an item says
 
-abbrev pub RandomIs : Value VoteValue → Type 0
-RandomIs (value.Own (own.Random line (Ok random))) = IsRandomInRange random
-RandomIs _ = Unit {0}
-
-pub random_says : {bytes : List ℕ} {v : Value VoteValue} → IsBytes bytes → (line : RandomLine)
-    → VoteSays bytes (kind.Random line) v → RandomIs v
-random_says {bytes} {v} are line says =
-    was_read RandomIs (value_at (kind.Random line) says.item) v
-    (by (random_of says.item) (random_reads bytes says.item are says.sound)) (said says).1
-  where
-    by : (read : Result SharedRandom ℕ) → ReadAs IsRandomInRange read → RandomIs (value.Own (own.Random line read))
-    by (Ok random) is = is
-    by (Err place) is = tt
-
--- the value of an item, where there is one
-pub random_ranged : (one : Option VoteTaken) → IfSome one (λ o. RandomIs o.value) → IfSome (random_in one) IsRandomInRange
-random_ranged None is = tt
-random_ranged (Some one) is = by one.value is
-  where
-    by : (v : Value VoteValue) → RandomIs v → IfSome (random_of_value (own_of_value v)) IsRandomInRange
-    by (value.Own (own.Random line (Ok random))) it = it
-    by _ it = tt
+-- the value of a line, where it has one
+pub random_ranged : (line : RandomLine) (read : Result SharedRandom ℕ) → ReadAs IsRandomInRange read
+    → IfSome (random_of_value (Some (own.Random line read))) IsRandomInRange
+random_ranged line (Ok random) is = is
+random_ranged line (Err place) is = tt
 
 -- that of the preamble, or else that of the authority's section
 pub either_ranged : (known other : Option SharedRandom) → IfSome known IsRandomInRange → IfSome other IsRandomInRange

@@ -135,7 +135,7 @@ own_in_range bytes vote are own =
     let kept = fold (λ k (g : VoteGroup). kept_with k g.section g.taken) none_kept groups in
     let all =
     groups_kept bytes are items (all_sound 0 max_vote bytes) none_kept groups
-    (are_said vote_tables (length bytes) contents document own.is) stand.begin (nothing_kept bytes groups has) in
+    (are_said vote_tables (length bytes) contents document own.is) stand.begin (nothing_kept bytes are groups has) in
     let some =
     some_kept none_kept groups
     (none_some groups (few_entries (length bytes) contents document own.is)

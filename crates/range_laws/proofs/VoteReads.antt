@@ -1,136 +1,128 @@
--- What the items of a vote say is in range, by the kinds of their rows.
-use Rattle.std.proofs.Common.{◌≡◌, ℕ, ◌≤◌, true, List, [], length, Option, Some, None, Ok, arith}
-use Rattle.std.specs.Prelude.{All, IfSome, is_some}
+-- What the items of a vote say is in range, by their kinds.
+use Rattle.std.proofs.Common.{◌≡◌, ℕ, ◌≤◌, List, [], length, Option, None, Result, Ok, refl, sym, subst}
+use Rattle.std.specs.Prelude.{All}
+use Rattle.base64.specs.GeneralPurpose.{IsBytes}
 use Rattle.item_terms.specs.Items.{Item}
 use Rattle.item_terms.specs.Words.{words_of}
 use Rattle.dirdoc_grammar.specs.Writing.{IsLineRest}
 use Rattle.dir_values.specs.FlagSets.{wrong_flag}
 use Rattle.dir_values.specs.Numbers.{wrong_number}
-use Rattle.frame_terms.specs.declared.document.Taken.{Taken}
 use Rattle.frame_terms.specs.declared.row.Limit.TheVariants as limit
-use Rattle.frame_values.specs.Arguments.{arguments_of}
-use Rattle.frame_values.specs.Values.{own_of_value}
+use Rattle.frame_values.specs.Arguments.{arguments_of, next}
+use Rattle.frame_values.specs.Faults.{at_place, unless_fault}
+use Rattle.frame_values.specs.Lines.{delays_of, rest_of, rest_unless, source_of}
+use Rattle.frame_values.specs.Parts.{part}
+use Rattle.frame_values.specs.Signatures.{signature_of}
+use Rattle.frame_values.specs.declared.found.DirSource.{DirSource}
+use Rattle.frame_values.specs.declared.found.Span.{Span}
+use Rattle.frame_values.specs.declared.found.VoteSignature.{VoteSignature}
 use Rattle.frame_values.specs.declared.values.Value.{Value}
 use Rattle.frame_values.specs.declared.values.Value.TheVariants as value
 use Rattle.list_values.specs.Params.{wrong_param}
-use Rattle.vote_frame.specs.Tables.{over_limit, value_at, vote_tables}
+use Rattle.value_groups.specs.Lines.{random_of}
+use Rattle.value_groups.specs.declared.line.RandomLine.{RandomLine}
+use Rattle.value_groups.specs.declared.value.SharedRandom.{SharedRandom}
+use Rattle.group_laws.specs.LineAgain.{IsRandomInRange}
+use Rattle.vote_frame.specs.Tables.{over_limit, vote_tables}
+use Rattle.vote_frame.specs.declared.across.Across.{Across}
 use Rattle.vote_frame.specs.declared.frame.VoteKind.{VoteKind}
 use Rattle.vote_frame.specs.declared.frame.VoteKind.TheVariants as kind
 use Rattle.vote_frame.specs.declared.frame.VoteValue.{VoteValue}
 use Rattle.vote_frame.specs.declared.frame.VoteValue.TheVariants as own
-use Rattle.vote_doc.specs.Saying.{delays_in, delays_of_value, signature_in, signature_of_value, source_in}
-use Rattle.vote_doc.specs.Saying.{source_of_value}
-use Rattle.vote_laws.proofs.VoteItems.{has_flags, has_lists, has_methods, has_rests, has_signature, has_sources}
-use Rattle.vote_laws.proofs.VoteItems.{has_times}
-use Rattle.row_laws.proofs.ReadBytes.{twenty_zeros}
-use Rattle.row_laws.proofs.ReadSteps.{no_fault}
+use Rattle.row_laws.proofs.KindRanges.{KindIs, kind_read, kind_unless}
+use Rattle.row_laws.proofs.ReadSteps.{ReadAs}
 use Rattle.row_laws.proofs.Saying.{Says}
-use Rattle.range_laws.proofs.ValueTexts.{TextIs}
-use Rattle.range_laws.proofs.LineReads.{AreDelays, IsSigned, IsSourceIn, delays_read, few_words, reads_say, rests_say}
-use Rattle.range_laws.proofs.LineReads.{signature_reads, source_reads, texts_say}
+use Rattle.range_laws.proofs.LineReads.{AreDelays, IsSigned, IsSourceIn, delays_read, few_words, rest_read}
+use Rattle.range_laws.proofs.LineReads.{signature_reads, source_reads, text_reads}
+use Rattle.range_laws.proofs.RandomReads.{random_reads}
 use Rattle.range_laws.proofs.ReadNames.{IsName, names_of_words}
 
--- ---- values of their own
-
--- two numbers of seconds
-abbrev pub DelaysAre : Value VoteValue → Type 0
-DelaysAre (value.Own (own.Delays vote dist)) = (vote ≤ 4294967295) × (dist ≤ 4294967295)
-DelaysAre _ = Unit {0}
-
--- an authority
-abbrev pub SourceIs : List ℕ → Value VoteValue → Type 0
-SourceIs bytes (value.Own (own.Source source)) = IsSourceIn bytes source
-SourceIs bytes _ = ⊥
-
--- a signature
-abbrev pub SignatureIs : Value VoteValue → Type 0
-SignatureIs (value.Own (own.Signature signature)) = IsSigned signature
-SignatureIs _ = Unit {0}
-
--- ---- what items say
+-- ---- kinds
 
 -- an item of this kind of a vote says this
 abbrev pub VoteSays : List ℕ → VoteKind → Value VoteValue → Type 0
 VoteSays bytes of v = Says vote_tables bytes of v
 
--- its value, and that it passes no limit
-pub said : {bytes : List ℕ} {of : VoteKind} {v : Value VoteValue} (says : VoteSays bytes of v)
-    → (over_limit says.remembered.listed of says.item ≡ Ok tt) × (value_at of says.item ≡ Ok v)
-said {bytes} {of} {v} says =
-    no_fault (over_limit says.remembered.listed of says.item) (value_at of says.item) v says.says
+-- items of this kind say such
+abbrev pub VoteIs : {A : Type 0} → VoteKind → (A → Value VoteValue) → (List ℕ → A → Type 0) → Type 0
+VoteIs kind of Is = KindIs vote_tables kind of Is
 
-pub delays_say : {bytes : List ℕ} {v : Value VoteValue} → VoteSays bytes kind.Delays v → DelaysAre v
-delays_say says =
-    reads_say has_times.seconds AreDelays DelaysAre (λ across item sound passes. delays_read item) (λ d is. is) says
+-- items of this kind say texts that are such
+abbrev pub TextsAre : VoteKind → (List ℕ → Type 0) → Type 0
+TextsAre kind P = VoteIs kind (λ (span : Span). value.Text span) (λ bytes span. P (part bytes span))
 
-pub source_says : {bytes : List ℕ} {v : Value VoteValue} → VoteSays bytes kind.Source v → SourceIs bytes v
-source_says {bytes} says =
-    reads_say has_sources (IsSourceIn bytes) (SourceIs bytes)
-    (λ across item sound passes. source_reads bytes item sound) (λ s is. is) says
+-- what follows of what an item says
+pub says_so : {A : Type 0} {of : VoteKind} {make : A → Value VoteValue} {Is : List ℕ → A → Type 0} {bytes : List ℕ}
+    {v : Value VoteValue} → VoteIs of make Is → IsBytes bytes → (Q : Value VoteValue → Type 0)
+    → ((a : A) → Is bytes a → Q (make a)) → VoteSays bytes of v → Q v
+says_so {bytes = bytes} {v = v} kind are Q is says =
+    let its = kind.says bytes are v says in subst Q (sym its.1) (is its.0 its.2)
 
-pub signature_says : {bytes : List ℕ} {v : Value VoteValue} → VoteSays bytes kind.Signature v → SignatureIs v
-signature_says says =
-    reads_say has_signature IsSigned SignatureIs (λ across item sound passes. signature_reads item) (λ s is. is) says
+-- ---- texts
 
 abbrev pub AreFew : ℕ → List ℕ → Type 0
 AreFew most text = length (words_of text) ≤ most
-
-pub methods_say : {bytes : List ℕ} {v : Value VoteValue} → VoteSays bytes kind.Methods v → TextIs (AreFew 64) bytes v
-methods_say says =
-    texts_say (λ (item : Item). wrong_number (arguments_of item)) has_methods (AreFew 64)
-    (λ item passes right. few_words limit.Methods item passes) says
-
-pub params_say : {bytes : List ℕ} {v : Value VoteValue} → VoteSays bytes kind.Params v → TextIs (AreFew 1024) bytes v
-params_say says =
-    texts_say (λ (item : Item). wrong_param (arguments_of item)) has_lists.params (AreFew 1024)
-    (λ item passes right. few_words limit.Params item passes) says
 
 -- flags that a vote may know
 pub record AreKnown (text : List ℕ) : Type 0 where
   pub few : AreFew 64 text
   pub names : All IsName (words_of text)
 
-pub flags_say : {bytes : List ℕ} {v : Value VoteValue} → VoteSays bytes kind.KnownFlags v → TextIs AreKnown bytes v
-flags_say says =
-    texts_say (λ (item : Item). wrong_flag [] (arguments_of item)) has_flags AreKnown
-    (λ item passes right. record {
+-- a text in which nothing is wrong, of an item that passes no limit
+text_kind : {of : VoteKind} (P : List ℕ → Type 0) (wrong : Item → Option ℕ)
+    → ((across : Across) (item : Item) → vote_tables.value_of across of item
+    ≡ unless_fault (over_limit across.listed of item)
+    (at_place (next (rest_unless (wrong item) item) (λ (span : Span). Ok (value.Text span)))))
+    → ((across : Across) (item : Item) → over_limit across.listed of item ≡ Ok tt → wrong item ≡ None
+    → P item.arguments)
+    → TextsAre of P
+text_kind {of} P wrong values is =
+    kind_unless (λ across item. over_limit across.listed of item) (λ across item. rest_unless (wrong item) item) values
+    (λ bytes are across item sound passes.
+    text_reads P bytes item (wrong item) sound (λ right. is across item passes right))
+
+pub methods_are : TextsAre kind.Methods (AreFew 64)
+methods_are =
+    text_kind (AreFew 64) (λ (item : Item). wrong_number (arguments_of item)) (λ across item. refl)
+    (λ across item passes right. few_words limit.Methods item passes)
+
+pub params_are : TextsAre kind.Params (AreFew 1024)
+params_are =
+    text_kind (AreFew 1024) (λ (item : Item). wrong_param (arguments_of item)) (λ across item. refl)
+    (λ across item passes right. few_words limit.Params item passes)
+
+pub flags_are : TextsAre kind.KnownFlags AreKnown
+flags_are =
+    text_kind AreKnown (λ (item : Item). wrong_flag [] (arguments_of item)) (λ across item. refl)
+    (λ across item passes right. record {
       few = few_words limit.KnownFlags item passes;
       names = names_of_words item.start item.arguments right;
-    }) says
+    })
 
 -- the rest of a line
-pub rest_says : {bytes : List ℕ} {v : Value VoteValue} → VoteSays bytes kind.Rest v → TextIs IsLineRest bytes v
-rest_says says = rests_say has_rests says
+pub rests_are : TextsAre kind.Rest IsLineRest
+rests_are =
+    kind_read (λ (item : Item). Ok (rest_of item)) (λ across item. refl)
+    (λ bytes are item sound. rest_read VoteValue bytes item sound)
 
--- ---- what is kept of an item
+-- ---- values of their own
 
--- what was taken of a section
-abbrev VoteTaken : Type 0
-VoteTaken = Taken (Value VoteValue)
+-- two numbers of seconds
+pub delays_are : VoteIs kind.Delays (λ (d : ℕ × ℕ). value.Own (own.Delays d.0 d.1)) (λ bytes d. AreDelays d)
+delays_are = kind_read delays_of (λ across item. refl) (λ bytes are item sound. delays_read item)
 
-pub delays_ranged : (one : Option VoteTaken) → IfSome one (λ o. DelaysAre o.value)
-    → ((delays_in one).0 ≤ 4294967295) × ((delays_in one).1 ≤ 4294967295)
-delays_ranged None is = (omega arith, omega arith)
-delays_ranged (Some one) is = by one.value is
-  where
-    by : (v : Value VoteValue) → DelaysAre v
-        → ((delays_of_value (own_of_value v)).0 ≤ 4294967295) × ((delays_of_value (own_of_value v)).1 ≤ 4294967295)
-    by (value.Own (own.Delays vote dist)) it = it
-    by _ it = (omega arith, omega arith)
+-- an authority
+pub source_is : VoteIs kind.Source (λ (source : DirSource). value.Own (own.Source source)) IsSourceIn
+source_is = kind_read source_of (λ across item. refl) (λ bytes are item sound. source_reads bytes item sound)
 
-pub source_ranged : (bytes : List ℕ) (one : Option VoteTaken) → is_some one ≡ true
-    → IfSome one (λ o. SourceIs bytes o.value) → IsSourceIn bytes (source_in one)
-source_ranged bytes None some is = absurd (cc (some))
-source_ranged bytes (Some one) some is = by one.value is
-  where
-    by : (v : Value VoteValue) → SourceIs bytes v → IsSourceIn bytes (source_of_value (own_of_value v))
-    by (value.Own (own.Source source)) it = it
-    by _ it = absurd it
+-- a signature
+pub signature_is : VoteIs kind.Signature (λ (s : VoteSignature). value.Own (own.Signature s)) (λ bytes s. IsSigned s)
+signature_is = kind_read signature_of (λ across item. refl) (λ bytes are item sound. signature_reads item)
 
-pub signature_ranged : (one : Option VoteTaken) → IfSome one (λ o. SignatureIs o.value) → IsSigned (signature_in one)
-signature_ranged None is = (twenty_zeros, twenty_zeros)
-signature_ranged (Some one) is = by one.value is
-  where
-    by : (v : Value VoteValue) → SignatureIs v → IsSigned (signature_of_value (own_of_value v))
-    by (value.Own (own.Signature signature)) it = it
-    by _ it = (twenty_zeros, twenty_zeros)
+-- a shared random value, where its line has one
+pub random_is : (line : RandomLine)
+    → VoteIs (kind.Random line) (λ (read : Result SharedRandom ℕ). value.Own (own.Random line read))
+    (λ bytes read. ReadAs IsRandomInRange read)
+random_is line =
+    kind_read (λ (item : Item). Ok (random_of item)) (λ across item. refl)
+    (λ bytes are item sound. random_reads bytes item are sound)

@@ -1,7 +1,9 @@
--- What stands in a section of a vote says what the row of its keyword has.
+-- What stands in a section of a vote says what the row of its keyword has, and so what is kept of it is in range.
 use Rattle.std.proofs.Common.{◌≡◌, ℕ, Bool, true, false, List, [], ◌∷◌, Option, Some, None, refl, sym, ap, ◌∙◌, Result}
 use Rattle.std.proofs.Common.{Ok, inl, inr}
-use Rattle.std.specs.Prelude.{IfSome, is_some, if◌then◌else◌}
+use Rattle.std.specs.Prelude.{IfSome, is_some, option_map, if◌then◌else◌}
+use Rattle.std.proofs.lemmas.Bool.{false≢true}
+use Rattle.base64.specs.GeneralPurpose.{IsBytes}
 use Rattle.frame_terms.specs.declared.document.Taken.{Taken}
 use Rattle.frame_terms.specs.declared.fault.FrameFault.{FrameFault}
 use Rattle.frame_terms.specs.declared.keyword.Keyword.{Keyword}
@@ -11,7 +13,8 @@ use Rattle.frame_terms.specs.Keywords.{same}
 use Rattle.frame_terms.specs.Order.{inner, opener}
 use Rattle.frame_terms.specs.Sections.{row_of}
 use Rattle.frame_terms.specs.Tables.{Tables}
-use Rattle.frame_values.specs.Values.{item_at}
+use Rattle.frame_values.specs.Parts.{part}
+use Rattle.frame_values.specs.Values.{item_at, text_if}
 use Rattle.frame_values.specs.declared.values.Value.{Value}
 use Rattle.frame_laws.proofs.KnownWords.{same-sym}
 use Rattle.vote_frame.specs.Tables.{vote_tables}
@@ -21,8 +24,9 @@ use Rattle.vote_frame.specs.declared.frame.VoteSection.TheVariants as section
 use Rattle.vote_frame.specs.declared.frame.VoteValue.{VoteValue}
 use Rattle.document_laws.specs.Items.{IsItemIn}
 use Rattle.document_laws.specs.Order.{BeginsWithOpener}
-use Rattle.row_laws.proofs.Saying.{EachStands, Says, Stands, found, of_row}
-use Rattle.range_laws.proofs.VoteReads.{VoteSays}
+use Rattle.row_laws.proofs.KindRanges.{IsNotInside, field_is}
+use Rattle.row_laws.proofs.Saying.{EachStands, Says, Stands, of_row}
+use Rattle.range_laws.proofs.VoteReads.{TextsAre, VoteIs, VoteSays}
 
 abbrev pub VoteTaken : Type 0
 VoteTaken = Taken (Value VoteValue)
@@ -53,6 +57,11 @@ only_certificates section.Certificate keyword name e = absurd (cc (e))
 only_certificates section.Entry keyword name e = absurd (cc (e))
 only_certificates section.Footer keyword name e = absurd (cc (e))
 
+-- so none begins another
+apart : (name : VoteSection) → (name ≡ section.Certificate → ⊥) → (keyword : Keyword)
+    → IsNotInside vote_tables name keyword
+apart name other keyword around one named begins = other (only_certificates around one name begins).0
+
 -- ---- items by their keywords
 
 -- what an item says by the row of its keyword, in another section than the certificate's
@@ -62,21 +71,6 @@ pub stands_for : (bytes : List ℕ) (name : VoteSection) (one : VoteTaken) (keyw
 stands_for bytes name one keyword own_row other there stands named =
     of_row vote_tables bytes name one keyword own_row
     (λ around begins. other (only_certificates around one.keyword name begins).0) there stands named
-
--- the same of the item of a keyword, where there is one
-pub item_says : (bytes : List ℕ) (P : Value VoteValue → Type 0) (name : VoteSection) (taken : List VoteTaken)
-    (keyword : Keyword) (own_row : Row VoteKind) → (name ≡ section.Certificate → ⊥)
-    → row_of (vote_tables.rows name) keyword ≡ Some own_row
-    → ((v : Value VoteValue) → VoteSays bytes own_row.kind v → P v) → EachVoteStands bytes name taken
-    → IfSome (item_at taken keyword) (λ one. P one.value)
-item_says bytes P name taken keyword own_row other there is each =
-    by (item_at taken keyword) (found vote_tables bytes name taken keyword each)
-  where
-    by : (one : Option VoteTaken) → IfSome one (λ o. VoteStands bytes name o × (same o.keyword keyword ≡ true))
-        → IfSome one (λ o. P o.value)
-    by None stands = tt
-    by (Some one) stands =
-        is one.value (stands_for bytes name one keyword own_row other there stands.0 stands.1)
 
 abbrev as_read : {V : Type 0} → V → Result V FrameFault
 as_read v = Ok v
@@ -117,3 +111,35 @@ opener_found name (first ∷ taken) begins =
         → is_some (if t then Some first else item_at taken (opener vote_tables name)) ≡ true
     by true is = refl
     by false is = absurd (cc (is))
+
+pub opener_there : (name : VoteSection) (taken : List VoteTaken) → BeginsWithOpener vote_tables name taken
+    → item_at taken (opener vote_tables name) ≡ None → ⊥
+opener_there name taken begins none =
+    false≢true (sym (ap is_some none) ∙ opener_found name taken begins)
+
+-- ---- what is kept of an item
+
+-- a section that was read of bytes, and is no certificate
+pub record IsReadSection (bytes : List ℕ) (name : VoteSection) (taken : List VoteTaken) : Type 0 where
+  pub are : IsBytes bytes
+  pub other : name ≡ section.Certificate → ⊥
+  pub each : EachVoteStands bytes name taken
+
+module _ {bytes : List ℕ} {name : VoteSection} {taken : List VoteTaken} (here : IsReadSection bytes name taken) where
+  -- what is kept of the item of a keyword is such as its kind says
+  pub kept_is : {A B : Type 0} {of : A → Value VoteValue} {Is : List ℕ → A → Type 0} {own : Row VoteKind}
+      (keyword : Keyword) → row_of (vote_tables.rows name) keyword ≡ Some own → VoteIs own.kind of Is
+      → (get : Option VoteTaken → B) (P : B → Type 0) → (item_at taken keyword ≡ None → P (get None))
+      → ((one : VoteTaken) (a : A) → Is bytes a → P (get (Some (record one { value = of a }))))
+      → P (get (item_at taken keyword))
+  kept_is {own = own} keyword there kind get P none some =
+      field_is vote_tables bytes here.are name taken here.each keyword own there (apart name here.other keyword) kind get
+      P none some
+
+  -- so is its text, where there is one
+  pub text_is : {own : Row VoteKind} (P : List ℕ → Type 0) (keyword : Keyword)
+      → row_of (vote_tables.rows name) keyword ≡ Some own → TextsAre own.kind P
+      → IfSome (option_map (part bytes) (text_if (item_at taken keyword))) P
+  text_is P keyword there texts =
+      kept_is keyword there texts (λ o. option_map (part bytes) (text_if o)) (λ o. IfSome o P) (λ none. tt)
+      (λ one span is. is)
