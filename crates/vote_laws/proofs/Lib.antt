@@ -30,6 +30,7 @@ pub mod VotePlaces
 pub mod VoteTail
 pub mod VoteRead
 pub mod VoteSays
+pub mod FactsSaid
 pub mod VoteSigned
 pub mod VoteAgain
 pub mod MadeTexts

@@ -1,21 +1,19 @@
 -- A vote that was written is read again.
-use Rattle.std.proofs.Common.{◌≡◌, ℕ, false, None, List, [], ◌∷◌, ◌++◌, length, take, drop, refl, sym, ap, subst}
+use Rattle.std.proofs.Common.{◌≡◌, ℕ, false, List, [], ◌∷◌, ◌++◌, length, take, drop, refl, sym, ap, subst}
 use Rattle.std.proofs.Common.{◌∙◌, append_assoc, append-nil}
 use Rattle.std.specs.Prelude.{◌&&◌, map}
 use Rattle.std.proofs.lemmas.List.{map-append}
 use Rattle.item_terms.specs.Words.{begins_dash}
 use Rattle.dirdoc_grammar.specs.Writing.{AreWritable, NewItem, is_open, items_text}
 use Rattle.frame_terms.specs.Keywords.{same}
-use Rattle.frame_terms.specs.declared.keyword.Keyword.TheVariants as the
 use Rattle.frame_values.proofs.ItemsTexts.{sections}
 use Rattle.frame_laws.proofs.Ends.{entries_to}
 use Rattle.frame_laws.proofs.Entries.{item_of}
 use Rattle.frame_laws.proofs.LastRows.{section_to_is_read}
 use Rattle.frame_laws.proofs.Places.{after_all-append}
-use Rattle.frame_laws.proofs.ReadRows.{Stand, both_stand, row_read}
-use Rattle.frame_laws.proofs.RowValues.{moment_said, text_if_said}
-use Rattle.frame_laws.proofs.SaidRows.{entries_of}
-use Rattle.frame_laws.proofs.Sections.{entries_in, section_is_read}
+use Rattle.frame_laws.proofs.ReadRows.{Stand, both_stand}
+use Rattle.frame_laws.proofs.SaidRows.{entries_of, row_once}
+use Rattle.frame_laws.proofs.Sections.{entries_in, rows_in, section_is_read}
 use Rattle.frame_laws.proofs.StandingParts.{between_stands}
 use Rattle.frame_laws.proofs.WrittenRows.{ends_with_text, stand_written, text_of_entries}
 use Rattle.authority_certs.specs.Texts.{cert_text}
@@ -23,28 +21,24 @@ use Rattle.certificate_laws.proofs.CertRows.{certificate_rows, certificate_same,
 use Rattle.certificate_laws.proofs.CertSays.{certificate_says, whole_is}
 use Rattle.vote_terms.specs.declared.facts.VoteFacts.{VoteFacts}
 use Rattle.vote_text.specs.Texts.{vote_text}
-use Rattle.vote_terms.specs.ListLines.{lists_in, vote_lists}
-use Rattle.value_groups.specs.declared.line.RandomLine.TheVariants as line
 use Rattle.vote_terms.specs.Votes.{max_vote}
 use Rattle.vote_frame.specs.Tables.{vote_tables}
 use Rattle.vote_frame.specs.declared.frame.VoteKind.TheVariants as kind
 use Rattle.vote_frame.specs.declared.frame.VoteSection.TheVariants.{Certificate}
 use Rattle.vote_frame.specs.declared.frame.VoteValue.{VoteValue}
 use Rattle.vote_laws.specs.Again.{IsInRange, IsReadBack, VotesAreReadAgain, as_read}
-use Rattle.vote_laws.proofs.EntryKept.{entries_say}
+use Rattle.certificate_laws.specs.Again.{as_written}
+use Rattle.vote_laws.proofs.EntryKept.{entries_say, kept_list}
+use Rattle.vote_laws.proofs.FactsSaid.{facts_said, front_read}
 use Rattle.vote_laws.proofs.Values.{values_in}
-use Rattle.vote_laws.proofs.VoteItems.{VoteEntry, list_kinds, signature_entry}
-use Rattle.group_laws.proofs.ListRows.{protocols_back, versions_back}
-use Rattle.vote_laws.proofs.VoteLists.{params_back}
+use Rattle.vote_laws.proofs.VoteItems.{VoteEntry, signature_entry}
 use Rattle.vote_laws.proofs.VotePlaces.{authority_place, certificate_place, entries_place, footer_place, vote_end}
-use Rattle.vote_laws.proofs.VotePlaces.{in_preamble, vote_kept}
+use Rattle.vote_laws.proofs.VotePlaces.{in_authority, in_certificate, in_footer, in_preamble, vote_kept}
 use Rattle.vote_laws.proofs.VoteRead.{closed, text_vote, used_of, vote_read}
 use Rattle.vote_laws.proofs.VoteRows.{authority, authority_written, certificate_row, footer, footer_ended}
 use Rattle.vote_laws.proofs.VoteRows.{has_certificate, preamble, preamble_written, signature_row}
-use Rattle.vote_laws.proofs.VoteRandoms.{kept_random, random_said}
 use Rattle.vote_laws.proofs.VoteSame.{footer_entries, in_cert, in_list, vote_entries, vote_same}
 use Rattle.vote_laws.proofs.VoteSigned.{begins_at, from_first, signed_is}
-use Rattle.vote_laws.proofs.VoteSays.{delays_said, flags_said, methods_said, signature_said, source_said}
 
 -- the items of a vote stand in its text
 all_stand : (facts : VoteFacts) → IsInRange facts → Stand max_vote (vote_text facts) 0 (vote_entries facts)
@@ -105,73 +99,19 @@ kept_says facts are =
     (subst (λ (l : List VoteEntry). Stand max_vote text at_a l)
     (sym (append_assoc a (one ∷ []) more)) from_p.back)).front in
     let ended = footer_ended facts.signature are.signature in
-    let preamble_read =
-    section_is_read vote_tables max_vote text 0 (preamble facts) [] (preamble_written facts (values_in facts are))
-    from_p.front in
+    let values = values_in facts are in
     let authority_read =
-    section_to_is_read vote_tables at_a (authority facts) certificate_row one
-    (authority_written facts (values_in facts are)) refl max_vote text to_one in
-    let footer_read =
-    section_to_is_read vote_tables (footer_place facts) footer signature_row
-    (signature_entry facts.signature) ended.written refl max_vote text from_e.back in
-    let l = facts.lists in
-    let lists : vote_lists text (lists_in (in_preamble facts)) ≡ l =
-    λ i. record {
-      client_versions =
-          versions_back list_kinds the.ClientVersions l.client_versions are.lists.client_versions
-          (row_read the.ClientVersions preamble_read refl) i;
-      server_versions =
-          versions_back list_kinds the.ServerVersions l.server_versions are.lists.server_versions
-          (row_read the.ServerVersions preamble_read refl) i;
-      recommended_client_protocols =
-          protocols_back list_kinds the.RecommendedClientProtocols l.recommended_client_protocols
-          are.lists.recommended_client_protocols (row_read the.RecommendedClientProtocols preamble_read refl) i;
-      recommended_relay_protocols =
-          protocols_back list_kinds the.RecommendedRelayProtocols l.recommended_relay_protocols
-          are.lists.recommended_relay_protocols (row_read the.RecommendedRelayProtocols preamble_read refl) i;
-      required_client_protocols =
-          protocols_back list_kinds the.RequiredClientProtocols l.required_client_protocols
-          are.lists.required_client_protocols (row_read the.RequiredClientProtocols preamble_read refl) i;
-      required_relay_protocols =
-          protocols_back list_kinds the.RequiredRelayProtocols l.required_relay_protocols
-          are.lists.required_relay_protocols (row_read the.RequiredRelayProtocols preamble_read refl) i;
-      params = params_back l.params are.lists.params (row_read the.Params preamble_read refl) i;
-    } in
-    let delays = delays_said facts.vote_seconds facts.dist_seconds (row_read the.VotingDelay preamble_read refl) in
-    let source = source_said facts (row_read the.DirSource authority_read refl) in
-    let certificate =
-    certificate_says vote_tables Certificate kind.Certificate has_certificate at_c facts.certificate
-    are.certificate.says max_vote text from_c.front (certificate_stands facts) in
-    λ i. record {
-      methods = methods_said facts.methods are.methods (row_read the.ConsensusMethods preamble_read refl) i;
-      published = moment_said _ facts.published are.published (row_read the.Published preamble_read refl) i;
-      valid_after = moment_said _ facts.valid_after are.valid_after (row_read the.ValidAfter preamble_read refl) i;
-      fresh_until = moment_said _ facts.fresh_until are.fresh_until (row_read the.FreshUntil preamble_read refl) i;
-      valid_until = moment_said _ facts.valid_until are.valid_until (row_read the.ValidUntil preamble_read refl) i;
-      vote_seconds = (delays i).0;
-      dist_seconds = (delays i).1;
-      known_flags = flags_said facts.known_flags are.known_flags (row_read the.KnownFlags preamble_read refl) i;
-      flag_thresholds = text_if_said _ facts.flag_thresholds (row_read the.FlagThresholds preamble_read refl) i;
-      lists = lists i;
-      nickname = source.nickname i;
-      identity = source.identity i;
-      address = source.address i;
-      ip = source.ip i;
-      dir_port = source.dir_port i;
-      or_port = source.or_port i;
-      contact = text_if_said _ facts.contact (row_read the.Contact authority_read refl) i;
-      random_previous =
-          kept_random (random_said line.Previous None (row_read the.SharedRandPreviousValue preamble_read refl))
-          (random_said line.Previous facts.random_previous
-          (row_read the.SharedRandPreviousValue authority_read refl)) i;
-      random_current =
-          kept_random (random_said line.Current None (row_read the.SharedRandCurrentValue preamble_read refl))
-          (random_said line.Current facts.random_current
-          (row_read the.SharedRandCurrentValue authority_read refl)) i;
-      certificate = certificate i;
-      entries = entries_say max_vote text at_e facts.entries are.entries.each from_e.front i;
-      signature = signature_said facts.signature (row_read the.DirectorySignature footer_read refl) i;
-    }
+    section_to_is_read vote_tables at_a (authority facts) certificate_row one (authority_written facts values) refl
+    max_vote text to_one in
+    facts_said facts values (in_preamble facts) (in_certificate facts) (in_authority facts) (in_footer facts)
+    (kept_list at_e facts.entries) (as_written facts.certificate)
+    (section_is_read vote_tables max_vote text 0 (preamble facts) [] (preamble_written facts values) from_p.front)
+    (front_read (rows_in (authority facts)) (row_once certificate_row one ∷ []) authority_read)
+    (section_to_is_read vote_tables (footer_place facts) footer signature_row
+    (signature_entry facts.signature) ended.written refl max_vote text from_e.back)
+    (certificate_says vote_tables Certificate kind.Certificate has_certificate at_c facts.certificate
+    are.certificate.says max_vote text from_c.front (certificate_stands facts))
+    (entries_say max_vote text at_e facts.entries are.entries.each from_e.front)
 
 -- ---- its bytes
 
