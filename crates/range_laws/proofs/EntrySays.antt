@@ -127,8 +127,8 @@ quiet_micro _ is = tt
 
 pub micro_says : {bytes : List ℕ} {v : Value VoteValue} → IsBytes bytes → (of : VoteKind) → VoteSays bytes of v
     → MicroIs v
-micro_says are (kind.Entry entry.Micro) says = says_so micro_is are MicroIs (λ line is. is) says
-micro_says are (kind.Entry entry.Relay) says = says_so relay_is are MicroIs (λ line is. tt) says
-micro_says are (kind.Entry entry.Ed) says = says_so opinion_is are MicroIs (λ opinion is. tt) says
-micro_says are (kind.Random line) says = says_so (random_is line) are MicroIs (λ read is. tt) says
-micro_says {v = v} are of says = quiet_micro v (kinds_pass says.remembered of says.item v refl says.says)
+micro_says {bytes} {v} are (kind.Entry entry.Micro) says = says_so micro_is are MicroIs (λ line is. is) says
+micro_says {bytes} {v} are (kind.Entry entry.Relay) says = says_so relay_is are MicroIs (λ line is. tt) says
+micro_says {bytes} {v} are (kind.Entry entry.Ed) says = says_so opinion_is are MicroIs (λ opinion is. tt) says
+micro_says {bytes} {v} are (kind.Random line) says = says_so (random_is line) are MicroIs (λ read is. tt) says
+micro_says {bytes} {v} are of says = quiet_micro v (kinds_pass says.remembered of says.item v refl says.says)
