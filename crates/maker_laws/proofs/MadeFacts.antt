@@ -22,6 +22,8 @@ use Rattle.vote_terms.specs.declared.facts.VoteFacts.{VoteFacts}
 use Rattle.vote_text.specs.Entries.{entries_items}
 use Rattle.vote_text.specs.Texts.{authority_items, footer_items, preamble_items}
 use Rattle.vote_laws.specs.Again.{AreEntriesInRange, AreFlags, AreMethods, HasValuesInRange, IsSignatureInRange}
+use Rattle.vote_laws.proofs.BareRows.{no_rests}
+use Rattle.vote_laws.proofs.VoteRows.{preamble_texts}
 use Rattle.range_laws.proofs.EntryTexts.{HasRests}
 use Rattle.range_laws.proofs.VoteTexts.{SaysWhole, vote_may}
 use Rattle.vote_maker.specs.Entries.{made_methods}
@@ -137,14 +139,9 @@ module _ (its : Basis) (rulings : List Ruling) (signature : List ℕ) (basis : I
 
   says : SaysWhole facts
   says = record {
-    methods = methods_ranged its.station.newest;
-    known_flags = flags_ranged;
-    flag_thresholds = tt;
-    lists = station.lists;
-    source = record { nickname = station.nickname; identity = station.identity; address = station.address };
+    values = values;
+    texts = no_rests (preamble_texts facts) refl;
     contact = station.contact;
-    random_previous = tt;
-    random_current = tt;
     certificate = station.certificate;
     keys = record {
       identity_key = station.keys.identity_key;
@@ -152,9 +149,7 @@ module _ (its : Basis) (rulings : List Ruling) (signature : List ℕ) (basis : I
       crosscert = station.keys.crosscert;
       certification = station.keys.certification;
     };
-    entries = entries.each;
     rests = rests;
-    signature = signed;
     signed = signing.bytes;
   }
 

@@ -1,16 +1,8 @@
 -- A made vote is read as what it was made to say.
 use Rattle.std.proofs.Common.{ℕ, List, [], ◌∷◌, ◌++◌, Option, Some, None, refl, sym, ap, subst}
-use Rattle.std.specs.Prelude.{All, codes, map, option_map}
-use Rattle.dir_bytes.specs.FieldTexts.{moment_text}
+use Rattle.std.specs.Prelude.{All, map, option_map}
 use Rattle.dir_values.specs.FlagSets.{set_text}
-use Rattle.dir_values.specs.Numbers.{numbers_text}
-use Rattle.list_values.specs.Params.{params_text}
-use Rattle.list_values.specs.Protocols.{protocols_text}
-use Rattle.list_values.specs.VersionLists.{versions_text}
-use Rattle.list_values.specs.declared.named.Named.{Named}
-use Rattle.value_groups.specs.Values.{random_text}
 use Rattle.relay_entries.specs.Texts.{bandwidths_text, ed_text}
-use Rattle.frame_values.specs.Parts.{moment_of}
 use Rattle.std.proofs.lemmas.List.Elements.{All-append, All-cons, All-nil, All-weaker}
 use Rattle.dirdoc_grammar.specs.Writing.{NewItem}
 use Rattle.frame_terms.specs.declared.keyword.Keyword.{Keyword}
@@ -21,7 +13,10 @@ use Rattle.flag_rules.specs.Flags.{flags_of}
 use Rattle.flag_rules.specs.Relays.{ruled_relays}
 use Rattle.flag_rules.specs.declared.ruling.Ruling.{Ruling}
 use Rattle.certificate_laws.specs.Given.{IsGiven}
+use Rattle.vote_laws.proofs.BareRows.{IsBare, no_rests}
+use Rattle.vote_laws.proofs.BareVotes.{before_bare}
 use Rattle.vote_laws.proofs.MadeAgain.{made_again}
+use Rattle.vote_laws.proofs.VoteRows.{preamble_texts}
 use Rattle.maker_laws.proofs.GivenCert.{certificates_are_given}
 use Rattle.station_input.specs.declared.facts.StationFacts.{StationFacts}
 use Rattle.maker_laws.specs.Lines.{HasShortLines}
@@ -31,11 +26,8 @@ use Rattle.maker_laws.proofs.StationKept.{station_in_range}
 use Rattle.vote_frame.specs.Tables.{vote_tables}
 use Rattle.vote_frame.specs.declared.frame.VoteSection.TheVariants as section
 use Rattle.vote_terms.specs.declared.entry.EntryFacts.{EntryFacts}
-use Rattle.vote_terms.specs.declared.facts.VoteFacts.{VoteFacts}
 use Rattle.vote_text.specs.Entries.{entries_items, entry_items, items_each, line_of, micro_line}
-use Rattle.vote_text.specs.Lists.{param_items, protocol_items, recommended_items, required_items, version_items}
-use Rattle.vote_text.specs.Texts.{authority_items, delays_text, flag_items, kind_items, preamble_items, random_items}
-use Rattle.vote_text.specs.Texts.{source_text, time_items}
+use Rattle.vote_text.specs.Texts.{authority_items, preamble_items}
 use Rattle.vote_maker.specs.Listings.{judged_relays}
 use Rattle.vote_maker.specs.Made.{Basis, relays_in}
 use Rattle.maker_laws.specs.Given.{IsBasis, IsDescriptor, StationsReadAreStations}
@@ -125,49 +117,6 @@ entries_none : (entries : List EntryFacts) → AreNone (entries_items entries)
 entries_none [] = none_of
 entries_none (entry ∷ entries) = entry_none entry & entries_none entries
 
-versions_none : (keyword : Keyword) (versions : Option (List (List ℕ)))
-    → AreNone (item_if keyword (option_map versions_text versions))
-versions_none keyword versions = none_if keyword (option_map versions_text versions)
-
-protocols_none : (keyword : Keyword) (protocols : Option (List (Named (List ℕ))))
-    → AreNone (item_if keyword (option_map protocols_text protocols))
-protocols_none keyword protocols = none_if keyword (option_map protocols_text protocols)
-
-preamble_none : (facts : VoteFacts) → AreNone (preamble_items facts)
-preamble_none facts =
-    let lists = facts.lists in
-    let kinds : AreNone (kind_items facts) =
-    bare_none the.NetworkStatusVersion (codes "3") & bare_none the.VoteStatus (codes "vote")
-    & none_if the.ConsensusMethods (option_map numbers_text facts.methods) in
-    let times : AreNone (time_items facts) =
-    bare_none the.Published (moment_text (moment_of facts.published))
-    & bare_none the.ValidAfter (moment_text (moment_of facts.valid_after))
-    & bare_none the.FreshUntil (moment_text (moment_of facts.fresh_until))
-    & bare_none the.ValidUntil (moment_text (moment_of facts.valid_until))
-    & bare_none the.VotingDelay (delays_text facts) in
-    let versions : AreNone (version_items lists) =
-    versions_none the.ClientVersions lists.client_versions & versions_none the.ServerVersions lists.server_versions in
-    let flags : AreNone (flag_items facts) =
-    bare_none the.KnownFlags (set_text facts.known_flags) & none_if the.FlagThresholds facts.flag_thresholds in
-    let recommended : AreNone (recommended_items lists) =
-    protocols_none the.RecommendedClientProtocols lists.recommended_client_protocols
-    & protocols_none the.RecommendedRelayProtocols lists.recommended_relay_protocols in
-    let required : AreNone (required_items lists) =
-    protocols_none the.RequiredClientProtocols lists.required_client_protocols
-    & protocols_none the.RequiredRelayProtocols lists.required_relay_protocols in
-    let protocols : AreNone (protocol_items lists) = recommended & required in
-    let params : AreNone (param_items lists.params) = none_if the.Params (option_map params_text lists.params) in
-    kinds & times & versions & flags & protocols & params
-
-before_none : (facts : VoteFacts) → All HasNone (preamble_items facts ++ authority_items facts)
-before_none facts =
-    let randoms : AreNone (random_items facts) =
-    none_if the.SharedRandPreviousValue (option_map random_text facts.random_previous)
-    & none_if the.SharedRandCurrentValue (option_map random_text facts.random_current) in
-    let authority : AreNone (authority_items facts) =
-    bare_none the.DirSource (source_text facts) & (none_if the.Contact facts.contact & randoms) in
-    (preamble_none facts & authority).each
-
 -- ---- the law
 
 -- the lines of what a station is given are short
@@ -211,4 +160,6 @@ read_as_made law front its rulings signature rest few basis signing fits =
     (made_in_range facts its.station.certificate_bytes signing.short may fits
     (before_short its rulings signature may.values (made_lines its rulings signature basis))
     (made_short its.station.newest relays judged)
-    (before_none facts) (entries_none facts.entries).each)
+    (All-weaker IsBare HasNone (λ item is. is.none) (preamble_items facts ++ authority_items facts)
+    (before_bare facts may.values (no_rests (preamble_texts facts) refl) station.contact))
+    (entries_none facts.entries).each)

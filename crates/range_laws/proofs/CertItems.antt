@@ -15,7 +15,7 @@ use Rattle.frame_laws.proofs.WordTexts.{word_of_identity}
 use Rattle.authority_certs.specs.Texts.{cert_items, holder_items, key_items, proof_items}
 use Rattle.authority_certs.specs.declared.cert.Cert.{Cert}
 use Rattle.certificate_laws.specs.Again.{SaysInRange}
-use Rattle.range_laws.proofs.MayWrite.{MayWrite, bare_may, first_may, if_may, none_may, object_may, timed_may, two_may}
+use Rattle.vote_laws.proofs.MayWrite.{MayWrite, bare_may, first_may, if_may, none_may, object_may, timed_may, two_may}
 
 -- the keys and signatures are bytes
 pub record HasBytes (cert : Cert) : Type 0 where

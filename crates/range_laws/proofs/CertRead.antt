@@ -18,7 +18,7 @@ use Rattle.range_laws.specs.Certificates.{CertificatesReadAreInRange, Certificat
 use Rattle.range_laws.specs.Certificates.{IsInRangeButForLimits}
 use Rattle.range_laws.proofs.CertItems.{cert_may}
 use Rattle.range_laws.proofs.CertRanges.{HaveCertificates, has_bytes, nothing_says, section_says}
-use Rattle.range_laws.proofs.MayWrite.{MayWrite}
+use Rattle.vote_laws.proofs.MayWrite.{MayWrite}
 
 abbrev itself : CertKind → CertKind
 itself kind = kind

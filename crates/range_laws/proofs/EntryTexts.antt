@@ -26,7 +26,7 @@ use Rattle.vote_terms.specs.declared.entry.MicroFacts.{MicroFacts}
 use Rattle.vote_text.specs.Entries.{entries_items, entry_items, flag_items, items_each, line_of, micro_items}
 use Rattle.vote_text.specs.Entries.{micro_line, relay_items}
 use Rattle.vote_laws.specs.Again.{AreEntryFlags, IsEntryInRange, IsMicroInRange}
-use Rattle.range_laws.proofs.MayWrite.{MayWrite, bare_may, first_may, if_may, none_may}
+use Rattle.vote_laws.proofs.MayWrite.{MayWrite, bare_may, first_may, if_may, none_may}
 
 -- the texts of an entry that are rests of lines are such
 pub record HasRests (entry : EntryFacts) : Type 0 where

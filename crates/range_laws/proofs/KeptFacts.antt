@@ -1,23 +1,27 @@
 -- What is kept of a vote says what is in range, and its items may be written.
 use Rattle.std.proofs.Common.{ℕ, List, map, Option, Some, None, arith}
-use Rattle.std.specs.Prelude.{IfSome, option_map}
+use Rattle.std.specs.Prelude.{All, IfSome, option_map}
 use Rattle.std.proofs.lemmas.List.Elements.{All-map, All-weaker}
 use Rattle.base64.specs.GeneralPurpose.{IsBytes}
 use Rattle.item_terms.specs.Words.{words_of}
 use Rattle.dir_values.specs.FlagSets.{as_set}
 use Rattle.dir_values.specs.Numbers.{number_in, numbers_in}
 use Rattle.dir_values.proofs.Flags.{Ascend-as_set}
+use Rattle.grammar_laws.specs.Written.{IsItem}
 use Rattle.frame_values.specs.Parts.{part}
 use Rattle.frame_values.specs.declared.found.Span.{Span}
 use Rattle.value_laws.specs.Ranges.{AreProtocolsInRange, AreVersionsInRange}
 use Rattle.value_groups.specs.Listed.{params_in, protocols_in, versions_in}
+use Rattle.certificate_laws.specs.Again.{SaysInRange}
+use Rattle.vote_terms.specs.declared.facts.VoteFacts.{VoteFacts}
+use Rattle.vote_text.specs.Texts.{vote_items}
 use Rattle.vote_entries.specs.Entries.{entry_in}
 use Rattle.vote_doc.specs.Facts.{facts_of}
 use Rattle.vote_terms.specs.ListLines.{vote_lists}
 use Rattle.vote_doc.specs.declared.kept.Kept.{Kept}
 use Rattle.vote_terms.specs.declared.list_lines.ListSpans.{ListSpans}
 use Rattle.vote_laws.specs.Again.{AreEntriesInRange, AreFlags, AreListsInRange, AreMethods, AreVoteParams}
-use Rattle.vote_laws.specs.Again.{IsEntryInRange, IsSignatureInRange}
+use Rattle.vote_laws.specs.Again.{HasValuesInRange, IsSignatureInRange}
 use Rattle.row_laws.proofs.ReadBytes.{object_bytes}
 use Rattle.range_laws.specs.Votes.{IsInRangeButForLimits}
 use Rattle.range_laws.proofs.CertRanges.{has_bytes}
@@ -57,6 +61,33 @@ params_few : (text : List ℕ) → AreFew 1024 text → AreVoteParams (params_in
 params_few text few =
     let are = params_ranged text in record { count = omega (arith, few, are.1); each = are.0 }
 
+-- what says what can be read, with its certificate and its items, is in range but for the limits
+but_for_limits : (facts : VoteFacts) → HasValuesInRange facts → SaysInRange facts.certificate
+    → All IsItem (vote_items facts) → IsInRangeButForLimits facts
+but_for_limits facts are certificate items = record {
+  methods = are.methods;
+  published = are.published;
+  valid_after = are.valid_after;
+  fresh_until = are.fresh_until;
+  valid_until = are.valid_until;
+  vote_seconds = are.vote_seconds;
+  dist_seconds = are.dist_seconds;
+  known_flags = are.known_flags;
+  lists = are.lists;
+  nickname = are.nickname;
+  identity = are.identity;
+  address = are.address;
+  ip = are.ip;
+  dir_port = are.dir_port;
+  or_port = are.or_port;
+  random_previous = are.random_previous;
+  random_current = are.random_current;
+  certificate = certificate;
+  entries = are.entries;
+  signature = are.signature;
+  items = items;
+}
+
 module _ (bytes : List ℕ) where
   versions_at : (span : Option Span) → IfSome (option_map versions_in (option_map (part bytes) span)) AreVersionsInRange
   versions_at span =
@@ -93,11 +124,9 @@ module _ (bytes : List ℕ) where
       let lists = lists_ranged kept.head.lists head.preamble.params in
       let signature : IsSignatureInRange (facts_of bytes kept).signature =
       record { identity = head.signature.0; key_digest = head.signature.1 } in
-      let each = All-map IsEntryInRange (entry_in bytes) kept.entries
-      (All-weaker (IsKept bytes) (λ e. IsEntryInRange (entry_in bytes e)) (λ e is. is.says) kept.entries entries.each) in
       let rests = All-map entry.HasRests (entry_in bytes) kept.entries
       (All-weaker (IsKept bytes) (λ e. entry.HasRests (entry_in bytes e)) (λ e is. is.rests) kept.entries entries.each) in
-      record {
+      let values : HasValuesInRange (facts_of bytes kept) = record {
         methods = methods;
         published = omega arith;
         valid_after = omega arith;
@@ -115,27 +144,16 @@ module _ (bytes : List ℕ) where
         or_port = authority.source.or_port;
         random_previous = head.randoms.previous;
         random_current = head.randoms.current;
-        certificate = head.certificate;
         entries = ranged;
         signature = signature;
-        items = vote_may (facts_of bytes kept) (record {
-          methods = methods;
-          known_flags = flags;
-          flag_thresholds = head.preamble.flag_thresholds;
-          lists = lists;
-          source = record {
-            nickname = authority.source.nickname;
-            identity = authority.source.identity;
-            address = authority.source.address;
-          };
-          contact = authority.contact;
-          random_previous = head.randoms.previous;
-          random_current = head.randoms.current;
-          certificate = head.certificate;
-          keys = has_bytes bytes kept.head.certificate are;
-          entries = each;
-          rests = rests;
-          signature = signature;
-          signed = object_bytes bytes kept.head.signature.signature are;
-        });
-      }
+      } in
+      but_for_limits (facts_of bytes kept) values head.certificate
+      (vote_may (facts_of bytes kept) (record {
+        values = values;
+        texts = head.preamble.texts;
+        contact = authority.contact;
+        certificate = head.certificate;
+        keys = has_bytes bytes kept.head.certificate are;
+        rests = rests;
+        signed = object_bytes bytes kept.head.signature.signature are;
+      }))

@@ -1,5 +1,5 @@
 -- What is kept of a vote's sections that are no entries says what is in range.
-use Rattle.std.proofs.Common.{◌≡◌, ◌⊎◌, ℕ, ◌≤◌, List, [], ◌∷◌, Option, Some, refl, arith, inl, inr}
+use Rattle.std.proofs.Common.{◌≡◌, ◌⊎◌, ℕ, ◌≤◌, List, [], ◌∷◌, map, Option, Some, refl, arith, inl, inr}
 use Rattle.std.specs.Prelude.{IfSome, option_map}
 use Rattle.std.proofs.lemmas.List.Elements.{All-nil}
 use Rattle.base64.specs.GeneralPurpose.{IsBytes}
@@ -17,6 +17,7 @@ use Rattle.frame_values.specs.Values.{item_at, text_if, text_in}
 use Rattle.frame_values.specs.declared.found.DirSource.{DirSource}
 use Rattle.frame_values.specs.declared.found.Span.{Span}
 use Rattle.frame_values.specs.declared.values.Value.{Value}
+use Rattle.frame_laws.proofs.Both.{both_hold}
 use Rattle.value_groups.specs.declared.line.RandomLine.{RandomLine}
 use Rattle.value_groups.specs.declared.line.RandomLine.TheVariants as line
 use Rattle.value_groups.specs.declared.value.SharedRandom.{SharedRandom}
@@ -34,6 +35,7 @@ use Rattle.vote_doc.specs.Kept.{kept_with, none_kept}
 use Rattle.vote_doc.specs.Saying.{delays_in, random_in, signature_in, source_in}
 use Rattle.vote_doc.specs.declared.head.Head.{Head}
 use Rattle.vote_doc.specs.declared.kept.Kept.{Kept}
+use Rattle.vote_laws.proofs.BareRows.{AreRests}
 use Rattle.document_laws.specs.Order.{BeginsWithOpener}
 use Rattle.row_laws.proofs.ReadBytes.{twenty_zeros}
 use Rattle.range_laws.proofs.CertRanges.{HaveCertificates, nothing_says, section_says}
@@ -55,20 +57,20 @@ HasAuthority (g ∷ groups) = (g.section ≡ section.Authority) ⊎ HasAuthority
 
 module _ (bytes : List ℕ) where
   -- of the preamble, where its texts stand and its numbers of seconds
-  pub record PreambleIs (methods_at : Option Span) (vote dist : ℕ) (flags_at : Span)
-      (thresholds_at params_at : Option Span) : Type 0 where
+  pub record PreambleIs (methods_at : Option Span) (vote dist : ℕ) (flags_at : Span) (params_at : Option Span)
+      (texts_at : List (Option Span)) : Type 0 where
     pub methods : IfSome (option_map (part bytes) methods_at) (AreFew 64)
     pub vote_seconds : vote ≤ 4294967295
     pub dist_seconds : dist ≤ 4294967295
     pub known_flags : AreKnown (part bytes flags_at)
-    pub flag_thresholds : IfSome (option_map (part bytes) thresholds_at) IsLineRest
     pub params : IfSome (option_map (part bytes) params_at) (AreFew 1024)
+    pub texts : AreRests (map (option_map (part bytes)) texts_at)
 
   -- Of what is kept of it: the same of every head that has these, so that it stays where another section is read.
   abbrev pub PreambleOf : Head → Type 0
   PreambleOf head =
-      PreambleIs head.methods head.vote_seconds head.dist_seconds head.known_flags head.flag_thresholds
-      head.lists.params
+      PreambleIs head.methods head.vote_seconds head.dist_seconds head.known_flags head.lists.params
+      (head.flag_thresholds ∷ [])
 
   -- of its shared random values
   pub record RandomsAre (previous_is current_is : Option SharedRandom) : Type 0 where
@@ -118,8 +120,8 @@ module _ (bytes : List ℕ) where
         dist_seconds = delays.1;
         known_flags = kept_is here the.KnownFlags refl flags_are (λ o. part bytes (text_in (text_if o))) AreKnown
             (λ none. no_flags) (λ one span is. is);
-        flag_thresholds = text_is here IsLineRest the.FlagThresholds refl rests_are;
         params = text_is here (AreFew 1024) the.Params refl params_are;
+        texts = both_hold (text_is here IsLineRest the.FlagThresholds refl rests_are) tt;
       }
 
   -- the shared random value that a section has on a line

@@ -1,7 +1,6 @@
 pub mod ReadNames
 pub mod ReadLists
 pub mod ValueTexts
-pub mod MayWrite
 pub mod CertItems
 pub mod CertRanges
 pub mod CertRead

@@ -19,6 +19,8 @@ use Rattle.vote_text.specs.Texts.{preamble_items}
 use Rattle.vote_terms.specs.Votes.{max_vote}
 use Rattle.vote_laws.specs.Again.{AreFlags, AreListsInRange, AreMethods, HasValuesInRange, IsSignatureInRange}
 use Rattle.vote_laws.specs.Made.{IsMadeInRange}
+use Rattle.vote_laws.proofs.BareRows.{no_rests}
+use Rattle.vote_laws.proofs.VoteRows.{preamble_texts}
 use Rattle.range_laws.proofs.VoteTexts.{SaysWhole, vote_may}
 use Rattle.vote_rehearsal.specs.Authorities.{authority_of}
 use Rattle.vote_rehearsal.specs.Certificates.{certificate_bytes, certificate_of}
@@ -119,23 +121,12 @@ module _ (seed n : â„•) (relays : List Relay) (small : seed < 2 ^ 64) (few : n â
   says : SaysWhole facts
   unfolding facts_of
   says = record {
-    methods = methods_are;
-    known_flags = flags_are;
-    flag_thresholds = tt;
-    lists = lists_are;
-    source = record {
-      nickname = authority_named n few;
-      identity = twenty (seeded_word (codes "authority-") n seed);
-      address = host_is n;
-    };
+    values = values;
+    texts = no_rests (preamble_texts facts) refl;
     contact = tt;
-    random_previous = tt;
-    random_current = tt;
     certificate = cert_says seed n small few;
     keys = cert_bytes seed n small few;
-    entries = (entries_ranged n relays all before few_relays).each;
     rests = entries_rest n relays all;
-    signature = signed;
     signed = (thirty_two (codes "test-sig" ++ one.signing_key ++ sha1 (signed_text relays one))).each;
   }
 

@@ -15,13 +15,16 @@ pub mod Values
 pub mod WrittenSources
 pub mod WrittenValues
 pub mod VoteItems
+pub mod MayWrite
 pub mod VoteLists
 pub mod VoteRandoms
+pub mod BareRows
 pub mod VoteRows
 pub mod EntryItems
 pub mod EntryRows
 pub mod EntrySame
 pub mod VoteSame
+pub mod BareVotes
 pub mod Heard
 pub mod EntryNotes
 pub mod EntrySays

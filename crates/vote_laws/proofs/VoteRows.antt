@@ -1,7 +1,9 @@
 -- A vote, row by row of its sections' tables.
 use Rattle.std.proofs.Common.{◌≡◌, ℕ, true, List, [], ◌∷◌, ◌++◌, Option, Some, None, refl}
 use Rattle.std.specs.Prelude.{IfSome, codes, option_map}
+use Rattle.dirdoc_grammar.specs.Writing.{IsLineRest}
 use Rattle.dir_values.specs.FlagSets.{set_text}
+use Rattle.grammar_laws.proofs.LineRests.{rest_of_argument}
 use Rattle.frame_terms.specs.Keywords.{same}
 use Rattle.frame_terms.specs.Rows.{row}
 use Rattle.frame_terms.specs.declared.keyword.Keyword.TheVariants as the
@@ -15,8 +17,10 @@ use Rattle.frame_laws.proofs.RowValues.{row_if, text_entry, silent_entry}
 use Rattle.frame_laws.proofs.SaidRows.{AreSaid, IsSaid, row_once}
 use Rattle.frame_laws.proofs.Sections.{IsWritten}
 use Rattle.frame_laws.proofs.TableRows.{are_plain}
+use Rattle.frame_laws.proofs.WordTexts.{words_of_flags}
 use Rattle.group_laws.proofs.TimeRows.{Times, times_said}
 use Rattle.group_laws.proofs.TimeRows as group
+use Rattle.value_laws.proofs.LineWords.{rest_of_words}
 use Rattle.authority_certs.specs.declared.cert.Cert.{Cert}
 use Rattle.certificate_laws.proofs.CertRows.{HasCertificates, certificate_rows}
 use Rattle.vote_terms.specs.declared.facts.SignatureFacts.{SignatureFacts}
@@ -30,6 +34,8 @@ use Rattle.vote_frame.specs.declared.frame.VoteKind.TheVariants as kind
 use Rattle.vote_frame.specs.declared.frame.VoteValue.TheVariants as own
 use Rattle.vote_frame.specs.declared.frame.VoteSection.TheVariants.{Authority, Certificate, Footer, Preamble}
 use Rattle.vote_laws.specs.Again.{AreMethods, HasValuesInRange, IsSignatureInRange}
+use Rattle.vote_laws.proofs.BareRows.{AreRests, RowsAreBare, both_bare, methods_bare, moment_bare, once_bare}
+use Rattle.vote_laws.proofs.BareRows.{params_bare, protocols_bare, random_bare, text_bare, times_bare, versions_bare}
 use Rattle.vote_laws.proofs.VoteLists.{both_said, param_rows, params_said, protocol_rows, protocols_said, version_rows}
 use Rattle.vote_laws.proofs.VoteLists.{versions_said}
 use Rattle.vote_laws.proofs.VoteItems.{VotePart, VoteRow, has_times, moment_row, rest_if, said_moment, said_rest_if}
@@ -83,7 +89,7 @@ preamble_rows facts =
     kind_rows facts ++ (time_rows facts ++ (version_rows facts.lists ++ (flag_rows facts ++ later_rows facts.lists)))
 
 -- shared random values are written behind the contact
-abbrev no_randoms : List VoteRow
+abbrev pub no_randoms : List VoteRow
 no_randoms = random_row line.Previous None ∷ random_row line.Current None ∷ []
 
 abbrev pub preamble : VoteFacts → VotePart
@@ -114,6 +120,27 @@ preamble_said facts are =
     (both_said (version_rows lists) (flag_rows facts ++ later_rows lists) (versions_said lists are.lists)
     (both_hold (said_once vote_tables _ _ (suits_flags facts.known_flags are.known_flags))
     (both_hold (said_rest_if the.FlagThresholds facts.flag_thresholds) later))))))
+
+-- its texts that stand as they are
+abbrev pub preamble_texts : VoteFacts → List (Option (List ℕ))
+preamble_texts facts = facts.flag_thresholds ∷ []
+
+-- its items may be written, and have no objects
+pub preamble_bare : (facts : VoteFacts) → HasValuesInRange facts → AreRests (preamble_texts facts)
+    → RowsAreBare (preamble_rows facts)
+preamble_bare facts are texts =
+    let lists = facts.lists in
+    let flags = rest_of_words facts.known_flags (words_of_flags facts.known_flags are.known_flags.each) in
+    both_hold (once_bare the.VoteStatus (codes "vote") (rest_of_argument (codes "vote") refl))
+    (both_hold (methods_bare facts.methods are.methods)
+    (both_hold (moment_bare the.Published facts.published)
+    (both_bare (times_rows facts) (version_rows lists ++ (flag_rows facts ++ later_rows lists))
+    (times_bare (times_of facts))
+    (both_bare (version_rows lists) (flag_rows facts ++ later_rows lists) (versions_bare lists are.lists)
+    (both_hold (once_bare the.KnownFlags (set_text facts.known_flags) flags)
+    (both_hold (text_bare the.FlagThresholds facts.flag_thresholds texts.0)
+    (both_bare (protocol_rows lists) (param_rows lists) (protocols_bare lists are.lists)
+    (params_bare lists are.lists))))))))
 
 pub preamble_written : (facts : VoteFacts) → HasValuesInRange facts → IsWritten vote_tables (preamble facts) []
 unfolding same
@@ -161,6 +188,14 @@ authority_written facts are = record {
       (both_hold (said_random line.Previous facts.random_previous are.random_previous)
       (both_hold (said_random line.Current facts.random_current are.random_current) tt));
 }
+
+-- the same of its items behind the first
+pub authority_bare : (facts : VoteFacts) → HasValuesInRange facts → IfSome facts.contact IsLineRest
+    → RowsAreBare (authority facts).middle
+authority_bare facts are contact =
+    both_hold (text_bare the.Contact facts.contact contact)
+    (both_hold (random_bare line.Previous facts.random_previous are.random_previous)
+    (both_hold (random_bare line.Current facts.random_current are.random_current) tt))
 
 pub authority_follows : MayFollow vote_tables Preamble Authority (row the.DirSource One kind.Source)
 unfolding same
