@@ -19,7 +19,9 @@ pub mod MayWrite
 pub mod VoteLists
 pub mod VoteRandoms
 pub mod BareRows
+pub mod VoteSays
 pub mod VoteRows
+pub mod VoteWritten
 pub mod EntryItems
 pub mod EntryRows
 pub mod EntrySame
@@ -32,8 +34,6 @@ pub mod EntryKept
 pub mod VotePlaces
 pub mod VoteTail
 pub mod VoteRead
-pub mod VoteSays
-pub mod FactsSaid
 pub mod VoteSigned
 pub mod VoteAgain
 pub mod MadeTexts

@@ -17,9 +17,9 @@ use Rattle.vote_doc.specs.Heads.{signed_to}
 use Rattle.vote_doc.specs.declared.kept.Kept.{Kept}
 use Rattle.vote_frame.specs.Tables.{vote_tables}
 use Rattle.vote_frame.specs.declared.frame.VoteValue.{VoteValue}
-use Rattle.vote_laws.proofs.VoteItems.{signature_entry}
+use Rattle.vote_laws.proofs.VoteItems.{signature_entry, signature_row}
 use Rattle.vote_laws.proofs.VotePlaces.{VoteTaken, end_from, footer_from}
-use Rattle.vote_laws.proofs.VoteRows.{footer, footer_ended, signature_row}
+use Rattle.vote_laws.proofs.VoteRows.{footer}
 use Rattle.vote_laws.proofs.VoteSame.{in_list}
 use Rattle.vote_laws.proofs.VoteSigned.{from_first}
 use Rattle.certificate_laws.specs.Within.{SayTheSame}
@@ -30,6 +30,7 @@ use Rattle.vote_laws.proofs.MadeKept.{made_place}
 use Rattle.vote_laws.proofs.MadeRead.{InVote, ends_at, given_first, given_kept, given_taken, made_read, made_vote}
 use Rattle.vote_laws.proofs.MadeSays.{made_says}
 use Rattle.vote_laws.proofs.MadeTexts.{before_text, behind_text, signed_parts, text_parts, unsigned_behind}
+use Rattle.vote_laws.proofs.VoteWritten.{footer_ended}
 
 module _ (facts : VoteFacts) (bytes : List ℕ) (stand : InVote facts bytes)
     (first : first_is is_letter_or_digit bytes ≡ true) (are : IsMadeInRange facts bytes) where

@@ -39,8 +39,7 @@ use Rattle.vote_laws.proofs.VoteItems.{VoteEntry, signature_entry, suits_source,
 use Rattle.vote_laws.proofs.VotePlaces.{VoteDocument, VoteTaken, authority_place, certificate_place, end_from}
 use Rattle.vote_laws.proofs.VotePlaces.{in_preamble}
 use Rattle.vote_laws.proofs.VoteRead.{authority_notes, authority_whole, has_object, preamble_quiet}
-use Rattle.vote_laws.proofs.VoteRows.{authority, authority_follows, authority_written, certificate_row, footer}
-use Rattle.vote_laws.proofs.VoteRows.{preamble, preamble_first, preamble_written}
+use Rattle.vote_laws.proofs.VoteRows.{authority, certificate_row, footer, preamble}
 use Rattle.vote_laws.proofs.VoteSame.{footer_entries, in_list}
 use Rattle.vote_laws.proofs.VoteTail.{remembered, tail_read}
 use Rattle.grammar_laws.specs.Moved.{moved_item}
@@ -51,6 +50,7 @@ use Rattle.vote_laws.proofs.MadeKept.{in_authority_alone, lacking_same, made_all
 use Rattle.vote_laws.proofs.MadeKept.{made_place}
 use Rattle.vote_laws.proofs.MadeTexts.{before_entries, before_same, before_text, behind_entries, behind_same}
 use Rattle.vote_laws.proofs.MadeTexts.{behind_text, text_parts, writable_at}
+use Rattle.vote_laws.proofs.VoteWritten.{authority_follows, authority_written, preamble_first, preamble_written}
 
 -- the bytes of a certificate stand in a vote
 abbrev pub InVote : VoteFacts → List ℕ → Type 0

@@ -15,17 +15,16 @@ use Rattle.vote_text.specs.Made.{made_text}
 use Rattle.vote_terms.specs.Votes.{max_vote}
 use Rattle.vote_frame.specs.Tables.{vote_tables}
 use Rattle.vote_laws.proofs.EntryKept.{entries_say, kept_list}
-use Rattle.vote_laws.proofs.FactsSaid.{facts_said}
-use Rattle.vote_laws.proofs.VoteItems.{signature_entry}
+use Rattle.vote_laws.proofs.VoteRows.{authority, certificate_row, facts_said, footer, preamble}
+use Rattle.vote_laws.proofs.VoteItems.{signature_entry, signature_row}
 use Rattle.vote_laws.proofs.VotePlaces.{authority_place, footer_from, footer_taken, in_preamble}
-use Rattle.vote_laws.proofs.VoteRows.{authority, authority_written, certificate_row, footer, footer_ended, preamble}
-use Rattle.vote_laws.proofs.VoteRows.{preamble_written, signature_row}
 use Rattle.vote_laws.proofs.VoteSame.{footer_entries, in_list}
 use Rattle.vote_laws.specs.Made.{IsMadeInRange}
 use Rattle.vote_laws.proofs.MadeKept.{in_authority_alone, made_place}
 use Rattle.vote_laws.proofs.MadeRead.{InVote, before_closed, before_may, behind_closed, behind_may, given_first}
 use Rattle.vote_laws.proofs.MadeRead.{given_taken, made_vote}
 use Rattle.vote_laws.proofs.MadeTexts.{before_entries, before_text, behind_entries, behind_text, text_parts}
+use Rattle.vote_laws.proofs.VoteWritten.{authority_written, footer_ended, preamble_written}
 
 module _ (facts : VoteFacts) (bytes : List ℕ) (first : first_is is_letter_or_digit bytes ≡ true)
     (are : IsMadeInRange facts bytes) where

@@ -29,16 +29,15 @@ use Rattle.vote_frame.specs.declared.frame.VoteValue.{VoteValue}
 use Rattle.vote_laws.specs.Again.{IsInRange, IsReadBack, VotesAreReadAgain, as_read}
 use Rattle.certificate_laws.specs.Again.{as_written}
 use Rattle.vote_laws.proofs.EntryKept.{entries_say, kept_list}
-use Rattle.vote_laws.proofs.FactsSaid.{facts_said, front_read}
+use Rattle.vote_laws.proofs.VoteRows.{authority, certificate_row, facts_said, footer, front_read, preamble}
 use Rattle.vote_laws.proofs.Values.{values_in}
-use Rattle.vote_laws.proofs.VoteItems.{VoteEntry, signature_entry}
-use Rattle.vote_laws.proofs.VotePlaces.{authority_place, certificate_place, entries_place, footer_place, vote_end}
-use Rattle.vote_laws.proofs.VotePlaces.{in_authority, in_certificate, in_footer, in_preamble, vote_kept}
+use Rattle.vote_laws.proofs.VoteItems.{VoteEntry, signature_entry, signature_row}
+use Rattle.vote_laws.proofs.VotePlaces.{authority_place, certificate_place, entries_place, footer_place, in_authority}
+use Rattle.vote_laws.proofs.VotePlaces.{in_certificate, in_footer, in_preamble, vote_end, vote_kept}
 use Rattle.vote_laws.proofs.VoteRead.{closed, text_vote, used_of, vote_read}
-use Rattle.vote_laws.proofs.VoteRows.{authority, authority_written, certificate_row, footer, footer_ended}
-use Rattle.vote_laws.proofs.VoteRows.{has_certificate, preamble, preamble_written, signature_row}
 use Rattle.vote_laws.proofs.VoteSame.{footer_entries, in_cert, in_list, vote_entries, vote_same}
 use Rattle.vote_laws.proofs.VoteSigned.{begins_at, from_first, signed_is}
+use Rattle.vote_laws.proofs.VoteWritten.{authority_written, footer_ended, has_certificate, preamble_written}
 
 -- the items of a vote stand in its text
 all_stand : (facts : VoteFacts) → IsInRange facts → Stand max_vote (vote_text facts) 0 (vote_entries facts)

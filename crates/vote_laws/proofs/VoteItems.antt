@@ -1,6 +1,6 @@
 -- Each item of a vote that is written says what its row asks for.
 use Rattle.std.proofs.Common.{◌≡◌, ℕ, false, List, [], length, Option, Some, None, Result, Ok, refl, ap, ◌∙◌}
-use Rattle.std.specs.Prelude.{codes}
+use Rattle.std.specs.Prelude.{codes, option_map}
 use Rattle.dir_values.specs.FlagSets.{set_text}
 use Rattle.dirdoc_grammar.specs.Writing.{written}
 use Rattle.frame_terms.specs.Rows.{row}
@@ -149,6 +149,10 @@ said_rest_if keyword text = rests.said_rest_if has_rests keyword text
 
 -- ---- lists
 
+-- its methods, where it names them
+abbrev pub methods_if : Option (List ℕ) → VoteRow
+methods_if methods = row_if (row the.ConsensusMethods Optional kind.Methods) (option_map numbers_text methods)
+
 pub suits_methods : (methods : List ℕ) → AreMethods methods
     → SuitsVote (row the.ConsensusMethods Optional kind.Methods)
     (text_entry the.ConsensusMethods (numbers_text methods))
@@ -198,3 +202,6 @@ suits_signature s identity key =
     suits_reading has_signature the.DirectorySignature One (signature_entry s)
     (λ p. signature_at p the.DirectorySignature s) refl (λ p. refl) (λ p. refl)
     (λ across p. signature-written p the.DirectorySignature s identity key)
+
+abbrev pub signature_row : Row VoteKind
+signature_row = row the.DirectorySignature One kind.Signature

@@ -59,11 +59,11 @@ use Rattle.vote_laws.proofs.VoteRandoms.{notes_randoms, random_if}
 use Rattle.vote_laws.proofs.VotePlaces.{VoteDocument, VoteTaken, all_kept, authority_place, certificate_place}
 use Rattle.vote_laws.proofs.VotePlaces.{entries_place, in_certificate, in_footer, in_preamble, section_quiet}
 use Rattle.vote_laws.proofs.VotePlaces.{section_to_quiet, sections_of, vote_document, vote_end, vote_kept}
-use Rattle.vote_laws.proofs.VoteRows.{authority, authority_follows, authority_written, certificate_row, footer}
-use Rattle.vote_laws.proofs.VoteRows.{has_certificate, preamble, preamble_first, preamble_rows, preamble_said}
-use Rattle.vote_laws.proofs.VoteRows.{preamble_written}
+use Rattle.vote_laws.proofs.VoteRows.{authority, certificate_row, footer, preamble, preamble_rows, preamble_said}
 use Rattle.vote_laws.proofs.VoteSame.{footer_entries, in_cert, in_list, vote_entries, vote_same}
 use Rattle.vote_laws.proofs.VoteTail.{remembered, tail_read}
+use Rattle.vote_laws.proofs.VoteWritten.{authority_follows, authority_written, has_certificate, preamble_first}
+use Rattle.vote_laws.proofs.VoteWritten.{preamble_written}
 
 -- the certificate in its section
 abbrev in_section : VoteFacts → VotePart

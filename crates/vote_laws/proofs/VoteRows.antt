@@ -1,6 +1,6 @@
--- A vote, row by row of its sections' tables.
-use Rattle.std.proofs.Common.{◌≡◌, ℕ, true, List, [], ◌∷◌, ◌++◌, Option, Some, None, refl}
-use Rattle.std.specs.Prelude.{IfSome, codes, option_map}
+-- A vote, row by row of its sections' tables: what is written, that its items may be, and what is read of them.
+use Rattle.std.proofs.Common.{◌≡◌, ℕ, List, [], ◌∷◌, ◌++◌, Option, Some, None, refl}
+use Rattle.std.specs.Prelude.{IfSome, codes, map}
 use Rattle.dirdoc_grammar.specs.Writing.{IsLineRest}
 use Rattle.dir_values.specs.FlagSets.{set_text}
 use Rattle.grammar_laws.proofs.LineRests.{rest_of_argument}
@@ -10,20 +10,15 @@ use Rattle.frame_terms.specs.declared.keyword.Keyword.TheVariants as the
 use Rattle.frame_terms.specs.declared.row.Count.TheVariants.{One, Optional}
 use Rattle.frame_terms.specs.declared.row.Row.{Row}
 use Rattle.frame_laws.proofs.Both.{both_hold}
-use Rattle.frame_laws.proofs.Ends.{IsEnded}
-use Rattle.frame_laws.proofs.Following.{IsFirst, MayFollow, opener_follows}
 use Rattle.frame_laws.proofs.RowCounts.{said_none, said_once}
-use Rattle.frame_laws.proofs.RowValues.{row_if, text_entry, silent_entry}
-use Rattle.frame_laws.proofs.SaidRows.{AreSaid, IsSaid, row_once}
-use Rattle.frame_laws.proofs.Sections.{IsWritten}
-use Rattle.frame_laws.proofs.TableRows.{are_plain}
+use Rattle.frame_laws.proofs.RowValues.{text_entry, silent_entry, moment_said, text_if_said}
+use Rattle.frame_laws.proofs.SaidRows.{AreSaid, IsSaid, row_once, RowSays}
+use Rattle.frame_laws.proofs.Sections.{rows_in}
 use Rattle.frame_laws.proofs.WordTexts.{words_of_flags}
 use Rattle.group_laws.proofs.TimeRows.{Times, times_said}
 use Rattle.group_laws.proofs.TimeRows as group
 use Rattle.value_laws.proofs.LineWords.{rest_of_words}
 use Rattle.authority_certs.specs.declared.cert.Cert.{Cert}
-use Rattle.certificate_laws.proofs.CertRows.{HasCertificates, certificate_rows}
-use Rattle.vote_terms.specs.declared.facts.SignatureFacts.{SignatureFacts}
 use Rattle.vote_terms.specs.declared.facts.VoteFacts.{VoteFacts}
 use Rattle.vote_terms.specs.declared.lists.VoteLists.{VoteLists}
 use Rattle.dir_values.specs.Numbers.{numbers_text}
@@ -32,22 +27,33 @@ use Rattle.vote_frame.specs.Tables.{vote_tables}
 use Rattle.vote_frame.specs.declared.frame.VoteKind.{VoteKind}
 use Rattle.vote_frame.specs.declared.frame.VoteKind.TheVariants as kind
 use Rattle.vote_frame.specs.declared.frame.VoteValue.TheVariants as own
-use Rattle.vote_frame.specs.declared.frame.VoteSection.TheVariants.{Authority, Certificate, Footer, Preamble}
-use Rattle.vote_laws.specs.Again.{AreMethods, HasValuesInRange, IsSignatureInRange}
+use Rattle.vote_frame.specs.declared.frame.VoteSection.TheVariants.{Authority, Footer, Preamble}
+use Rattle.vote_laws.specs.Again.{AreMethods, HasValuesInRange}
 use Rattle.vote_laws.proofs.BareRows.{AreRests, RowsAreBare, both_bare, methods_bare, moment_bare, once_bare}
 use Rattle.vote_laws.proofs.BareRows.{params_bare, protocols_bare, random_bare, text_bare, times_bare, versions_bare}
-use Rattle.vote_laws.proofs.VoteLists.{both_said, param_rows, params_said, protocol_rows, protocols_said, version_rows}
-use Rattle.vote_laws.proofs.VoteLists.{versions_said}
-use Rattle.vote_laws.proofs.VoteItems.{VotePart, VoteRow, has_times, moment_row, rest_if, said_moment, said_rest_if}
-use Rattle.vote_laws.proofs.VoteItems.{signature_entry, source_entry, suits_flags, suits_methods}
-use Rattle.vote_laws.proofs.VoteItems.{suits_signature, suits_status}
-use Rattle.vote_laws.proofs.VoteRandoms.{random_row, said_random}
+use Rattle.vote_laws.proofs.VoteLists.{both_said, param_rows, params_back, params_said, protocol_rows, protocols_said}
+use Rattle.vote_laws.proofs.VoteLists.{version_rows, versions_said}
+use Rattle.vote_laws.proofs.VoteItems.{VotePart, VoteRow, has_times, list_kinds, methods_if, moment_row, rest_if}
+use Rattle.vote_laws.proofs.VoteItems.{said_moment, said_rest_if, signature_entry, signature_row, source_entry}
+use Rattle.vote_laws.proofs.VoteItems.{suits_flags, suits_methods, suits_status}
+use Rattle.vote_laws.proofs.VoteRandoms.{kept_random, random_row, random_said}
+use Rattle.frame_terms.specs.declared.document.Taken.{Taken}
+use Rattle.frame_laws.proofs.LastRows.{rows_to}
+use Rattle.frame_laws.proofs.Places.{after_all}
+use Rattle.frame_laws.proofs.ReadRows.{AreRead, Each, IsRead, row_read}
+use Rattle.group_laws.proofs.ListRows.{protocols_back, versions_back}
+use Rattle.authority_certs.specs.Certs.{cert_in}
+use Rattle.authority_certs.specs.Heads.{head_of}
+use Rattle.vote_entries.specs.Entries.{entry_in}
+use Rattle.vote_entries.specs.Kept.{KeptEntry}
+use Rattle.vote_doc.specs.Facts.{facts_of}
+use Rattle.vote_doc.specs.Heads.{no_head, with_authority, with_certificate, with_footer, with_preamble}
+use Rattle.vote_terms.specs.ListLines.{lists_in, vote_lists}
+use Rattle.vote_frame.specs.declared.frame.VoteValue.{VoteValue}
+use Rattle.frame_values.specs.declared.values.Value.{Value}
+use Rattle.vote_laws.proofs.VoteSays.{delays_said, flags_said, methods_said, signature_said, source_said}
 
 -- ---- the preamble
-
--- its methods, where it names them
-abbrev pub methods_if : Option (List ℕ) → VoteRow
-methods_if methods = row_if (row the.ConsensusMethods Optional kind.Methods) (option_map numbers_text methods)
 
 -- what the document is, and its methods
 abbrev pub kind_rows : VoteFacts → List VoteRow
@@ -142,23 +148,6 @@ preamble_bare facts are texts =
     (both_bare (protocol_rows lists) (param_rows lists) (protocols_bare lists are.lists)
     (params_bare lists are.lists))))))))
 
-pub preamble_written : (facts : VoteFacts) → HasValuesInRange facts → IsWritten vote_tables (preamble facts) []
-unfolding same
-preamble_written facts are =
-    record {
-      table = refl;
-      apart = refl;
-      plain = refl;
-      opens = refl;
-      said =
-          both_said (preamble_rows facts) no_randoms (preamble_said facts are)
-          (both_hold (said_random line.Previous None tt) (both_hold (said_random line.Current None tt) tt));
-    }
-
-pub preamble_first : IsFirst vote_tables (row the.NetworkStatusVersion One kind.Version)
-unfolding same
-preamble_first = record { begins = refl; row_there = refl }
-
 -- ---- the section of the authority, up to the certificate
 
 abbrev pub authority : VoteFacts → VotePart
@@ -175,20 +164,6 @@ authority facts = record {
 abbrev pub certificate_row : Row VoteKind
 certificate_row = row the.DirKeyCertificateVersion One kind.Version
 
-pub authority_written : (facts : VoteFacts) → HasValuesInRange facts
-    → IsWritten vote_tables (authority facts) (certificate_row ∷ [])
-unfolding same
-authority_written facts are = record {
-  table = refl;
-  apart = refl;
-  plain = refl;
-  opens = refl;
-  said =
-      both_hold (said_rest_if the.Contact facts.contact)
-      (both_hold (said_random line.Previous facts.random_previous are.random_previous)
-      (both_hold (said_random line.Current facts.random_current are.random_current) tt));
-}
-
 -- the same of its items behind the first
 pub authority_bare : (facts : VoteFacts) → HasValuesInRange facts → IfSome facts.contact IsLineRest
     → RowsAreBare (authority facts).middle
@@ -196,28 +171,6 @@ authority_bare facts are contact =
     both_hold (text_bare the.Contact facts.contact contact)
     (both_hold (random_bare line.Previous facts.random_previous are.random_previous)
     (both_hold (random_bare line.Current facts.random_current are.random_current) tt))
-
-pub authority_follows : MayFollow vote_tables Preamble Authority (row the.DirSource One kind.Source)
-unfolding same
-authority_follows =
-    opener_follows vote_tables Preamble Authority (row the.DirSource One kind.Source) refl
-    (record { not_here = refl; opens = refl; passes_none = refl; row_there = refl })
-
--- ---- the certificate
-
-certificate_plain : (cert : Cert) → are_plain vote_tables Certificate (certificate_rows kind.Certificate cert) ≡ true
-unfolding same
-certificate_plain cert = refl
-
-pub has_certificate : HasCertificates vote_tables Certificate kind.Certificate
-unfolding same
-has_certificate = record {
-  rows = refl;
-  shape = refl;
-  plain = certificate_plain;
-  known = λ of item. refl;
-  values = λ across of item. refl;
-}
 
 -- ---- the footer
 
@@ -229,21 +182,84 @@ footer = record {
   middle = [];
 }
 
-abbrev pub signature_row : Row VoteKind
-signature_row = row the.DirectorySignature One kind.Signature
+-- ---- what is read of its rows
 
-pub footer_ended : (signature : SignatureFacts) → IsSignatureInRange signature
-    → IsEnded vote_tables footer signature_row (signature_entry signature)
-unfolding same
-footer_ended signature are = record {
-  written = record { table = refl; apart = refl; plain = refl; opens = refl; said = tt };
-  ends_it = record { row_there = refl; last = refl };
-  inside = refl;
-  suits = suits_signature signature are.identity are.key_digest;
-}
+module _ {K V : Type 0} where
+  front_each : (P : ℕ → RowSays K V → Type 0) (place : ℕ) (rows more : List (RowSays K V))
+      → Each P place (rows ++ more) → Each P place rows
+  front_each P place [] more each = tt
+  front_each P place (says ∷ rows) more each =
+      both_hold each.0 (front_each P (after_all place says.entries) rows more each.1)
 
-pub footer_follows : MayFollow vote_tables Authority Footer (row the.DirectoryFooter One kind.Nothing)
+  -- of rows that are read those in front are
+  pub front_read : {limit : ℕ} {bytes : List ℕ} {taken : List (Taken V)} {place : ℕ} (rows more : List (RowSays K V))
+      → AreRead limit bytes taken place (rows ++ more) → AreRead limit bytes taken place rows
+  front_read {limit} {bytes} {taken} {place} rows more read =
+      record { each = front_each (IsRead limit bytes taken) place rows more read.each }
+
+-- What is kept of the sections of a vote, wherever its certificate and its entries stand, says what the vote says: where
+-- the rows of the sections are read, the certificate says this, and the entries what they say.
+pub facts_said : {text : List ℕ} {first later at_a at_f : ℕ} (facts : VoteFacts) → HasValuesInRange facts
+    → (p c a f : List (Taken (Value VoteValue))) (entries : List KeptEntry) (certificate : Cert)
+    → AreRead first text p 0 (rows_in (preamble facts)) → AreRead first text a at_a (rows_in (authority facts))
+    → AreRead later text f at_f (rows_to footer signature_row (signature_entry facts.signature))
+    → cert_in text (head_of c) ≡ certificate → map (entry_in text) entries ≡ facts.entries
+    → facts_of text (record {
+      head = with_footer (with_authority (with_certificate (with_preamble no_head p) c) a) f;
+      entries = entries;
+    }) ≡ record facts { certificate = certificate }
 unfolding same
-footer_follows =
-    opener_follows vote_tables Authority Footer (row the.DirectoryFooter One kind.Nothing) refl
-    (record { not_here = refl; opens = refl; passes_none = refl; row_there = refl })
+facts_said {text} facts are p c a f entries certificate in_p in_a in_f cert_says entries_say =
+    let l = facts.lists in
+    let lists : vote_lists text (lists_in p) ≡ l =
+    λ i. record {
+      client_versions =
+          versions_back list_kinds the.ClientVersions l.client_versions are.lists.client_versions
+          (row_read the.ClientVersions in_p refl) i;
+      server_versions =
+          versions_back list_kinds the.ServerVersions l.server_versions are.lists.server_versions
+          (row_read the.ServerVersions in_p refl) i;
+      recommended_client_protocols =
+          protocols_back list_kinds the.RecommendedClientProtocols l.recommended_client_protocols
+          are.lists.recommended_client_protocols (row_read the.RecommendedClientProtocols in_p refl) i;
+      recommended_relay_protocols =
+          protocols_back list_kinds the.RecommendedRelayProtocols l.recommended_relay_protocols
+          are.lists.recommended_relay_protocols (row_read the.RecommendedRelayProtocols in_p refl) i;
+      required_client_protocols =
+          protocols_back list_kinds the.RequiredClientProtocols l.required_client_protocols
+          are.lists.required_client_protocols (row_read the.RequiredClientProtocols in_p refl) i;
+      required_relay_protocols =
+          protocols_back list_kinds the.RequiredRelayProtocols l.required_relay_protocols
+          are.lists.required_relay_protocols (row_read the.RequiredRelayProtocols in_p refl) i;
+      params = params_back l.params are.lists.params (row_read the.Params in_p refl) i;
+    } in
+    let delays = delays_said facts.vote_seconds facts.dist_seconds (row_read the.VotingDelay in_p refl) in
+    let source = source_said facts (row_read the.DirSource in_a refl) in
+    λ i. record {
+      methods = methods_said facts.methods are.methods (row_read the.ConsensusMethods in_p refl) i;
+      published = moment_said _ facts.published are.published (row_read the.Published in_p refl) i;
+      valid_after = moment_said _ facts.valid_after are.valid_after (row_read the.ValidAfter in_p refl) i;
+      fresh_until = moment_said _ facts.fresh_until are.fresh_until (row_read the.FreshUntil in_p refl) i;
+      valid_until = moment_said _ facts.valid_until are.valid_until (row_read the.ValidUntil in_p refl) i;
+      vote_seconds = (delays i).0;
+      dist_seconds = (delays i).1;
+      known_flags = flags_said facts.known_flags are.known_flags (row_read the.KnownFlags in_p refl) i;
+      flag_thresholds = text_if_said _ facts.flag_thresholds (row_read the.FlagThresholds in_p refl) i;
+      lists = lists i;
+      nickname = source.nickname i;
+      identity = source.identity i;
+      address = source.address i;
+      ip = source.ip i;
+      dir_port = source.dir_port i;
+      or_port = source.or_port i;
+      contact = text_if_said _ facts.contact (row_read the.Contact in_a refl) i;
+      random_previous =
+          kept_random (random_said line.Previous None (row_read the.SharedRandPreviousValue in_p refl))
+          (random_said line.Previous facts.random_previous (row_read the.SharedRandPreviousValue in_a refl)) i;
+      random_current =
+          kept_random (random_said line.Current None (row_read the.SharedRandCurrentValue in_p refl))
+          (random_said line.Current facts.random_current (row_read the.SharedRandCurrentValue in_a refl)) i;
+      certificate = cert_says i;
+      entries = entries_say i;
+      signature = signature_said facts.signature (row_read the.DirectorySignature in_f refl) i;
+    }

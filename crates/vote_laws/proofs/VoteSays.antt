@@ -25,8 +25,7 @@ use Rattle.vote_frame.specs.declared.frame.VoteKind.TheVariants as kind
 use Rattle.vote_frame.specs.declared.frame.VoteValue.{VoteValue}
 use Rattle.vote_frame.specs.declared.frame.VoteValue.TheVariants as own
 use Rattle.vote_laws.specs.Again.{AreFlags, AreMethods}
-use Rattle.vote_laws.proofs.VoteItems.{signature_entry, source_entry}
-use Rattle.vote_laws.proofs.VoteRows.{methods_if, signature_row}
+use Rattle.vote_laws.proofs.VoteItems.{methods_if, signature_entry, signature_row, source_entry}
 use Rattle.vote_laws.proofs.WrittenSources.{SourceSays, source_stands}
 use Rattle.vote_laws.proofs.WrittenValues.{algorithm_of-name, numbers_in-text}
 

@@ -22,11 +22,12 @@ use Rattle.vote_doc.specs.Heads.{signed_to}
 use Rattle.vote_terms.specs.Votes.{max_vote}
 use Rattle.vote_frame.specs.Tables.{vote_tables}
 use Rattle.vote_laws.specs.Again.{IsInRange, signed_text, unsigned_items}
-use Rattle.vote_laws.proofs.VoteItems.{VoteEntry, signature_entry}
+use Rattle.vote_laws.proofs.VoteItems.{VoteEntry, signature_entry, signature_row}
 use Rattle.vote_laws.proofs.VotePlaces.{authority_place, certificate_place, entries_place, footer_place, vote_kept}
 use Rattle.vote_laws.proofs.VoteRead.{text_vote}
-use Rattle.vote_laws.proofs.VoteRows.{authority, footer, footer_ended, preamble, signature_row}
+use Rattle.vote_laws.proofs.VoteRows.{authority, footer, preamble}
 use Rattle.vote_laws.proofs.VoteSame.{in_cert, in_list, unsigned_same, vote_same}
+use Rattle.vote_laws.proofs.VoteWritten.{footer_ended}
 
 -- the items before the signature
 abbrev unsigned_entries : VoteFacts → List VoteEntry

@@ -33,12 +33,13 @@ use Rattle.vote_laws.specs.Again.{AreEntriesInRange, IsSignatureInRange}
 use Rattle.vote_laws.proofs.EntryNotes.{all_listed, all_may, entries_next, knowing}
 use Rattle.vote_laws.proofs.EntryRows.{entry_section, first_follows, footer_after}
 use Rattle.vote_laws.proofs.Heard.{forgotten, is_quiet}
-use Rattle.vote_laws.proofs.VoteItems.{signature_entry, suits_nothing}
+use Rattle.vote_laws.proofs.VoteItems.{signature_entry, signature_row, suits_nothing}
 use Rattle.vote_laws.proofs.VotePlaces.{VoteDocument, VoteTaken, end_from, footer_from, footer_taken, section_quiet}
 use Rattle.vote_laws.proofs.VotePlaces.{section_to_quiet, sections_of}
 use Rattle.vote_laws.proofs.VoteRandoms.{with_randoms}
-use Rattle.vote_laws.proofs.VoteRows.{footer, footer_ended, footer_follows, signature_row}
+use Rattle.vote_laws.proofs.VoteRows.{footer}
 use Rattle.vote_laws.proofs.VoteSame.{footer_entries, in_list}
+use Rattle.vote_laws.proofs.VoteWritten.{footer_ended, footer_follows}
 
 -- the footer may follow the section of the authority and any number of entries
 after_entries : (list : List EntryFacts)
