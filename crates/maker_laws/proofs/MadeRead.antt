@@ -1,13 +1,7 @@
 -- A made vote is read as what it was made to say.
-use Rattle.std.proofs.Common.{ℕ, List, [], ◌∷◌, ◌++◌, Option, Some, None, refl, sym, ap, subst}
-use Rattle.std.specs.Prelude.{All, map, option_map}
-use Rattle.dir_values.specs.FlagSets.{set_text}
-use Rattle.relay_entries.specs.Texts.{bandwidths_text, ed_text}
-use Rattle.std.proofs.lemmas.List.Elements.{All-append, All-cons, All-nil, All-weaker}
-use Rattle.dirdoc_grammar.specs.Writing.{NewItem}
-use Rattle.frame_terms.specs.declared.keyword.Keyword.{Keyword}
-use Rattle.frame_terms.specs.declared.keyword.Keyword.TheVariants as the
-use Rattle.frame_values.specs.Items.{bare, item_if}
+use Rattle.std.proofs.Common.{ℕ, List, ◌++◌, refl, sym, ap, subst}
+use Rattle.std.specs.Prelude.{All}
+use Rattle.std.proofs.lemmas.List.Elements.{All-weaker}
 use Rattle.descriptor_laws.specs.ReadRanges.{DescriptorsReadAreInRange, IsDescriptorInRange}
 use Rattle.flag_rules.specs.Flags.{flags_of}
 use Rattle.flag_rules.specs.Relays.{ruled_relays}
@@ -25,14 +19,15 @@ use Rattle.maker_laws.specs.Ranges.{IsStationInRange}
 use Rattle.maker_laws.proofs.StationKept.{station_in_range}
 use Rattle.vote_frame.specs.Tables.{vote_tables}
 use Rattle.vote_frame.specs.declared.frame.VoteSection.TheVariants as section
-use Rattle.vote_terms.specs.declared.entry.EntryFacts.{EntryFacts}
-use Rattle.vote_text.specs.Entries.{entries_items, entry_items, items_each, line_of, micro_line}
+use Rattle.vote_text.specs.Entries.{entries_items}
 use Rattle.vote_text.specs.Texts.{authority_items, preamble_items}
+use Rattle.range_laws.proofs.EntryTexts.{entries_bare}
 use Rattle.vote_maker.specs.Listings.{judged_relays}
 use Rattle.vote_maker.specs.Made.{Basis, relays_in}
 use Rattle.maker_laws.specs.Given.{IsBasis, IsDescriptor, StationsReadAreStations}
 use Rattle.maker_laws.specs.ReadAsMade.{MadeAreInRange, MadeVotesReadAsMade, signed_facts}
 use Rattle.maker_laws.proofs.EntryRanges.{judged_ranged}
+use Rattle.maker_laws.proofs.MadeEntries.{entries_rests}
 use Rattle.maker_laws.proofs.MadeFacts.{made_ranged}
 use Rattle.maker_laws.proofs.MadeLimits.{HasNone, made_in_range}
 use Rattle.maker_laws.proofs.ReadDescriptors.{descriptor_ranged}
@@ -82,41 +77,6 @@ pub are_in_range : DescriptorsReadAreInRange → MadeAreInRange
 are_in_range law its rulings signature basis signing =
     made_ranged its rulings signature basis signing (station_ranged its basis) (descriptors_ranged law its basis)
 
--- ---- items without objects
-
--- none of them has one
-record AreNone (items : List NewItem) : Type 0 where
-  each : All HasNone items
-
-none_of : AreNone []
-none_of = record { each = All-nil HasNone }
-
-bare_none : (keyword : Keyword) (rest : List ℕ) → AreNone (bare keyword rest ∷ [])
-bare_none keyword rest = record { each = All-cons HasNone (bare keyword rest) [] refl (All-nil HasNone) }
-
-none_if : (keyword : Keyword) (rest : Option (List ℕ)) → AreNone (item_if keyword rest)
-none_if keyword None = none_of
-none_if keyword (Some rest) = bare_none keyword rest
-
-infixl 10 ◌&◌
-◌&◌ : {front back : List NewItem} → AreNone front → AreNone back → AreNone (front ++ back)
-◌&◌ {front} {back} first second = record { each = All-append HasNone front back first.each second.each }
-
-none_each : (keyword : Keyword) (rests : List (List ℕ)) → AreNone (items_each keyword rests)
-none_each keyword [] = none_of
-none_each keyword (rest ∷ rests) = bare_none keyword rest & none_each keyword rests
-
-entry_none : (entry : EntryFacts) → AreNone (entry_items entry)
-entry_none entry =
-    bare_none the.R (line_of entry) & none_each the.A entry.addresses & bare_none the.S (set_text entry.flags)
-    & none_if the.V entry.version & none_if the.Pr entry.protocols
-    & none_if the.W (option_map bandwidths_text entry.bandwidths) & none_if the.P entry.policy
-    & none_each the.M (map micro_line entry.micros) & none_if the.Id (ed_text entry.ed)
-
-entries_none : (entries : List EntryFacts) → AreNone (entries_items entries)
-entries_none [] = none_of
-entries_none (entry ∷ entries) = entry_none entry & entries_none entries
-
 -- ---- the law
 
 -- the lines of what a station is given are short
@@ -162,4 +122,5 @@ read_as_made law front its rulings signature rest few basis signing fits =
     (made_short its.station.newest relays judged)
     (All-weaker IsBare HasNone (λ item is. is.none) (preamble_items facts ++ authority_items facts)
     (before_bare facts may.values (no_rests (preamble_texts facts) refl) station.contact))
-    (entries_none facts.entries).each)
+    (All-weaker IsBare HasNone (λ item is. is.none) (entries_items facts.entries)
+    (entries_bare facts.entries may.values.entries.each (entries_rests its.station.newest relays judged))))

@@ -5,7 +5,6 @@ use Rattle.std.proofs.lemmas.List.Elements.{All-append, All-cons, All-head, All-
 use Rattle.dir_bytes.specs.FieldTexts.{address_text, base64_text, clock_text, date_text}
 use Rattle.dirdoc_grammar.specs.Writing.{IsLineRest}
 use Rattle.grammar_laws.proofs.LineRests.{rest_of_argument}
-use Rattle.grammar_laws.specs.Written.{IsItem}
 use Rattle.dir_values.specs.FlagSets.{set_text}
 use Rattle.frame_terms.specs.declared.keyword.Keyword.TheVariants as the
 use Rattle.frame_values.specs.Items.{bare, item_if}
@@ -26,7 +25,7 @@ use Rattle.vote_terms.specs.declared.entry.MicroFacts.{MicroFacts}
 use Rattle.vote_text.specs.Entries.{entries_items, entry_items, flag_items, items_each, line_of, micro_items}
 use Rattle.vote_text.specs.Entries.{micro_line, relay_items}
 use Rattle.vote_laws.specs.Again.{AreEntryFlags, IsEntryInRange, IsMicroInRange}
-use Rattle.vote_laws.proofs.MayWrite.{MayWrite, bare_may, first_may, if_may, none_may}
+use Rattle.vote_laws.proofs.BareRows.{IsBare, if_bare, once_bare, one_bare}
 
 -- the texts of an entry that are rests of lines are such
 pub record HasRests (entry : EntryFacts) : Type 0 where
@@ -106,22 +105,22 @@ key_rest opinion.Absent are = tt
 
 -- ---- its items
 
-addresses_may : (addresses : List (List ℕ)) → All IsAddressInRange addresses → MayWrite (items_each the.A addresses)
-addresses_may [] are = none_may
-addresses_may (text ∷ rest) are =
-    first_may (bare the.A text) (items_each the.A rest)
-    (bare_may the.A text (rest_of_argument text (All-head IsAddressInRange text rest are).word))
-    (addresses_may rest (All-tail IsAddressInRange text rest are))
+addresses_bare : (addresses : List (List ℕ)) → All IsAddressInRange addresses → All IsBare (items_each the.A addresses)
+addresses_bare [] are = All-nil IsBare
+addresses_bare (text ∷ rest) are =
+    All-cons IsBare (bare the.A text) (items_each the.A rest)
+    (one_bare the.A text (rest_of_argument text (All-head IsAddressInRange text rest are).word))
+    (addresses_bare rest (All-tail IsAddressInRange text rest are))
 
-micros_may : (lines : List MicroFacts) → All IsMicroInRange lines → MayWrite (micro_items lines)
-micros_may [] are = none_may
-micros_may (line ∷ lines) are =
-    first_may (bare the.M (micro_line line)) (micro_items lines)
-    (bare_may the.M (micro_line line) (micro_rest line (All-head IsMicroInRange line lines are)))
-    (micros_may lines (All-tail IsMicroInRange line lines are))
+micros_bare : (lines : List MicroFacts) → All IsMicroInRange lines → All IsBare (micro_items lines)
+micros_bare [] are = All-nil IsBare
+micros_bare (line ∷ lines) are =
+    All-cons IsBare (bare the.M (micro_line line)) (micro_items lines)
+    (one_bare the.M (micro_line line) (micro_rest line (All-head IsMicroInRange line lines are)))
+    (micros_bare lines (All-tail IsMicroInRange line lines are))
 
-entry_may : (entry : EntryFacts) → IsEntryInRange entry → HasRests entry → MayWrite (entry_items entry)
-entry_may entry are rests =
+entry_bare : (entry : EntryFacts) → IsEntryInRange entry → HasRests entry → All IsBare (entry_items entry)
+entry_bare entry are rests =
     let relay = relay_items entry in
     let addresses = items_each the.A entry.addresses in
     let flags = flag_items entry in
@@ -131,35 +130,33 @@ entry_may entry are rests =
     let policy = item_if the.P entry.policy in
     let micros = micro_items entry.micros in
     let key = item_if the.Id (ed_text entry.ed) in
-    let relay_may : MayWrite relay =
-    first_may (bare the.R (line_of entry)) [] (bare_may the.R (line_of entry) (relay_rest entry are)) none_may in
-    let flags_may : MayWrite flags =
-    first_may (bare the.S (set_text entry.flags)) []
-    (bare_may the.S (set_text entry.flags) (flags_rest entry.flags are.flags)) none_may in
+    let relay_bare : All IsBare relay = once_bare the.R (line_of entry) (relay_rest entry are) in
+    let flags_bare : All IsBare flags = once_bare the.S (set_text entry.flags) (flags_rest entry.flags are.flags) in
     let width_rest =
     made_rest (λ (w : Bandwidths). Unit {0}) bandwidths_text entry.bandwidths (any entry.bandwidths)
     (λ w is. bandwidths_rest w) in
-    All-append IsItem (relay ++ addresses ++ flags ++ version ++ protocols ++ bandwidths ++ policy ++ micros) key
-    (All-append IsItem (relay ++ addresses ++ flags ++ version ++ protocols ++ bandwidths ++ policy) micros
-    (All-append IsItem (relay ++ addresses ++ flags ++ version ++ protocols ++ bandwidths) policy
-    (All-append IsItem (relay ++ addresses ++ flags ++ version ++ protocols) bandwidths
-    (All-append IsItem (relay ++ addresses ++ flags ++ version) protocols
-    (All-append IsItem (relay ++ addresses ++ flags) version
-    (All-append IsItem (relay ++ addresses) flags
-    (All-append IsItem relay addresses relay_may (addresses_may entry.addresses are.addresses)) flags_may)
-    (if_may the.V entry.version rests.version)) (if_may the.Pr entry.protocols rests.protocols))
-    (if_may the.W (option_map bandwidths_text entry.bandwidths) width_rest)) (if_may the.P entry.policy rests.policy))
-    (micros_may entry.micros are.micros)) (if_may the.Id (ed_text entry.ed) (key_rest entry.ed are.ed))
+    All-append IsBare (relay ++ addresses ++ flags ++ version ++ protocols ++ bandwidths ++ policy ++ micros) key
+    (All-append IsBare (relay ++ addresses ++ flags ++ version ++ protocols ++ bandwidths ++ policy) micros
+    (All-append IsBare (relay ++ addresses ++ flags ++ version ++ protocols ++ bandwidths) policy
+    (All-append IsBare (relay ++ addresses ++ flags ++ version ++ protocols) bandwidths
+    (All-append IsBare (relay ++ addresses ++ flags ++ version) protocols
+    (All-append IsBare (relay ++ addresses ++ flags) version
+    (All-append IsBare (relay ++ addresses) flags
+    (All-append IsBare relay addresses relay_bare (addresses_bare entry.addresses are.addresses)) flags_bare)
+    (if_bare the.V entry.version rests.version)) (if_bare the.Pr entry.protocols rests.protocols))
+    (if_bare the.W (option_map bandwidths_text entry.bandwidths) width_rest))
+    (if_bare the.P entry.policy rests.policy))
+    (micros_bare entry.micros are.micros)) (if_bare the.Id (ed_text entry.ed) (key_rest entry.ed are.ed))
   where
     any : (w : Option Bandwidths) → IfSome w (λ o. Unit {0})
     any None = tt
     any (Some w) = tt
 
 -- the items of entries
-pub entries_may : (entries : List EntryFacts) → All IsEntryInRange entries → All HasRests entries
-    → MayWrite (entries_items entries)
-entries_may [] are rests = none_may
-entries_may (entry ∷ entries) are rests =
-    All-append IsItem (entry_items entry) (entries_items entries)
-    (entry_may entry (All-head IsEntryInRange entry entries are) (All-head HasRests entry entries rests))
-    (entries_may entries (All-tail IsEntryInRange entry entries are) (All-tail HasRests entry entries rests))
+pub entries_bare : (entries : List EntryFacts) → All IsEntryInRange entries → All HasRests entries
+    → All IsBare (entries_items entries)
+entries_bare [] are rests = All-nil IsBare
+entries_bare (entry ∷ entries) are rests =
+    All-append IsBare (entry_items entry) (entries_items entries)
+    (entry_bare entry (All-head IsEntryInRange entry entries are) (All-head HasRests entry entries rests))
+    (entries_bare entries (All-tail IsEntryInRange entry entries are) (All-tail HasRests entry entries rests))

@@ -27,7 +27,7 @@ use Rattle.vote_laws.proofs.VoteRows.{preamble_texts}
 use Rattle.vote_laws.specs.Again.{HasValuesInRange, IsSignatureInRange}
 use Rattle.range_laws.proofs.CertItems.{HasBytes, cert_may}
 use Rattle.range_laws.proofs.EntryTexts as entry
-use Rattle.range_laws.proofs.EntryTexts.{entries_may}
+use Rattle.range_laws.proofs.EntryTexts.{entries_bare}
 use Rattle.vote_laws.proofs.MayWrite.{MayWrite, bare_may, object_may, two_may}
 
 -- ---- its signature
@@ -76,5 +76,6 @@ vote_may facts says =
     (All-append IsItem (a ++ b) c
     (All-weaker IsBare IsItem (λ item is. is.may) (a ++ b) (before_bare facts says.values says.texts says.contact))
     (cert_may facts.certificate says.certificate says.keys))
-    (entries_may facts.entries says.values.entries.each says.rests))
+    (All-weaker IsBare IsItem (λ item is. is.may) d
+    (entries_bare facts.entries says.values.entries.each says.rests)))
     (footer_may facts.signature says.values.signature says.signed)

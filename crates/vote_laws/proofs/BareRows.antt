@@ -10,7 +10,7 @@ use Rattle.dir_values.specs.Numbers.{numbers_text}
 use Rattle.grammar_laws.specs.Written.{IsItem}
 use Rattle.frame_terms.specs.declared.keyword.Keyword.{Keyword}
 use Rattle.frame_terms.specs.declared.keyword.Keyword.TheVariants as the
-use Rattle.frame_values.specs.Items.{bare}
+use Rattle.frame_values.specs.Items.{bare, item_if}
 use Rattle.frame_values.specs.Parts.{moment_of}
 use Rattle.frame_laws.proofs.Both.{both_hold}
 use Rattle.frame_laws.proofs.Entries.{item_of}
@@ -96,6 +96,11 @@ one_bare keyword rest is = record { may = bare_may keyword rest is; none = refl 
 
 pub once_bare : (keyword : Keyword) (rest : List ℕ) → IsLineRest rest → All IsBare (bare keyword rest ∷ [])
 once_bare keyword rest is = All-cons IsBare (bare keyword rest) [] (one_bare keyword rest is) (All-nil IsBare)
+
+-- an item where there is a rest of its line
+pub if_bare : (keyword : Keyword) (rest : Option (List ℕ)) → IfSome rest IsLineRest → All IsBare (item_if keyword rest)
+if_bare keyword None is = All-nil IsBare
+if_bare keyword (Some rest) is = once_bare keyword rest is
 
 -- a text, where there is one
 pub text_bare : (keyword : Keyword) (text : Option (List ℕ)) → IfSome text IsLineRest
