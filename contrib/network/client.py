@@ -125,7 +125,7 @@ def new_client(started, folder, authorities, relays, guards):
     names = {each.fingerprint: each.name for each in [*relays, *authorities]}
     node = nodes.Node("client", nodes.CLIENT, nodes.make_folder(folder / "client"), 0)
     begun = time.monotonic()
-    processes.start_tor(started, node, nodes.client_torrc(folder, "client", authorities, relays, guards))
+    processes.start_tor(started, node, nodes.client_torrc(folder, node, authorities, relays, guards))
     try:
         path, why = try_until(begun + FETCHES_WITHIN)
     finally:

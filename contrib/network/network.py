@@ -9,11 +9,14 @@ did that was new. It ends with status 0 only where in each period every authorit
 of each flavour with a right signature of each, and where a client that came from nothing fetched a page through three
 relays. All that it started ends with it; nothing is left behind, but the folder that --folder names.
 
+With --newest-method 35 our authorities know the methods that C tor 0.4.9 knows. With less more than a third of all
+authorities must be ours, since C tors choose a later method else. With --families relays have family keys. In each period
+the microdescriptors that ours vote and give out are held against those of the others and the families of their relays.
+
 With --measured a C tor measures the relays (contrib/measure), and between two periods each authority of ours is given a new
 station input and its daemon is started anew.
 
-It wants to be root, and Debian's tor, nginx, iproute2 and python3-cryptography. More than a third of all authorities must
-be ours, since C tors know later methods, which dirauth does not.
+It wants to be root, and Debian's tor, nginx, iproute2 and python3-cryptography.
 """
 import argparse
 import importlib.util
@@ -27,16 +30,21 @@ import tempfile
 import time
 
 import client
+import families
 import nodes
 import periods
 import processes
 import renewal
 
-# The most of each kind.
+# The most of each kind, and the least relays of which a client can make a path, also where some are of one family.
 MOST_AUTHORITIES, MOST_RELAYS = 9, 20
+LEAST_RELAYS, LEAST_OF_FAMILIES = 3, 4
 
 # The most periods: what the stations say of relays holds for 2,700 seconds.
 MOST_PERIODS = 7
+
+# How long votes may be exchanged, and signatures as long again, in seconds.
+LEAST_DELAY, MOST_DELAY = 20, 60
 
 # How long all is given to start before votes are due, and how long the whole may take beside its periods, in seconds.
 READY, BESIDE = 45, 900
@@ -49,6 +57,9 @@ UNSHARE = ["setpriv", "--pdeathsig", "KILL", "unshare", "--net", "--mount", "--p
 
 # The schedule of a tor that is asked which lines it votes.
 ASKED_SCHEDULE = (20, 4, 4)
+
+# What is asked by a number, and what is asked or not.
+NUMBERS, SWITCHES = ("ours", "tors", "relays", "periods", "newest_method", "delay"), ("families", "measured")
 
 
 def make_namespace():
@@ -63,7 +74,8 @@ def make_namespace():
 def lines_of_tor(started, folder, version):
     """The lines of a vote that must be alike, as this machine's tor votes them: one alone is asked."""
     node = nodes.make_authority(folder, "asked", nodes.ASKED, 0, False)
-    processes.start_tor(started, node, nodes.authority_torrc(folder, node, [node], version, ASKED_SCHEDULE))
+    node.schedule = ASKED_SCHEDULE
+    processes.start_tor(started, node, nodes.authority_torrc(folder, node, [node], version))
     path = "/tor/status-vote/next/authority"
     vote = started.wait_for("the vote of a tor that is alone", lambda: processes.get(node.address, path))
     started.stop("asked")
@@ -73,13 +85,23 @@ def lines_of_tor(started, folder, version):
     return nodes.shared_lines(text)
 
 
-def start_all(given, folder, started):
-    """Makes and starts all, and gives the authorities and relays."""
+def make_all(given, folder):
+    """Makes the authorities and the relays."""
     kinds = [True] * given.ours + [False] * given.tors
     authorities = []
     for number, is_ours in enumerate(kinds, 1):
-        authorities.append(nodes.make_authority(folder, f"auth{number}", nodes.AUTHORITY % number, number, is_ours))
+        each = nodes.make_authority(folder, f"auth{number}", nodes.AUTHORITY % number, number, is_ours)
+        each.newest_method, each.schedule = given.newest_method, (nodes.INTERVAL, given.delay, given.delay)
+        authorities.append(each)
     relays = [nodes.make_relay(folder, number) for number in range(1, given.relays + 1)]
+    if given.families:
+        families.give_keys(folder, relays)
+    return authorities, relays
+
+
+def start_all(given, folder, started):
+    """Makes and starts all, and gives the authorities and relays."""
+    authorities, relays = make_all(given, folder)
     version = nodes.tor_version()
     shared = lines_of_tor(started, folder, version)
     ours = [each for each in authorities if each.is_ours]
@@ -112,7 +134,7 @@ def line_of(period, told):
     signatures = " ".join(f"{name}:{held}" for name, held in period.signatures.items())
     texts = "; ".join(f"{flavour} {text}" for flavour, text in period.published.items())
     head = f"{'WRONG' if period.faults else 'ok'} {period.time()}"
-    return f"{head}: votes {votes}; signatures {signatures}; {texts}; {told}"
+    return "; ".join([f"{head}: votes {votes}", f"signatures {signatures}", texts, *told])
 
 
 def go_through(given, folder):
@@ -120,17 +142,19 @@ def go_through(given, folder):
     started = processes.Processes(folder)
     make_namespace()
     authorities, relays = start_all(given, folder, started)
-    first = periods.first_valid_after(time.time(), READY)
+    first = periods.first_valid_after(time.time(), READY, authorities[0].schedule)
     told = f"{len(authorities)} authorities, {len(relays)} relays; the first consensus is due"
     print(f"{told} in {first - time.time():.0f} seconds", flush=True)
     holds = True
     for number in range(given.periods):
         period = periods.look_at(first + number * nodes.INTERVAL, authorities, folder)
         started.must_live()
+        told = [families.look_at(period, authorities, relays), used(started, authorities)]
         if number == 0:
             start_anew(started, relays)
         periods.sleep_until(period.valid_after + client.BEGINS_AT)
-        told, fault = client.new_clients(started, folder, authorities, relays, not given.measured)
+        done, fault = client.new_clients(started, folder, authorities, relays, not given.measured)
+        told.append(done)
         period.faults += [fault] if fault else []
         if given.measured:
             period.faults += renew_all(given, started, authorities)
@@ -139,6 +163,11 @@ def go_through(given, folder):
             print(f"    {each}", flush=True)
         holds = holds and not period.faults
     return holds
+
+
+def used(started, authorities):
+    """What the daemons of our authorities have used."""
+    return ", ".join(f"{each.name} uses {started.used(f'{each.name}-daemon')}" for each in authorities if each.is_ours)
 
 
 def start_anew(started, relays):
@@ -200,10 +229,20 @@ def look_before(given):
             raise SystemExit(f"network: there is no {name}: apt-get install {package}")
     if importlib.util.find_spec("cryptography") is None:
         raise SystemExit("network: there is no cryptography: apt-get install python3-cryptography")
-    if not 1 <= given.ours + given.tors <= MOST_AUTHORITIES or 3 * given.ours <= given.ours + given.tors:
-        raise SystemExit(f"network: 1 to {MOST_AUTHORITIES} authorities, more than a third of them ours")
-    if not 3 <= given.relays <= MOST_RELAYS or not 1 <= given.periods <= MOST_PERIODS:
-        raise SystemExit(f"network: 3 to {MOST_RELAYS} relays, 1 to {MOST_PERIODS} periods")
+    look_at_numbers(given)
+
+
+def look_at_numbers(given):
+    """Looks whether there can be such a network."""
+    if given.ours < 1 or given.ours + given.tors > MOST_AUTHORITIES:
+        raise SystemExit(f"network: 1 to {MOST_AUTHORITIES} authorities, one of them ours")
+    if given.newest_method < nodes.NEWEST_OF_TOR and 3 * given.ours <= given.ours + given.tors:
+        raise SystemExit(f"network: more than a third of the authorities ours, or --newest-method {nodes.NEWEST_OF_TOR}")
+    if not LEAST_DELAY <= given.delay <= MOST_DELAY:
+        raise SystemExit(f"network: {LEAST_DELAY} to {MOST_DELAY} seconds for votes")
+    least = LEAST_OF_FAMILIES if given.families else LEAST_RELAYS
+    if not least <= given.relays <= MOST_RELAYS or not 1 <= given.periods <= MOST_PERIODS:
+        raise SystemExit(f"network: {least} to {MOST_RELAYS} relays, 1 to {MOST_PERIODS} periods")
 
 
 def main():
@@ -214,6 +253,21 @@ def main():
     parser.add_argument("--tors", type=int, default=0, metavar="N", help="authorities that are C tors (default: %(default)s)")
     parser.add_argument("--relays", type=int, default=6, metavar="N", help="relays (default: %(default)s)")
     parser.add_argument("--periods", type=int, default=3, metavar="N", help="how many periods (default: %(default)s)")
+    parser.add_argument(
+        "--newest-method",
+        type=int,
+        default=nodes.NEWEST_METHOD,
+        choices=range(nodes.NEWEST_METHOD, nodes.NEWEST_OF_TOR + 1),
+        help="the newest method that ours know (default: %(default)s)",
+    )
+    parser.add_argument("--families", action="store_true", help="relays have family keys")
+    parser.add_argument(
+        "--delay",
+        type=int,
+        default=nodes.DELAY,
+        metavar="SECONDS",
+        help="for exchanging votes, and for signatures as long again (default: %(default)s)",
+    )
     parser.add_argument("--measured", action="store_true", help="renew what is measured in each period")
     parser.add_argument("--folder", type=pathlib.Path, metavar="FOLDER", help="a new folder in which all is kept")
     parser.add_argument("--inside", action="store_true", help=argparse.SUPPRESS)
@@ -222,9 +276,8 @@ def main():
         sys.exit(inside(given))
     look_before(given)
     words = [str(given.dirauth.resolve())]
-    for name in ("ours", "tors", "relays", "periods"):
-        words += [f"--{name}", str(getattr(given, name))]
-    words += ["--measured"] if given.measured else []
+    words += [f"--{name.replace('_', '-')}={getattr(given, name)}" for name in NUMBERS]
+    words += [f"--{name}" for name in SWITCHES if getattr(given, name)]
     sys.exit(outside(given, words))
 
 

@@ -6,9 +6,14 @@ import secrets
 import subprocess
 import time
 
-# Seconds between two consensuses, for exchanging votes, and for exchanging signatures: the shortest interval, and
-# long delays, so that a machine that is busy keeps them.
-INTERVAL, VOTE, DIST = SCHEDULE = (300, 40, 40)
+# Seconds between two consensuses, for exchanging votes, and for exchanging signatures, where nothing else is asked: the
+# shortest interval, and long delays, so that a machine that is busy keeps them.
+INTERVAL, DELAY = 300, 40
+SCHEDULE = (INTERVAL, DELAY, DELAY)
+
+# The newest method that an authority of ours knows, where nothing else is asked; and the newest that it can be asked to
+# know, which is the newest that C tor 0.4.9 knows.
+NEWEST_METHOD, NEWEST_OF_TOR = 33, 35
 
 # Addresses in the network's namespace, all on its loopback: authorities, relays, the client, the web server, and a
 # tor that is asked which lines it votes.
@@ -42,7 +47,11 @@ SHARED_LINES = (
 
 @dataclasses.dataclass
 class Node:
-    """An authority or a relay. `fingerprint` is of the relay's identity, `identity` of the authority's."""
+    """An authority or a relay. `fingerprint` is of the relay's identity, `identity` of the authority's.
+
+    An authority keeps a schedule, and one of ours knows the methods up to the newest. `families` are the IDs of the family
+    keys that a relay has, and `listed` are the relays that it lists as its family.
+    """
 
     name: str
     address: str
@@ -51,6 +60,10 @@ class Node:
     fingerprint: str = ""
     identity: str = ""
     is_ours: bool = False
+    newest_method: int = NEWEST_METHOD
+    schedule: tuple = SCHEDULE
+    families: list = dataclasses.field(default_factory=list)
+    listed: list = dataclasses.field(default_factory=list)
 
 
 def run(words, **more):
@@ -117,19 +130,19 @@ def authority_line(node):
     return f"DirAuthority {node.name} {port}no-v2 v3ident={node.identity} {node.address}:{DIR_PORT} {node.fingerprint}"
 
 
-def common_lines(folder, name, authorities, schedule=SCHEDULE):
+def common_lines(folder, node, authorities):
     """What every tor is given."""
     lines = [
         "TestingTorNetwork 1",
-        f"DataDirectory {folder / name}",
-        f"Log notice file {folder / 'logs' / name}",
+        f"DataDirectory {node.folder}",
+        f"Log notice file {folder / 'logs' / node.name}",
         f"ServerDNSResolvConfFile {folder / 'resolv.conf'}",
         "ServerDNSDetectHijacking 0",
         "ServerDNSTestAddresses",
         "ShutdownWaitLength 0",
         "PathsNeededToBuildCircuits 0.25",
     ]
-    for words, seconds in zip(("VotingInterval", "VoteDelay", "DistDelay"), schedule):
+    for words, seconds in zip(("VotingInterval", "VoteDelay", "DistDelay"), node.schedule):
         lines += [f"V3Auth{words} {seconds} seconds", f"TestingV3AuthInitial{words} {seconds} seconds"]
     return lines + [authority_line(each) for each in authorities]
 
@@ -153,14 +166,17 @@ def torrc(lines):
 
 def relay_torrc(folder, node, authorities):
     """The torrc of a relay."""
-    lines = common_lines(folder, node.name, authorities) + server_lines(node)
+    lines = common_lines(folder, node, authorities) + server_lines(node)
     lines += [f"ContactInfo {node.name}@example.org", "ExitRelay 1", "ExitPolicyRejectPrivate 0"]
+    lines += [f"FamilyId {each}" for each in node.families]
+    if node.listed:
+        lines.append("MyFamily " + ",".join(f"${each}" for each in node.listed))
     return torrc(lines + [f"ExitPolicy {rule}" for rule in POLICIES[(node.number - 1) % len(POLICIES)]])
 
 
-def authority_torrc(folder, node, authorities, version, schedule=SCHEDULE):
+def authority_torrc(folder, node, authorities, version):
     """The torrc of an authority that is a C tor, and recommends this version."""
-    lines = common_lines(folder, node.name, authorities, schedule) + server_lines(node)
+    lines = common_lines(folder, node, authorities) + server_lines(node)
     lines += [
         f"ContactInfo {node.name}@example.org",
         f"DirPort {node.address}:{DIR_PORT}",
@@ -177,12 +193,12 @@ def authority_torrc(folder, node, authorities, version, schedule=SCHEDULE):
     return torrc(lines)
 
 
-def client_torrc(folder, name, authorities, relays, guards=True):
+def client_torrc(folder, node, authorities, relays, guards=True):
     """The torrc of a client, which comes in by the relays: authorities of ours have no ORPort.
 
     Where no relay is known for long, none has the Guard flag, and the client is to do without guards.
     """
-    lines = common_lines(folder, name, authorities)
+    lines = common_lines(folder, node, authorities)
     lines += [
         f"SocksPort {CLIENT}:{SOCKS_PORT}",
         "ControlPort %s:%d" % CONTROL,
@@ -212,7 +228,7 @@ def station(node, authorities, relays, shared, now=None):
         f"own {node.name} {node.identity} {node.address} {node.address} {DIR_PORT} {OR_PORT}",
         f"contact {node.name}@example.org",
         certificate(node).rstrip("\n"),
-        f"schedule {INTERVAL} {VOTE} {DIST}",
+        "schedule %d %d %d" % node.schedule,
     ]
     lines += [f"authority {each.identity} {each.address}:{DIR_PORT}" for each in authorities]
     lines += shared + [f"params {params(node)}"]

@@ -14,9 +14,9 @@ sys.path.insert(0, str(CONTRIB / "key-service"))
 # The flavours: the end of the path, and the digest that signatures cover.
 FLAVOURS = {"consensus": "sha1", "consensus-microdesc": "sha256"}
 
-# The moments of the looks, in seconds from the valid-after: all votes and all signatures are there, and it is
-# published.
-VOTES_AT, SIGNATURES_AT, PUBLISHED_AT = 10 - nodes.DIST, -5, 5
+# The moments of the looks, in seconds: all votes are there, from the end of their exchange; all signatures are there, and
+# it is published, from the valid-after.
+VOTES_AT, SIGNATURES_AT, PUBLISHED_AT = 10, -5, 5
 
 # How long behind the valid-after a consensus is waited for, in seconds.
 PUBLISHED_WITHIN = 60
@@ -27,13 +27,14 @@ SIGNATURE = b"\ndirectory-signature "
 
 @dataclasses.dataclass
 class Period:
-    """What was seen of a period. `faults` is empty where all was as it must be."""
+    """What was seen of a period. `faults` is empty where all was as it must be; `documents` are by their file's name."""
 
     valid_after: int
     votes: dict = dataclasses.field(default_factory=dict)
     signatures: dict = dataclasses.field(default_factory=dict)
     published: dict = dataclasses.field(default_factory=dict)
     faults: list = dataclasses.field(default_factory=list)
+    documents: dict = dataclasses.field(default_factory=dict)
 
     def time(self):
         """The valid-after as it is written."""
@@ -65,10 +66,10 @@ def sleep_until(moment):
     time.sleep(max(0.0, moment - time.time()))
 
 
-def first_valid_after(now, ready):
+def first_valid_after(now, ready, schedule):
     """The first valid-after that can be reached by who is ready in so many seconds."""
-    soonest = now + ready + nodes.VOTE + nodes.DIST
-    return int(-(-soonest // nodes.INTERVAL) * nodes.INTERVAL)
+    interval, vote, dist = schedule
+    return int(-(-(now + ready + vote + dist) // interval) * interval)
 
 
 def signed_part(text):
@@ -170,10 +171,15 @@ def summary(front):
 
 
 def keeper(folder, period):
-    """What writes the documents of a period into its folder."""
+    """What keeps the documents of a period, also in its folder."""
     into = folder / "periods" / time.strftime("%Y-%m-%d-%H-%M-%S", time.gmtime(period.valid_after))
     into.mkdir(parents=True)
-    return lambda name, text: (into / name).write_bytes(text)
+
+    def keep(name, text):
+        period.documents[name] = text
+        (into / name).write_bytes(text)
+
+    return keep
 
 
 def look_at(valid_after, authorities, folder):
@@ -182,7 +188,7 @@ def look_at(valid_after, authorities, folder):
 
     period = Period(valid_after)
     keep = keeper(folder, period)
-    sleep_until(valid_after + VOTES_AT)
+    sleep_until(valid_after - authorities[0].schedule[2] + VOTES_AT)
     look_at_votes(period, authorities, keep)
     sleep_until(valid_after + SIGNATURES_AT)
     look_at_signatures(period, authorities)

@@ -1,6 +1,8 @@
 """Starting what a network consists of. All of it ends with the namespace in which it runs."""
 import http.client
+import os
 import pathlib
+import re
 import subprocess
 import sys
 import time
@@ -35,6 +37,14 @@ class Processes:
         except subprocess.TimeoutExpired:
             process.kill()
             process.wait()
+
+    def used(self, name):
+        """What one has used so far: memory that is resident, and processor time."""
+        room = pathlib.Path("/proc", str(self.started[name].pid))
+        resident = re.search(r"VmRSS:\s+(\d+) kB", (room / "status").read_text("ascii"))
+        ticks = (room / "stat").read_text("ascii").rpartition(")")[2].split()[11:13]
+        seconds = sum(map(int, ticks)) / os.sysconf("SC_CLK_TCK")
+        return f"{int(resident.group(1)) / 1024:.1f} MB and {seconds:.1f} s of processor" if resident else "nothing"
 
     def must_live(self):
         """Ends all where one has ended."""
@@ -107,6 +117,8 @@ def daemon_address(node):
 def start_daemon(processes, dirauth, node):
     """Starts the daemon of an authority of ours."""
     words = [str(dirauth), "serve", "--listen", daemon_address(node)]
+    if node.newest_method != nodes.NEWEST_METHOD:
+        words += ["--newest-method", str(node.newest_method)]
     processes.start(f"{node.name}-daemon", words, node.folder / "station")
 
 

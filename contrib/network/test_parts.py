@@ -13,10 +13,21 @@ sys.path.insert(0, str(HERE))
 
 # pylint: disable=wrong-import-position
 import client
+import families
 import nodes
 import periods
 
 FIRST, SECOND = "1" * 40, "2" * 40
+
+# A vote's entry of a relay with two microdescriptors, and of one with one.
+VOTE = b"""network-status-version 3
+r relay1 IDENTITY1 DESCRIPTOR1 2026-01-01 00:00:00 10.77.1.1 5001 0
+m 32,33,34 sha256=OLD1
+m 35 sha256=NEW1
+r relay4 IDENTITY4 DESCRIPTOR4 2026-01-01 00:00:00 10.77.1.4 5001 0
+m 32,33,34,35 sha256=BOTH4
+directory-footer
+"""
 
 
 def signed(text, *signers):
@@ -42,7 +53,8 @@ class Periods(unittest.TestCase):
 
     def test_the_first_period_leaves_time_to_start(self):
         for now, ready, valid_after in ((3000, 45, 3300), (3175, 45, 3300), (3175.5, 45, 3600), (3299, 0, 3600)):
-            self.assertEqual(periods.first_valid_after(now, ready), valid_after)
+            self.assertEqual(periods.first_valid_after(now, ready, (300, 40, 40)), valid_after)
+        self.assertEqual(periods.first_valid_after(3215, 45, (300, 20, 20)), 3300)
 
     def test_a_signature_of_each_authority(self):
         text = signed("consensus-method 33\n", *self.signers)
@@ -70,6 +82,48 @@ class Periods(unittest.TestCase):
     def test_a_summary_counts_relays(self):
         told = periods.summary(b"consensus-method 33\nr a\nr b\nrx\n")
         self.assertRegex(told, r"^method 33, 2 relays, 31 bytes \([0-9a-f]{8}\.\.\)$")
+
+
+class Families(unittest.TestCase):
+    """What microdescriptors must say of the families of relays."""
+
+    def setUp(self):
+        self.relays = [nodes.Node(f"relay{n}", nodes.RELAY % n, pathlib.Path("/none"), n) for n in (1, 4)]
+        self.relays[0].families = ["B", "A"]
+
+    def test_a_vote_names_a_microdescriptor_by_each_method(self):
+        named = list(families.voted(VOTE))
+        self.assertEqual(named[:2], [("relay1", "DESCRIPTOR1", 32, "OLD1"), ("relay1", "DESCRIPTOR1", 33, "OLD1")])
+        self.assertEqual([each[2:] for each in named[2:5]], [(34, "OLD1"), (35, "NEW1"), (32, "BOTH4")])
+        self.assertEqual(len(named), 8)
+
+    def test_a_consensus_names_one(self):
+        consensus = b"consensus-method 35\nr relay1 IDENTITY1 2026-01-01 00:00:00 10.77.1.1 5001 0\nm NEW1\n"
+        self.assertEqual(list(families.chosen(consensus)), [("relay1", 35, "NEW1")])
+
+    def test_votes_part_where_one_descriptor_has_two_by_a_method(self):
+        other = VOTE.replace(b"NEW1", b"OTHER1")
+        self.assertEqual(list(families.where_votes_part({"auth1": VOTE, "auth2": VOTE})), [])
+        told = ["auth1 and auth2 vote different microdescriptors of relay1 by method 35"]
+        self.assertEqual(list(families.where_votes_part({"auth1": VOTE, "auth2": other})), told)
+        newer = other.replace(b"DESCRIPTOR1", b"NEWER1")
+        self.assertEqual(list(families.where_votes_part({"auth1": VOTE, "auth2": newer})), [])
+
+    def test_families_are_named_from_method_35_on(self):
+        old, new = b"onion-key\nfamily $A\n", b"onion-key\nfamily $A\nfamily-ids ed25519:A ed25519:B\np accept 80\n"
+        given = {"OLD1": old, "NEW1": new, "BOTH4": b"onion-key\n"}
+        named = {(nickname, method, digest) for nickname, _, method, digest in families.voted(VOTE)}
+        self.assertEqual(list(families.why_not_given(given, named, self.relays)), [])
+        told = families.summary(given, named, {("relay1", 35, "NEW1"), ("relay4", 35, "BOTH4")})
+        self.assertEqual(told, "3 microdescriptors (32:2 33:2 34:2 35:2), families of 1 relays in the consensus")
+        told = list(families.why_not_given({**given, "NEW1": old}, named, self.relays))
+        self.assertEqual(told, ["the microdescriptor of relay1 by method 35 names no families"])
+        told = list(families.why_not_given({**given, "OLD1": new}, {("relay1", 34, "OLD1")}, self.relays))
+        self.assertEqual(told, ["the microdescriptor of relay1 by method 34 names ed25519:A ed25519:B"])
+
+    def test_what_is_named_is_given_out(self):
+        told = list(families.why_not_given({}, {("relay1", 35, "NEW1")}, self.relays))
+        self.assertEqual(told, ["the microdescriptor of relay1 by method 35 is not given out"])
 
 
 class Client(unittest.TestCase):
@@ -106,8 +160,23 @@ class Nodes(unittest.TestCase):
         self.assertIn(f"DirAuthority auth2 orport=5001 no-v2 v3ident={SECOND} 10.77.0.2:7001 {'4' * 40}", lines)
 
     def test_a_client_comes_in_by_the_relays(self):
-        lines = nodes.client_torrc(self.folder, "client", [self.ours], [self.relay]).splitlines()
+        node = nodes.Node("client", nodes.CLIENT, self.folder / "client", 0)
+        lines = nodes.client_torrc(self.folder, node, [self.ours], [self.relay]).splitlines()
         self.assertIn(f"FallbackDir 10.77.1.1 orport=5001 id={'5' * 40}", lines)
+
+    def test_a_relay_is_given_its_families(self):
+        self.assertNotIn("Family", nodes.relay_torrc(self.folder, self.relay, [self.ours]))
+        self.relay.families, self.relay.listed = ["B", "A"], [FIRST, SECOND]
+        lines = nodes.relay_torrc(self.folder, self.relay, [self.ours]).splitlines()
+        given = [line for line in lines if "Family" in line]
+        self.assertEqual(given, ["FamilyId B", "FamilyId A", f"MyFamily ${FIRST},${SECOND}"])
+
+    def test_an_authority_keeps_its_schedule(self):
+        self.ours.schedule = self.tor.schedule = (300, 20, 25)
+        lines = nodes.authority_torrc(self.folder, self.tor, [self.ours, self.tor], "0.4.9").splitlines()
+        for words, seconds in (("VotingInterval", 300), ("VoteDelay", 20), ("DistDelay", 25)):
+            self.assertIn(f"V3Auth{words} {seconds} seconds", lines)
+        self.assertIn("schedule 300 20 25", nodes.station(self.ours, [self.ours], [], []).splitlines())
 
     def test_a_station_has_the_network_and_the_shared_lines(self):
         vote = "client-versions 1\nflag-thresholds x\nrequired-relay-protocols Link=4\nparams a=1\n"
@@ -115,7 +184,7 @@ class Nodes(unittest.TestCase):
         self.assertEqual(shared, ["client-versions 1", "required-relay-protocols Link=4"])
         lines = nodes.station(self.ours, [self.ours, self.tor], [self.relay], shared, now=7).splitlines()
         self.assertEqual([line.split()[0] for line in lines].count("authority"), 2)
-        self.assertIn("schedule %d %d %d" % nodes.SCHEDULE, lines)
+        self.assertIn("schedule 300 40 40", lines)
         self.assertIn(f"measured {'5' * 40} 7 864000 990000 864000 1001", lines)
         self.assertIn(f"measured {'4' * 40} 7 864000 990000 864000 -", lines)
         self.assertEqual(lines[-1], "end-station")
@@ -128,8 +197,9 @@ class Words(unittest.TestCase):
 
     def test_what_is_wrong_is_told_in_a_line(self):
         program = [sys.executable, str(HERE / "network.py")]
-        few, none = ["--ours", "1", "--tors", "2"], ["--periods", "0"]
-        for words in (["/none"], ["/"], [sys.executable, *few], [sys.executable, *none]):
+        few, none, short = ["--ours", "1", "--tors", "2"], ["--periods", "0"], ["--delay", "19"]
+        known = [*few, "--newest-method", "34"]
+        for words in (["/none"], ["/"], *([sys.executable, *each] for each in (few, none, short, known))):
             done = subprocess.run([*program, *words], capture_output=True, check=False, timeout=30)
             self.assertEqual(done.returncode, 1)
             self.assertRegex(done.stderr.decode("utf-8"), r"^network: [^\n]+\n$")

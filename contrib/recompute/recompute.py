@@ -5,7 +5,8 @@
 
 CONSENSUS is a consensus of either flavour, VOTES are files of one vote or more, each document with or without a line
 `@type` in front, as archives keep them. `dirauth compute` makes the consensus of the votes, and its text is held
-against the published one in front of the signatures. It asks the key service, which verifies each vote.
+against the published one in front of the signatures. It asks the key service, which verifies each vote. Where the
+consensus was made by method 34 or 35, `dirauth` is told that methods up to that one are known.
 
 Exit status 0: the text is the same, or differs in the method alone and that is told; 1: it differs, and where is told;
 2: nothing was computed, and one line says why.
@@ -24,8 +25,8 @@ import sys
 # How many parts that differ are shown.
 SHOWN = 20
 
-# The highest method that dirauth knows.
-HIGHEST_METHOD = 33
+# The highest method that dirauth knows unasked, and the highest that it can be asked to know.
+HIGHEST_UNASKED, HIGHEST_METHOD = 33, 35
 
 Source = collections.namedtuple("Source", "nickname fingerprint digest")
 
@@ -102,10 +103,17 @@ def votes_of(paths, consensus, tell):
     return [held[name] for name in named if name in held]
 
 
+def newest_method(consensus):
+    """The words by which dirauth knows the methods up to that of a consensus, where they are needed and it can."""
+    method = min(int(consensus.method), HIGHEST_METHOD) if consensus.method.isdigit() else HIGHEST_UNASKED
+    return ["--newest-method", str(method)] if method > HIGHEST_UNASKED else []
+
+
 def computed(given, consensus, votes):
     """The text that dirauth computes of the votes."""
     roster = given.authorities or ",".join(source.fingerprint for source in consensus.sources)
     words = ["compute", "--authorities", roster, "--valid-after", consensus.valid_after, "--flavour", consensus.flavour]
+    words += newest_method(consensus)
     command = [given.dirauth, *(["--test-keys"] if given.test_keys else []), *words]
     try:
         ran = subprocess.run(command, input=b"".join(votes), stdout=subprocess.PIPE, stderr=subprocess.PIPE, check=False)
@@ -150,7 +158,7 @@ def differences(published, made):
 
 
 def is_of_method_alone(found, consensus):
-    """Whether nothing differs but the line of a method that dirauth does not know."""
+    """Whether nothing differs but the line of a method that dirauth cannot know."""
     above = consensus.method.isdigit() and int(consensus.method) > HIGHEST_METHOD
     return above and len(found) == 1 and all(line[1:].startswith("consensus-method ") for line in found[0][1])
 

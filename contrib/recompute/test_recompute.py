@@ -74,16 +74,27 @@ class Recomputes(Room):
         self.assertEqual(self.told(published)[0], 0)
         self.assertIn("--flavour\nmicrodesc", (self.room / "words").read_text(encoding="ascii"))
 
+    def test_a_later_method_is_asked_for(self):
+        for method, asked in ((32, []), (33, []), (34, ["34"]), (35, ["35"]), (36, ["35"])):
+            published = self.published.replace("consensus-method 32", f"consensus-method {method}")
+            self.computes(published)
+            self.assertEqual(self.told(published)[0], 0)
+            words = (self.room / "words").read_text(encoding="ascii").split("\n")
+            self.assertEqual(words[7:], ["--newest-method", *asked] if asked else [])
+
     def test_a_method_that_is_not_known_differs_in_its_line_alone(self):
-        status, told, _ = self.told(self.published.replace("consensus-method 32", "consensus-method 35"))
+        self.computes(self.published.replace("consensus-method 32", "consensus-method 35"))
+        status, told, _ = self.told(self.published.replace("consensus-method 32", "consensus-method 36"))
         self.assertEqual(status, 0)
-        self.assertIn("but for the line of the method: published 35, computed 32", told)
+        self.assertIn("but for the line of the method: published 36, computed 35", told)
 
     def test_a_method_that_is_known_differs(self):
-        self.assertEqual(self.told(self.published.replace("consensus-method 32", "consensus-method 33"))[0], 1)
+        for method in (33, 34, 35):
+            published = self.published.replace("consensus-method 32", f"consensus-method {method}")
+            self.assertEqual(self.told(published)[0], 1)
 
     def test_a_method_and_a_relay_differ(self):
-        published = self.published.replace("consensus-method 32", "consensus-method 35").replace("s NoEd", "s Fast NoEd")
+        published = self.published.replace("consensus-method 32", "consensus-method 36").replace("s NoEd", "s Fast NoEd")
         status, told, _ = self.told(published)
         self.assertEqual(status, 1)
         self.assertIn("2 parts differ", told)
