@@ -217,6 +217,10 @@ class Held(FrontCase):
         for path in (f"/tor/server/d/{server}", f"/tor/micro/d/{micro}"):
             self.assertEqual(self.code_and_body(path)[0], 200)
 
+    def test_a_vote_may_name_two_microdescriptors_of_a_relay(self):
+        vote = f"m 32,33,34 sha256={'A' * 43}\nm 35 sha256={'B' * 43}\n".encode("ascii")
+        self.assertEqual(directory_documents.named_microdescriptors(vote), ["A" * 43, "B" * 43])
+
     def test_an_expired_certificate_goes(self):
         self.holdings.take_certificates(stored("certificates"), NOW)
         self.assertEqual(len(self.holdings.newest_certificates()), 3)
