@@ -28,7 +28,7 @@ returns g c =
       state =
           subst (λ (b : Locks). EndsIn (Stands after (IsCheckedHistory rules)) b.state
           (map (λ (p : Parts). p.state) c.args.passes.items) c.in-Ok.period.period_state) c.self.view_is
-          (ends_as (λ t. t.state) (Stands after (IsCheckedHistory rules)) c.self.inside.state _ _ c.in-Ok.period
+          (ends_as (λ t. t.period_state) (Stands after (IsCheckedHistory rules)) c.self.inside.state _ _ c.in-Ok.period
           c.part-states.ensures.states c.in-Ok.ensures.closed);
       pool =
           subst (λ (b : Locks). EndsIn (Stands stock_after (AreKept rules)) b.pool
