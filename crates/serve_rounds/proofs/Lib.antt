@@ -3,3 +3,4 @@ pub mod Adding
 pub mod AskedOfPlans
 pub mod RoundMarks
 pub mod Exchanges
+pub mod Kept

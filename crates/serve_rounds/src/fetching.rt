@@ -3,25 +3,27 @@ ghost use Rattle.std.specs.Prelude.{◌≡◌, ◌≤◌, ◌++◌, ◌∷◌, [
 ghost use Rattle.key_port.specs.Answers.{rules};
 ghost use Rattle.dir_values.specs.Digests.{fingerprint_text};
 ghost use Rattle.vote_terms.specs.Acceptable.{IsVerified};
-ghost use Rattle.serve_board.specs.Boards.{IsAt, Parts};
+ghost use Rattle.serve_board.specs.Boards.{IsAt};
 ghost use Rattle.vote_schedule.specs.declared.phase.Phase.TheVariants as phases;
 ghost use Rattle.serve_rounds.specs.Duties.{IsFetched, StandsAlone};
-ghost use Rattle.serve_rounds.specs.Exchanges.{AsksSome, IsDue, MayAsk};
+ghost use Rattle.serve_rounds.specs.Exchanges.{MayAsk};
+ghost use Rattle.serve_rounds.specs.Keeping.{AddsTo, AsksOf, Keeps};
 ghost use Rattle.serve_rounds.specs.Plans.{GetVote, all_votes, marked_phase, plan_of_phase, request_of, votes_at};
-ghost use Rattle.serve_rounds.specs.Spans.{Adds, Anywhere};
+ghost use Rattle.serve_rounds.specs.Spans.{Anywhere};
 
+use crate::lent::{Given, Lent};
 use crate::peers::{address_of, body_of};
 use crate::round::Round;
+use crate::ruling::Rulers;
 use crate::turns::is_held;
 use dir_bytes::Memory;
 use dir_http::Link;
 use dir_values::Fingerprint;
 use http_words::VOTE_RESPONSE_LIMIT;
-use key_port::Verifier;
+use key_port::{Signer, Verifier};
 use lone_vote::lone_vote;
 use period_terms::Via;
-use serve_board::{Board, Pass};
-use station_input::StationFacts;
+use serve_board::Board;
 use std::alloc::Global;
 use std::sync::Wait;
 use vote_doc::{CheckedVote, check_vote};
@@ -81,162 +83,89 @@ fn vote_of_peer<V: Verifier, L: Link>(
 }
 
 /// Asks a peer for the vote of an authority, where none is held, and offers what it gives.
-fn fetch_vote<H: Wait, V: Verifier, L: Link>(
-    rt: &H,
-    alloc: Global,
-    board: &Board<V>,
-    pass: &mut Pass<V>,
+fn fetch_vote<H: Wait, W: Rulers, V: Verifier, N: Signer, L: Link>(
+    given: &Given<H, W, V>,
+    lent: &mut Lent<V, N, L>,
     address: &[u8],
     authority: &Fingerprint,
     valid_after: u64,
-    now: u64,
-    verifier: &mut V,
-    link: &mut L,
 )
-    requires at { IsAt board.now pass.old }
-    ensures adds { (a : Parts)
-        → Adds (Anywhere (IsFetched (rules V.may_accept V.may_refuse) now)) a pass.old
-        → Adds (Anywhere (IsFetched (rules V.may_accept V.may_refuse) now)) a pass.new }
-    ensures at { IsAt board.now pass.new }
-    ensures verifier { V.faults verifier.old ≤ V.faults verifier.new }
-    ensures asks { AsksSome L.steps (IsDue (rules V.may_accept V.may_refuse) board.now pass.old pass.new)
-        ((address.now, GetVote authority.now) ∷ []) link.old link.new }
-    ensures link { L.faults link.old ≤ L.faults link.new }
+    requires at { IsAt given.now.board.now lent.old.pass.now }
+    ensures keeps { Keeps V.faults N.faults L.faults given.now.board.now lent.old lent.new }
+    ensures adds { AddsTo (Anywhere (IsFetched (rules V.may_accept V.may_refuse) given.now.moment)) lent.old lent.new }
+    ensures asks { AsksOf L.steps (rules V.may_accept V.may_refuse) given.now.board.now
+        ((address.now, GetVote authority.now) ∷ []) lent.old lent.new }
 {
-    if is_held(rt, board, pass, *authority) {
+    if is_held(given.rt, given.board, &mut *lent.pass, *authority) {
         return;
     }
     let Some(vote) = vote_of_peer(
-        alloc,
-        board,
+        given.alloc,
+        given.board,
         address,
         authority,
         valid_after,
-        verifier,
-        link,
+        &mut *lent.verifier,
+        &mut *lent.link,
     ) else {
         return;
     };
-    let _ = board.offer(rt, pass, vote, Via::Fetched, now);
+    let _ = given.board.offer(given.rt, &mut *lent.pass, vote, Via::Fetched, given.moment);
 }
 
 /// Asks a peer for the vote of each authority of which none is held, and offers what it gives.
-fn fetch_from<H: Wait, V: Verifier, L: Link>(
-    rt: &H,
-    alloc: Global,
-    board: &Board<V>,
-    station: &StationFacts,
-    pass: &mut Pass<V>,
+fn fetch_from<H: Wait, W: Rulers, V: Verifier, N: Signer, L: Link>(
+    given: &Given<H, W, V>,
+    lent: &mut Lent<V, N, L>,
     address: &[u8],
     valid_after: u64,
-    now: u64,
-    verifier: &mut V,
-    link: &mut L,
 )
-    requires at { IsAt board.now pass.old }
-    ensures adds { (a : Parts)
-        → Adds (Anywhere (IsFetched (rules V.may_accept V.may_refuse) now)) a pass.old
-        → Adds (Anywhere (IsFetched (rules V.may_accept V.may_refuse) now)) a pass.new }
-    ensures at { IsAt board.now pass.new }
-    ensures verifier { V.faults verifier.old ≤ V.faults verifier.new }
-    ensures asks { AsksSome L.steps (IsDue (rules V.may_accept V.may_refuse) board.now pass.old pass.new)
-        (votes_at station.now.authorities address.now) link.old link.new }
-    ensures link { L.faults link.old ≤ L.faults link.new }
+    requires at { IsAt given.now.board.now lent.old.pass.now }
+    ensures keeps { Keeps V.faults N.faults L.faults given.now.board.now lent.old lent.new }
+    ensures adds { AddsTo (Anywhere (IsFetched (rules V.may_accept V.may_refuse) given.now.moment)) lent.old lent.new }
+    ensures asks { AsksOf L.steps (rules V.may_accept V.may_refuse) given.now.board.now
+        (votes_at given.now.station.now.authorities address.now) lent.old lent.new }
 {
-    'votes: for member in station.authorities.as_slice() {
-        let authority = &member.identity;
-        fetch_vote(
-            rt,
-            alloc,
-            board,
-            pass,
-            address,
-            authority,
-            valid_after,
-            now,
-            verifier,
-            link,
-        );
+    'votes: for member in given.station.authorities.as_slice() {
+        fetch_vote(given, lent, address, &member.identity, valid_after);
     }
 }
 
 /// Asks each peer in turn, in the input's order, for the votes of which none is held.
-fn fetch_all<H: Wait, V: Verifier, L: Link>(
-    rt: &H,
-    alloc: Global,
-    board: &Board<V>,
-    station: &StationFacts,
-    pass: &mut Pass<V>,
+fn fetch_all<H: Wait, W: Rulers, V: Verifier, N: Signer, L: Link>(
+    given: &Given<H, W, V>,
+    lent: &mut Lent<V, N, L>,
     valid_after: u64,
-    now: u64,
-    verifier: &mut V,
-    link: &mut L,
 )
-    requires at { IsAt board.now pass.old }
-    ensures adds { (a : Parts)
-        → Adds (Anywhere (IsFetched (rules V.may_accept V.may_refuse) now)) a pass.old
-        → Adds (Anywhere (IsFetched (rules V.may_accept V.may_refuse) now)) a pass.new }
-    ensures at { IsAt board.now pass.new }
-    ensures verifier { V.faults verifier.old ≤ V.faults verifier.new }
-    ensures asks { AsksSome L.steps (IsDue (rules V.may_accept V.may_refuse) board.now pass.old pass.new)
-        (all_votes station.now) link.old link.new }
-    ensures link { L.faults link.old ≤ L.faults link.new }
+    requires at { IsAt given.now.board.now lent.old.pass.now }
+    ensures keeps { Keeps V.faults N.faults L.faults given.now.board.now lent.old lent.new }
+    ensures adds { AddsTo (Anywhere (IsFetched (rules V.may_accept V.may_refuse) given.now.moment)) lent.old lent.new }
+    ensures asks { AsksOf L.steps (rules V.may_accept V.may_refuse) given.now.board.now (all_votes given.now.station.now)
+        lent.old lent.new }
 {
-    'peers: for peer in station.authorities.as_slice() {
-        if let Some(address) = address_of(station, peer) {
-            fetch_from(
-                rt,
-                alloc,
-                board,
-                station,
-                pass,
-                address,
-                valid_after,
-                now,
-                verifier,
-                link,
-            );
+    'peers: for peer in given.station.authorities.as_slice() {
+        if let Some(address) = address_of(given.station, peer) {
+            fetch_from(given, lent, address, valid_after);
         }
     }
 }
 
 /// Fetches the votes of which none is held, once in a period.
-pub(crate) fn fetch_once<H: Wait, V: Verifier, L: Link>(
-    rt: &H,
-    alloc: Global,
-    board: &Board<V>,
-    station: &StationFacts,
-    pass: &mut Pass<V>,
+pub(crate) fn fetch_once<H: Wait, W: Rulers, V: Verifier, N: Signer, L: Link>(
+    given: &Given<H, W, V>,
+    lent: &mut Lent<V, N, L>,
     round: &mut Round,
-    now: u64,
-    verifier: &mut V,
-    link: &mut L,
 )
-    requires at { IsAt board.now pass.old }
-    ensures adds { (a : Parts)
-        → Adds (Anywhere (IsFetched (rules V.may_accept V.may_refuse) now)) a pass.old
-        → Adds (Anywhere (IsFetched (rules V.may_accept V.may_refuse) now)) a pass.new }
-    ensures at { IsAt board.now pass.new }
-    ensures verifier { V.faults verifier.old ≤ V.faults verifier.new }
-    ensures asks { AsksSome L.steps (IsDue (rules V.may_accept V.may_refuse) board.now pass.old pass.new)
-        (plan_of_phase station.now None phases.Fetching round.old) link.old link.new }
+    requires at { IsAt given.now.board.now lent.old.pass.now }
+    ensures keeps { Keeps V.faults N.faults L.faults given.now.board.now lent.old lent.new }
+    ensures adds { AddsTo (Anywhere (IsFetched (rules V.may_accept V.may_refuse) given.now.moment)) lent.old lent.new }
+    ensures asks { AsksOf L.steps (rules V.may_accept V.may_refuse) given.now.board.now
+        (plan_of_phase given.now.station.now None phases.Fetching round.old) lent.old lent.new }
     ensures marks { round.new ≡ marked_phase None phases.Fetching round.old }
-    ensures link { L.faults link.old ≤ L.faults link.new }
 {
     if round.fetched {
         return;
     }
     round.fetched = true;
-    let valid_after = round.valid_after;
-    fetch_all(
-        rt,
-        alloc,
-        board,
-        station,
-        pass,
-        valid_after,
-        now,
-        verifier,
-        link,
-    );
+    fetch_all(given, lent, round.valid_after);
 }

@@ -5,6 +5,7 @@
 mod advancing;
 mod fetching;
 mod gathering;
+mod lent;
 mod making;
 mod peers;
 mod round;

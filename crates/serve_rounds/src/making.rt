@@ -2,15 +2,18 @@
 ghost use Rattle.std.specs.Prelude.{◌≡◌, ◌≤◌, IfSome, IsTrue};
 ghost use Rattle.key_port.specs.Answers.{rules};
 ghost use Rattle.serve_board.specs.Boards.{IsAt, Parts};
+ghost use Rattle.serve_rounds.specs.Keeping.{AddsNothing, Keeps};
 ghost use Rattle.serve_rounds.specs.OwnVotes.{IsTextMade, IsTextOfBoard};
 ghost use Rattle.serve_rounds.specs.Spans.{AddsNone};
 
+use crate::lent::{Given, Lent};
 use crate::ruling::Rulers;
 use crate::schedule::schedule_of;
 use dir_bytes::LAST_MOMENT;
+use dir_http::Link;
 use flag_rules::{Hook, RelayFacts, Ruling};
 use key_port::{Signer, Verifier};
-use serve_board::{Board, Pass, Question};
+use serve_board::{Pass, Question};
 use station_input::StationFacts;
 use std::alloc::Global;
 use std::sync::Wait;
@@ -99,7 +102,7 @@ impl<'a, 'b, 'c, W: Rulers, N: Signer, V: Verifier> Question<Pool<V>>
 
 /// What was lent for a vote that is made. It owns no memory, so that what was lent is known where it ends.
 #[derive(Drop)]
-struct Lent<'b, 'c, N: Signer, V: Verifier> {
+struct GivenBack<'b, 'c, N: Signer, V: Verifier> {
     verifier: &'b mut V,
     signer: &'c mut N,
 }
@@ -107,80 +110,64 @@ struct Lent<'b, 'c, N: Signer, V: Verifier> {
 /// Puts out the text of the vote that is made of the board's pool in one reading, if one can be made, and gives back what was lent for
 /// it.
 fn made_in_turn<'b, 'c, H: Wait, W: Rulers, V: Verifier, N: Signer>(
-    rt: &H,
-    alloc: Global,
-    board: &Board<V>,
-    station: &StationFacts,
-    ruler: &W,
+    given: &Given<H, W, V>,
     pass: &mut Pass<V>,
     valid_after: u64,
-    moment: u64,
     verifier: &'b mut V,
     signer: &'c mut N,
     out: &mut Option<Vec<u8>>,
-) -> Lent<'b, 'c, N, V>
-    requires at { IsAt board.now pass.old }
-    ensures text { IfSome out.new (λ text. IsTextOfBoard (rules V.may_accept V.may_refuse) N.may_give N.steps
-        (W.allows ruler.now) station.now board.now pass.old pass.new valid_after moment text.items) }
+) -> GivenBack<'b, 'c, N, V>
+    requires at { IsAt given.now.board.now pass.old }
+    ensures text { IfSome out.new (λ text. IsTextOfBoard (rules V.may_accept V.may_refuse) N.may_give N.steps (W.allows
+        given.now.ruler.now) given.now.station.now given.now.board.now pass.old pass.new valid_after given.now.moment
+        text.items) }
     ensures none { (a : Parts) → AddsNone a pass.old → AddsNone a pass.new }
-    ensures at { IsAt board.now pass.new }
+    ensures at { IsAt given.now.board.now pass.new }
     ensures verifier { V.faults verifier.old ≤ V.faults result.verifier.now }
     ensures signer { N.faults signer.old ≤ N.faults result.signer.now }
     ensures same_verifier { result.verifier.ghost_name ≡ verifier.entry.ghost_name }
     ensures same_signer { result.signer.ghost_name ≡ signer.entry.ghost_name }
 {
     let question = MakeVote {
-        alloc,
-        station,
-        ruler,
+        alloc: given.alloc,
+        station: given.station,
+        ruler: given.ruler,
         valid_after,
-        moment,
+        moment: given.moment,
         verifier,
         signer,
     };
-    let (text, question) = board.look(rt, pass, question);
+    let (text, question) = given.board.look(given.rt, pass, question);
     let MakeVote {
         verifier,
         signer,
         ..
     } = question;
     *out = text;
-    Lent { verifier, signer }
+    GivenBack { verifier, signer }
 }
 
-/// The text of the own vote, made of the board's pool in one reading. None where none can be made.
-pub(crate) fn own_text<H: Wait, W: Rulers, V: Verifier, N: Signer>(
-    rt: &H,
-    alloc: Global,
-    board: &Board<V>,
-    station: &StationFacts,
-    ruler: &W,
-    pass: &mut Pass<V>,
+/// The text of the own vote, made of the board's pool in one reading. None where none can be made. No peer is asked.
+pub(crate) fn own_text<H: Wait, W: Rulers, V: Verifier, N: Signer, L: Link>(
+    given: &Given<H, W, V>,
+    lent: &mut Lent<V, N, L>,
     valid_after: u64,
-    now: u64,
-    verifier: &mut V,
-    signer: &mut N,
 ) -> Option<Vec<u8>>
-    requires at { IsAt board.now pass.old }
-    ensures text { IfSome result (λ text. IsTextOfBoard (rules V.may_accept V.may_refuse) N.may_give N.steps
-        (W.allows ruler.now) station.now board.now pass.old pass.new valid_after now text.items) }
-    ensures none { (a : Parts) → AddsNone a pass.old → AddsNone a pass.new }
-    ensures at { IsAt board.now pass.new }
-    ensures verifier { V.faults verifier.old ≤ V.faults verifier.new }
-    ensures signer { N.faults signer.old ≤ N.faults signer.new }
+    requires at { IsAt given.now.board.now lent.old.pass.now }
+    ensures text { IfSome result (λ text. IsTextOfBoard (rules V.may_accept V.may_refuse) N.may_give N.steps (W.allows
+        given.now.ruler.now) given.now.station.now given.now.board.now lent.old.pass.now lent.new.pass.now valid_after
+        given.now.moment text.items) }
+    ensures none { AddsNothing lent.old lent.new }
+    ensures keeps { Keeps V.faults N.faults L.faults given.now.board.now lent.old lent.new }
+    ensures link { lent.new.link.now ≡ lent.old.link.now }
 {
     let mut text = None;
-    let _lent = made_in_turn(
-        rt,
-        alloc,
-        board,
-        station,
-        ruler,
-        pass,
+    let _back = made_in_turn(
+        given,
+        &mut *lent.pass,
         valid_after,
-        now,
-        verifier,
-        signer,
+        &mut *lent.verifier,
+        &mut *lent.signer,
         &mut text,
     );
     text

@@ -4,18 +4,20 @@ ghost use Rattle.key_port.specs.Answers.{rules};
 ghost use Rattle.serve_board.specs.Boards.{IsAt, Parts};
 ghost use Rattle.serve_rounds.specs.Duties.{IsGathered, TellsAccepted};
 ghost use Rattle.serve_rounds.specs.Exchanges.{BringsSignatures};
-ghost use Rattle.serve_rounds.specs.Spans.{Adds, AddsNone, Anywhere};
+ghost use Rattle.serve_rounds.specs.Keeping.{AddsNothing, Keeps};
+ghost use Rattle.serve_rounds.specs.Spans.{Adds, Anywhere};
 
+use crate::lent::{Given, Lent};
 use crate::peers::post_to_peers;
 use crate::round::Round;
+use crate::ruling::Rulers;
 use crate::turns::signatures_held;
 use checked_sigs::check_signatures;
 use dir_http::Link;
 use http_words::SIGNATURES_RESPONSE_LIMIT;
-use key_port::Verifier;
+use key_port::{Signer, Verifier};
 use period_terms::{CheckedSig, PeriodView};
 use serve_board::{Board, Pass};
-use station_input::StationFacts;
 use std::alloc::Global;
 use std::sync::Wait;
 
@@ -78,30 +80,31 @@ pub(crate) fn sign_in_all<H: Wait, V: Verifier>(
 
 /// Brings the signatures that are held to each peer, once in a period, behind the own signing. Where there is no memory it is tried
 /// again the next time.
-pub(crate) fn post_once<H: Wait, V: Verifier, L: Link>(
-    rt: &H,
-    alloc: Global,
-    board: &Board<V>,
-    station: &StationFacts,
-    pass: &mut Pass<V>,
+pub(crate) fn post_once<H: Wait, W: Rulers, V: Verifier, N: Signer, L: Link>(
+    given: &Given<H, W, V>,
+    lent: &mut Lent<V, N, L>,
     round: &mut Round,
-    link: &mut L,
 )
-    requires at { IsAt board.now pass.old }
-    ensures none { (a : Parts) → AddsNone a pass.old → AddsNone a pass.new }
-    ensures at { IsAt board.now pass.new }
-    ensures brings { BringsSignatures (rules V.may_accept V.may_refuse) station.now board.now L.steps pass.old pass.new
-        round.old round.new link.old link.new }
+    requires at { IsAt given.now.board.now lent.old.pass.now }
+    ensures keeps { Keeps V.faults N.faults L.faults given.now.board.now lent.old lent.new }
+    ensures none { AddsNothing lent.old lent.new }
+    ensures brings { BringsSignatures (rules V.may_accept V.may_refuse) given.now.station.now given.now.board.now L.steps
+        lent.old.pass.now lent.new.pass.now round.old round.new lent.old.link.now lent.new.link.now }
     ensures round { round.new.valid_after ≡ round.old.valid_after }
-    ensures link { L.faults link.old ≤ L.faults link.new }
 {
     if !round.must_bring() {
         return;
     }
-    let Ok(Some(text)) = signatures_held(rt, alloc, board, pass) else {
+    let Ok(Some(text)) = signatures_held(given.rt, given.alloc, given.board, &mut *lent.pass) else {
         return;
     };
     round.posted = true;
     let path = b"/tor/post/consensus-signature";
-    post_to_peers(alloc, station, link, path, text.as_bytes());
+    post_to_peers(
+        given.alloc,
+        given.station,
+        &mut *lent.link,
+        path,
+        text.as_bytes(),
+    );
 }

@@ -6,13 +6,15 @@ ghost use Rattle.serve_board.specs.Boards.{IsAt, Parts};
 ghost use Rattle.serve_board.specs.Going.{Goes};
 ghost use Rattle.serve_rounds.specs.Duties.{Duties, IsRound};
 ghost use Rattle.serve_rounds.specs.Exchanges.{AsksAs, AsksPeers, DoesPhase};
+ghost use Rattle.serve_rounds.specs.Keeping.{AddsTo, Keeps};
 ghost use Rattle.serve_rounds.specs.OwnVotes.{IsPeriodOf};
 ghost use Rattle.serve_rounds.specs.Plans.{phase_in};
-ghost use Rattle.serve_rounds.specs.Spans.{Adds, Since};
+ghost use Rattle.serve_rounds.specs.Spans.{Since};
 
 use crate::advancing::advance_all;
 use crate::fetching::fetch_once;
 use crate::gathering::gather_once;
+use crate::lent::{Given, Lent};
 use crate::round::Round;
 use crate::ruling::Rulers;
 use crate::signatures::post_once;
@@ -40,41 +42,25 @@ fn phase_of(station: &StationFacts, valid_after: u64, now: u64) -> Phase
 
 /// Does what the phase of a round's period at a moment asks for, and was not done yet.
 fn work_in_phase<H: Wait, W: Rulers, V: Verifier, N: Signer, L: Link>(
-    rt: &H,
-    alloc: Global,
-    board: &Board<V>,
-    station: &StationFacts,
-    ruler: &W,
-    pass: &mut Pass<V>,
+    given: &Given<H, W, V>,
+    lent: &mut Lent<V, N, L>,
     round: &mut Round,
-    now: u64,
-    verifier: &mut V,
-    signer: &mut N,
-    link: &mut L,
 )
-    requires at { IsAt board.now pass.old }
-    ensures adds { (from a : Parts) → Goes from pass.old
-        → IsPeriodOf (rules V.may_accept V.may_refuse) board.now from pass.old round.old.valid_after
-        → Adds (Since from (IsRound (rules V.may_accept V.may_refuse) N.may_give N.steps (W.allows ruler.now)
-        station.now board.now now)) a pass.old
-        → Adds (Since from (IsRound (rules V.may_accept V.may_refuse) N.may_give N.steps (W.allows ruler.now)
-        station.now board.now now)) a pass.new }
-    ensures at { IsAt board.now pass.new }
-    ensures verifier { V.faults verifier.old ≤ V.faults verifier.new }
-    ensures signer { N.faults signer.old ≤ N.faults signer.new }
-    ensures does { DoesPhase (rules V.may_accept V.may_refuse) N.may_give N.steps (W.allows ruler.now) station.now
-        board.now L.steps pass.old pass.new (phase_in station.now round.old.valid_after now) now round.old round.new
-        link.old link.new }
-    ensures link { L.faults link.old ≤ L.faults link.new }
+    requires at { IsAt given.now.board.now lent.old.pass.now }
+    ensures keeps { Keeps V.faults N.faults L.faults given.now.board.now lent.old lent.new }
+    ensures adds { (from : Parts) → Goes from lent.old.pass.now
+        → IsPeriodOf (rules V.may_accept V.may_refuse) given.now.board.now from lent.old.pass.now round.old.valid_after
+        → AddsTo (Since from (IsRound (rules V.may_accept V.may_refuse) N.may_give N.steps (W.allows
+        given.now.ruler.now) given.now.station.now given.now.board.now given.now.moment)) lent.old lent.new }
+    ensures does { DoesPhase (rules V.may_accept V.may_refuse) N.may_give N.steps (W.allows given.now.ruler.now)
+        given.now.station.now given.now.board.now L.steps lent.old.pass.now lent.new.pass.now (phase_in
+        given.now.station.now round.old.valid_after given.now.moment) given.now.moment round.old round.new
+        lent.old.link.now lent.new.link.now }
 {
-    match phase_of(station, round.valid_after, now) {
-        Phase::Voting => vote_once(
-            rt, alloc, board, station, ruler, pass, round, now, verifier, signer, link,
-        ),
-        Phase::Fetching => fetch_once(rt, alloc, board, station, pass, round, now, verifier, link),
-        Phase::FetchingSignatures => {
-            gather_once(rt, alloc, board, station, pass, round, verifier, link)
-        }
+    match phase_of(given.station, round.valid_after, given.moment) {
+        Phase::Voting => vote_once(given, lent, round),
+        Phase::Fetching => fetch_once(given, lent, round),
+        Phase::FetchingSignatures => gather_once(given, lent, round),
         Phase::Waiting | Phase::Signing | Phase::Past => (),
     }
 }
@@ -82,38 +68,23 @@ fn work_in_phase<H: Wait, W: Rulers, V: Verifier, N: Signer, L: Link>(
 /// Does the duties of the period that the board is in, each once: in `Voting` the own vote, in `Fetching` the votes that lack, behind
 /// the own signing the signatures that are held, and in `FetchingSignatures` those of the peers.
 fn work<H: Wait, W: Rulers, V: Verifier, N: Signer, L: Link>(
-    rt: &H,
-    alloc: Global,
-    board: &Board<V>,
-    station: &StationFacts,
-    ruler: &W,
-    pass: &mut Pass<V>,
+    given: &Given<H, W, V>,
+    lent: &mut Lent<V, N, L>,
     round: &mut Round,
     signed: bool,
-    now: u64,
-    verifier: &mut V,
-    signer: &mut N,
-    link: &mut L,
 )
-    requires at { IsAt board.now pass.old }
-    ensures adds { (a : Parts)
-        → Adds (IsRound (rules V.may_accept V.may_refuse) N.may_give N.steps (W.allows ruler.now) station.now
-        board.now now) a pass.old
-        → Adds (IsRound (rules V.may_accept V.may_refuse) N.may_give N.steps (W.allows ruler.now) station.now
-        board.now now) a pass.new }
-    ensures at { IsAt board.now pass.new }
-    ensures verifier { V.faults verifier.old ≤ V.faults verifier.new }
-    ensures signer { N.faults signer.old ≤ N.faults signer.new }
-    ensures asks { AsksAs (rules V.may_accept V.may_refuse) N.may_give N.steps (W.allows ruler.now) station.now
-        board.now L.steps pass.old pass.new now signed round.old round.new link.old link.new }
-    ensures link { L.faults link.old ≤ L.faults link.new }
+    requires at { IsAt given.now.board.now lent.old.pass.now }
+    ensures keeps { Keeps V.faults N.faults L.faults given.now.board.now lent.old lent.new }
+    ensures adds { AddsTo (IsRound (rules V.may_accept V.may_refuse) N.may_give N.steps (W.allows given.now.ruler.now)
+        given.now.station.now given.now.board.now given.now.moment) lent.old lent.new }
+    ensures asks { AsksAs (rules V.may_accept V.may_refuse) N.may_give N.steps (W.allows given.now.ruler.now)
+        given.now.station.now given.now.board.now L.steps lent.old.pass.now lent.new.pass.now given.now.moment signed
+        round.old round.new lent.old.link.now lent.new.link.now }
 {
-    let valid_after = board.valid_after(rt, pass);
+    let valid_after = given.board.valid_after(given.rt, &mut *lent.pass);
     round.turn_to(valid_after, signed);
-    post_once(rt, alloc, board, station, pass, round, link);
-    work_in_phase(
-        rt, alloc, board, station, ruler, pass, round, now, verifier, signer, link,
-    );
+    post_once(given, lent, round);
+    work_in_phase(given, lent, round);
 }
 
 /// Does the duties of an authority once, at one moment of the clock, which is asked first. The state is advanced until nothing more
@@ -154,19 +125,20 @@ pub fn duties<H: Wait, R: Rulers, F, C: Clock, V: Verifier, N: Signer, L: Link>(
 {
     let now = clock.now();
     let (answer, signed) = advance_all(rt, alloc, board, pass, now, verifier, signer);
-    work(
+    let given = Given {
         rt,
         alloc,
         board,
         station,
-        &hook.rules,
+        ruler: &hook.rules,
+        moment: now,
+    };
+    let mut lent = Lent {
         pass,
-        round,
-        signed,
-        now,
         verifier,
         signer,
         link,
-    );
+    };
+    work(&given, &mut lent, round, signed);
     answer
 }

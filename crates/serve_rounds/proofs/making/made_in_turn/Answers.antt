@@ -4,15 +4,17 @@ use Rattle.serve_rounds.proofs.making.made_in_turn.Goals as goal
 
 pub returns-clause-text : goal.returns-clause-text
 returns-clause-text g c =
+    let given = c.args.given.now in
     let looks = c.look-text.ensures.reading in
     text_there (keys.rules g.V.Verifier.may_accept g.V.Verifier.may_refuse) g.N.Signer.may_give g.N.Signer.steps
-    (g.W.Rules.allows c.args.ruler.now) c.args.station.now c.args.board.now c.args.pass.now c.look-text.new.pass
-    c.args.valid_after c.args.moment _ _ looks c.look-text.result.0 looks.takes.right_there.0
+    (g.W.Rules.allows given.ruler.now) given.station.now given.board.now c.args.pass.now c.look-text.new.pass
+    c.args.valid_after given.moment _ _ looks c.look-text.result.0 looks.takes.right_there.0
 
 pub returns-clause-none : goal.returns-clause-none
 returns-clause-none g c = λ a none.
     none_more a c.args.pass.now c.look-text.new.pass none
-    (none_looks (keys.rules g.V.Verifier.may_accept g.V.Verifier.may_refuse) c.args.board.now c.args.pass.now c.look-text.new.pass _ _ c.look-text.ensures.reading)
+    (none_looks (keys.rules g.V.Verifier.may_accept g.V.Verifier.may_refuse) c.args.given.now.board.now
+    c.args.pass.now c.look-text.new.pass _ _ c.look-text.ensures.reading)
 
 pub returns-clause-verifier : goal.returns-clause-verifier
 returns-clause-verifier g c = c.look-text.ensures.reading.takes.right_there.1

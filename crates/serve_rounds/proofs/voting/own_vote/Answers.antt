@@ -6,9 +6,11 @@ use Rattle.serve_rounds.proofs.voting.own_vote.Goals as goal
 
 pub returns-in-Ok-clause-own : goal.returns-in-Ok-clause-own
 returns-in-Ok-clause-own g c =
+    let given = c.args.given.now in
     subst (IsOwnVote (rules g.V.Verifier.may_accept g.V.Verifier.may_refuse) g.N.Signer.may_give g.N.Signer.steps
-    (g.W.Rules.allows c.args.ruler.now) c.args.station.now c.args.board.now c.args.pass.now c.own_text.new.pass
-    c.args.valid_after c.args.now)
+    (g.W.Rules.allows given.ruler.now) given.station.now given.board.now c.args.lent.now.pass.now
+    c.own_text.new.lent.pass.now
+    c.args.valid_after given.moment)
     (sym c.in-Ok.ensures.accepted.0) record {
       text = c.in-Some.text.items;
       text_is = c.in-Some.ensures.text;
