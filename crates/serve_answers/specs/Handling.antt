@@ -25,8 +25,6 @@ use Rattle.period_terms.specs.declared.signature.OfferedSignature.{OfferedSignat
 use Rattle.period_terms.specs.declared.view.PeriodView.{PeriodView}
 use Rattle.serve_board.specs.Boards.{Locks, Parts, Makes, Sees}
 use Rattle.serve_answers.specs.Finding.{FindsAsked}
-use Rattle.serve_answers.specs.declared.answering.Handled.{Handled}
-use Rattle.serve_answers.specs.declared.answering.Handled.TheVariants as handled
 use Rattle.serve_answers.specs.Answers.{IsCaused, TakesVote, TakesDescriptor}
 
 -- ---- signatures
@@ -147,9 +145,3 @@ module _ {V : Type 0} (rules : Rules) (steps : Steps V) (board : Locks) (before 
 abbrev pub IsCausedOutcome : ℕ → ℕ → Outcome → Type 0
 IsCausedOutcome faults faults_then (Replied answer) = IsCaused faults faults_then answer
 IsCausedOutcome faults faults_then (Found text) = Unit {0}
-
--- the same of what came of a request
-abbrev pub IsCausedHandled : ℕ → ℕ → Handled → Type 0
-IsCausedHandled faults faults_then (handled.Done outcome) = IsCausedOutcome faults faults_then outcome
-IsCausedHandled faults faults_then (handled.Unread fault) = Unit {0}
-IsCausedHandled faults faults_then handled.Memory = Unit {0}

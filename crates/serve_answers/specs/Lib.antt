@@ -5,4 +5,5 @@ pub mod Words
 pub mod Uploads
 pub mod Answers
 pub mod Handling
+pub mod Requests
 pub mod Connections

@@ -8,7 +8,9 @@ ghost use Rattle.serve_board.specs.Going.{Goes};
 ghost use Rattle.serve_answers.specs.Handling.{Does};
 ghost use Rattle.serve_answers.specs.Connections.{Serves};
 
-use crate::answering::{Handled, answer};
+use crate::handling::handle;
+use crate::incoming::{Incoming, read_incoming};
+use crate::votes::take_vote;
 use dir_bytes::{Clock, Sink, Source};
 use flag_rules::{Hook, RelayFacts, Rules, Ruling};
 use http_words::{ConnStatus, Outcome, reply_to, tell, tell_shortage};
@@ -60,12 +62,23 @@ pub fn serve_connection<
     ensures source { S.faults conn.old ≤ S.faults conn.new }
     ensures sink { K.faults out.old ≤ K.faults out.new }
 {
-    match answer(rt, alloc, board, hook, pass, conn, clock, verifier) {
-        Handled::Done(outcome) => tell(alloc, out, outcome),
-        Handled::Unread(fault) => match reply_to(fault) {
+    match read_incoming(alloc, conn) {
+        Incoming::Vote(found) => {
+            let reply = take_vote(rt, board, pass, clock, verifier, found);
+            tell(alloc, out, Outcome::Replied(reply))
+        }
+        Incoming::Request { asked, path, body } => {
+            let path = path.as_bytes();
+            match handle(
+                rt, alloc, board, hook, pass, clock, verifier, asked, path, &body,
+            ) {
+                Ok(outcome) => tell(alloc, out, outcome),
+                Err(_) => tell_shortage(alloc, out),
+            }
+        }
+        Incoming::Unread(fault) => match reply_to(fault) {
             Some(reply) => tell(alloc, out, Outcome::Replied(reply)),
             None => ConnStatus::ReadFault,
         },
-        Handled::Memory => tell_shortage(alloc, out),
     }
 }

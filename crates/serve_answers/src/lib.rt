@@ -1,13 +1,13 @@
 //! What comes of one request to an authority: what it asks for is done at the board, and answered.
 #![tactic(auto)]
 
-mod answering;
 mod bodies;
 mod connection;
 mod descriptors;
 mod finding;
 mod handling;
 mod held;
+mod incoming;
 mod keys;
 mod known;
 mod micros;
