@@ -9,7 +9,7 @@ use crate::newest::newest_in;
 use crate::rehearsal::{Rehearse, rehearse_in};
 use crate::report::{Report, report_in};
 use crate::serving::{Serve, serve_in};
-use crate::values::{read_moment, read_roster};
+use crate::values::{read_moment, read_roster, value_of};
 use clap::ArgMatches;
 use count_terms::Newest;
 use dir_bytes::Memory;
@@ -133,15 +133,11 @@ fn command_named(
 fn make_vote_in(options: &ArgMatches<'_>) -> Option<Command>
     ensures { result ≡ grammar.make_vote_in (rows_of (found_of options.now)) }
 {
-    voting(measures_in(options), newest_in(options))
-}
-
-/// `make-vote` with these bandwidths, where a newest method is named.
-fn voting(bandwidths: Measures, newest: Option<Newest>) -> Option<Command>
-    ensures { result ≡ grammar.command_to_make_vote bandwidths newest }
-{
-    match newest {
-        Some(newest) => Some(Command::MakeVote(MakeVote { bandwidths, newest })),
+    match newest_in(options) {
+        Some(newest) => Some(Command::MakeVote(MakeVote {
+            bandwidths: measures_in(options),
+            newest,
+        })),
         None => None,
     }
 }
@@ -150,30 +146,20 @@ fn voting(bandwidths: Measures, newest: Option<Newest>) -> Option<Command>
 fn serve_with(alloc: Global, options: &ArgMatches<'_>) -> Result<Option<Command>, Memory>
     ensures { IfOk result (λ command. command ≡ grammar.serve_with (rows_of (found_of options.now))) }
 {
-    match newest_in(options) {
-        Some(newest) => serving(alloc, options, newest),
-        None => Ok(None),
-    }
-}
-
-/// `serve` with its options and this newest method.
-fn serving(
-    alloc: Global,
-    options: &ArgMatches<'_>,
-    newest: Newest,
-) -> Result<Option<Command>, Memory>
-    ensures { IfOk result (λ command. command ≡ grammar.command_to_serve (rows_of (found_of options.now)) (Some newest)) }
-{
-    let bandwidths = measures_in(options);
-    Ok(serve_in(alloc, options, bandwidths, newest)?.map(Command::Serve))
+    let Some(newest) = newest_in(options) else {
+        return Ok(None);
+    };
+    Ok(serve_in(alloc, options, measures_in(options), newest)?.map(Command::Serve))
 }
 
 /// What stands among the values to be checked or shown.
 fn subject_in(values: &ArgMatches<'_>) -> Option<Subject>
     ensures { result ≡ grammar.subject_in (rows_of (found_of values.now)) }
 {
-    let word = values.get_str("kind")?;
-    subject_named(word)
+    match value_of(values, "kind") {
+        Some(word) => subject_named(word),
+        None => None,
+    }
 }
 
 /// What a word names that is checked or shown.
@@ -190,7 +176,7 @@ fn subject_named(word: &str) -> Option<Subject>
 fn measures_in(values: &ArgMatches<'_>) -> Measures
     ensures { result ≡ grammar.measures_in (rows_of (found_of values.now)) }
 {
-    match values.get_str("bandwidth") {
+    match value_of(values, "bandwidth") {
         Some(word) => measures_named(word),
         None => Measures::Station,
     }
@@ -226,7 +212,7 @@ fn kind_named(word: &str) -> Option<Kind>
 fn flavours_in(values: &ArgMatches<'_>) -> Option<Flavours>
     ensures { result ≡ grammar.flavours_in (rows_of (found_of values.now)) }
 {
-    match values.get_str("flavour") {
+    match value_of(values, "flavour") {
         Some(word) => flavours_named(word),
         None => Some(Flavours::Ns),
     }
@@ -248,16 +234,12 @@ fn flavours_named(word: &str) -> Option<Flavours>
 fn compute_with(alloc: Global, options: &ArgMatches<'_>) -> Result<Option<Command>, Memory>
     ensures { IfOk result (λ command. command ≡ grammar.compute_in (rows_of (found_of options.now))) }
 {
-    let Some(authorities) = options.get_str("authorities") else {
-        return Ok(None);
-    };
-    let Some(valid_after) = options.get_str("valid-after") else {
-        return Ok(None);
-    };
-    let Some(flavours) = flavours_in(options) else {
-        return Ok(None);
-    };
-    let Some(newest) = newest_in(options) else {
+    let (Some(authorities), Some(valid_after), Some(flavours), Some(newest)) = (
+        value_of(options, "authorities"),
+        value_of(options, "valid-after"),
+        flavours_in(options),
+        newest_in(options),
+    ) else {
         return Ok(None);
     };
     compute_of(

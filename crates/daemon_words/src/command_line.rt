@@ -1,9 +1,8 @@
 // The command line, as clap reads it.
 ghost use Rattle.std.specs.Prelude.{◌≡◌, false, IfOk};
-ghost use Rattle.clap.specs.Words.{app_of, rule_of};
-ghost use Rattle.clap.specs.declared.builder.command.Command.TheViews.{out-Command};
+ghost use Rattle.clap.specs.Words.{new_app, rule_of};
 ghost use Rattle.daemon_words.specs.CommandLine as command_line;
-ghost use Rattle.daemon_words.specs.Lending.{Matches};
+ghost use Rattle.daemon_words.specs.Lending.{AddsCommand, AddsRule, Matches, Reads};
 
 use clap::error::ErrorKind;
 use clap::{Arg, ArgAction, ArgMatches, Command};
@@ -27,105 +26,124 @@ pub fn matches_of<'a>(alloc: Global, words: &'a [String]) -> Result<Option<ArgMa
 
 /// The command line: its commands, and no words for help or a version.
 fn command_line<'a>(alloc: Global) -> Result<Command<'a>, AllocError>
-    ensures { IfOk result (λ command. app_of command ≡ command_line.command_line) }
+    ensures { IfOk result (λ command. Reads command command_line.command_line) }
 {
-    let compute = compute(alloc)?;
-    let check = of_kind(alloc, "check")?;
-    let show = of_kind(alloc, "show")?;
-    let make_vote = make_vote(alloc)?;
-    let rehearse = rehearse(alloc)?;
-    let report = report(alloc)?;
-    let serve = serve(alloc)?;
+    let command = with_command(program(alloc), compute(alloc)?)?;
+    let command = with_command(command, of_kind(alloc, "check")?)?;
+    let command = with_command(command, of_kind(alloc, "show")?)?;
+    let command = with_command(command, make_vote(alloc)?)?;
+    let command = with_command(command, rehearse(alloc)?)?;
+    let command = with_command(command, report(alloc)?)?;
+    with_command(command, serve(alloc)?)
+}
+
+/// The program before its commands.
+fn program<'a>(alloc: Global) -> Command<'a>
+    ensures { Reads result command_line.program }
+{
     Command::new(alloc, "authority_daemon")
         .no_binary_name(true)
         .disable_help_flag(true)
         .disable_help_subcommand(true)
         .subcommand_required(true)
-        .subcommand(compute)?
-        .subcommand(check)?
-        .subcommand(show)?
-        .subcommand(make_vote)?
-        .subcommand(rehearse)?
-        .subcommand(report)?
-        .subcommand(serve)
+}
+
+/// The command with one more below it.
+fn with_command<'a>(command: Command<'a>, below: Command<'a>) -> Result<Command<'a>, AllocError>
+    ensures { AddsCommand command.entry below.entry result }
+{
+    command.subcommand(below)
 }
 
 /// The command `compute` with its options.
 fn compute<'a>(alloc: Global) -> Result<Command<'a>, AllocError>
-    ensures app { IfOk result (λ command. app_of command ≡ command_line.compute) }
-    ensures local { IfOk result (λ command. (out-Command command).has_globals ≡ false) }
+    ensures { IfOk result (λ command. Reads command command_line.compute) }
 {
-    Command::new(alloc, "compute")
-        .arg(needed_option(alloc, "authorities"))?
-        .arg(needed_option(alloc, "valid-after"))?
-        .arg(free_option(alloc, "flavour"))?
-        .arg(free_option(alloc, "newest-method"))
+    let command = with_needed(alloc, no_words(alloc, "compute"), "authorities")?;
+    let command = with_needed(alloc, command, "valid-after")?;
+    let command = with_free(alloc, command, "flavour")?;
+    with_free(alloc, command, "newest-method")
 }
 
 /// The command `report` with its options.
 fn report<'a>(alloc: Global) -> Result<Command<'a>, AllocError>
-    ensures app { IfOk result (λ command. app_of command ≡ command_line.report) }
-    ensures local { IfOk result (λ command. (out-Command command).has_globals ≡ false) }
+    ensures { IfOk result (λ command. Reads command command_line.report) }
 {
-    Command::new(alloc, "report")
-        .arg(needed_option(alloc, "authorities"))?
-        .arg(needed_option(alloc, "valid-after"))
+    let command = with_needed(alloc, no_words(alloc, "report"), "authorities")?;
+    with_needed(alloc, command, "valid-after")
 }
 
 /// A command of this name that takes one kind of document.
 fn of_kind<'a>(alloc: Global, name: &'a str) -> Result<Command<'a>, AllocError>
-    ensures app { IfOk result (λ command. app_of command ≡ command_line.of_kind name.entry.now) }
-    ensures local { IfOk result (λ command. (out-Command command).has_globals ≡ false) }
+    ensures { IfOk result (λ command. Reads command (command_line.of_kind name.entry.now)) }
 {
-    Command::new(alloc, name).arg(needed_word(alloc, "kind"))
+    with_word(alloc, no_words(alloc, name), "kind")
 }
 
 /// The command `make-vote` with its options.
 fn make_vote<'a>(alloc: Global) -> Result<Command<'a>, AllocError>
-    ensures app { IfOk result (λ command. app_of command ≡ command_line.make_vote) }
-    ensures local { IfOk result (λ command. (out-Command command).has_globals ≡ false) }
+    ensures { IfOk result (λ command. Reads command command_line.make_vote) }
 {
-    Command::new(alloc, "make-vote")
-        .arg(flag(alloc, "bandwidth"))?
-        .arg(free_option(alloc, "newest-method"))
+    let command = with_flag(alloc, no_words(alloc, "make-vote"), "bandwidth")?;
+    with_free(alloc, command, "newest-method")
 }
 
 /// The command `serve` with its options.
 fn serve<'a>(alloc: Global) -> Result<Command<'a>, AllocError>
-    ensures app { IfOk result (λ command. app_of command ≡ command_line.serve) }
-    ensures local { IfOk result (λ command. (out-Command command).has_globals ≡ false) }
+    ensures { IfOk result (λ command. Reads command command_line.serve) }
 {
-    Command::new(alloc, "serve")
-        .arg(needed_option(alloc, "listen"))?
-        .arg(flag(alloc, "bandwidth"))?
-        .arg(free_option(alloc, "newest-method"))
+    let command = with_needed(alloc, no_words(alloc, "serve"), "listen")?;
+    let command = with_flag(alloc, command, "bandwidth")?;
+    with_free(alloc, command, "newest-method")
 }
 
 /// The command `rehearse` with its three words.
 fn rehearse<'a>(alloc: Global) -> Result<Command<'a>, AllocError>
-    ensures app { IfOk result (λ command. app_of command ≡ command_line.rehearse) }
-    ensures local { IfOk result (λ command. (out-Command command).has_globals ≡ false) }
+    ensures { IfOk result (λ command. Reads command command_line.rehearse) }
 {
-    Command::new(alloc, "rehearse")
-        .arg(needed_word(alloc, "seed"))?
-        .arg(needed_word(alloc, "relays"))?
-        .arg(needed_word(alloc, "authorities"))
+    let command = with_word(alloc, no_words(alloc, "rehearse"), "seed")?;
+    let command = with_word(alloc, command, "relays")?;
+    with_word(alloc, command, "authorities")
 }
 
-/// A word that must stand once, by itself.
-fn needed_word<'a>(alloc: Global, name: &'a str) -> Arg<'a>
-    ensures rule { rule_of result ≡ command_line.needed_word name.entry.now }
-    ensures local { result.global ≡ false }
+/// A command of this name that takes no words.
+#[tactic(auto, unfolding(crate::specs::Lending::Reads))]
+fn no_words<'a>(alloc: Global, name: &'a str) -> Command<'a>
+    ensures { Reads result (new_app name.entry.now) }
 {
-    Arg::new(alloc, name).required(true).action(ArgAction::Set)
+    Command::new(alloc, name)
 }
 
-/// An option that may stand once, without a value.
-fn flag<'a>(alloc: Global, name: &'a str) -> Arg<'a>
-    ensures rule { rule_of result ≡ command_line.flag name.entry.now }
-    ensures local { result.global ≡ false }
+/// The command with a word that must stand once, by itself.
+fn with_word<'a>(alloc: Global, old: Command<'a>, name: &'a str) -> Result<Command<'a>, AllocError>
+    ensures { AddsRule (command_line.needed_word name.entry.now) old.entry result }
 {
-    Arg::new(alloc, name).long(name).action(ArgAction::SetTrue)
+    old.arg(Arg::new(alloc, name).required(true).action(ArgAction::Set))
+}
+
+/// The command with an option that may stand once, without a value.
+fn with_flag<'a>(alloc: Global, old: Command<'a>, name: &'a str) -> Result<Command<'a>, AllocError>
+    ensures { AddsRule (command_line.flag name.entry.now) old.entry result }
+{
+    old.arg(Arg::new(alloc, name).long(name).action(ArgAction::SetTrue))
+}
+
+/// The command with an option that may stand once, with a value.
+fn with_free<'a>(alloc: Global, old: Command<'a>, name: &'a str) -> Result<Command<'a>, AllocError>
+    ensures { AddsRule (command_line.free_option name.entry.now) old.entry result }
+{
+    old.arg(Arg::new(alloc, name).long(name).action(ArgAction::Set))
+}
+
+/// The command with an option that must stand once, with a value.
+fn with_needed<'a>(
+    alloc: Global,
+    old: Command<'a>,
+    name: &'a str,
+) -> Result<Command<'a>, AllocError>
+    ensures { AddsRule (command_line.needed_option name.entry.now) old.entry result }
+{
+    old.arg(needed_option(alloc, name))
 }
 
 /// An option that must stand once, with a value.
@@ -137,12 +155,4 @@ pub fn needed_option<'a>(alloc: Global, name: &'a str) -> Arg<'a>
         .long(name)
         .required(true)
         .action(ArgAction::Set)
-}
-
-/// An option that may stand once, with a value.
-fn free_option<'a>(alloc: Global, name: &'a str) -> Arg<'a>
-    ensures rule { rule_of result ≡ command_line.free_option name.entry.now }
-    ensures local { result.global ≡ false }
-{
-    Arg::new(alloc, name).long(name).action(ArgAction::Set)
 }

@@ -3,6 +3,7 @@ ghost use Rattle.std.specs.Prelude.{◌≡◌};
 ghost use Rattle.clap.specs.Words.{found_of, rows_of};
 ghost use Rattle.daemon_words.specs.Methods as words;
 
+use crate::values::value_of;
 use clap::ArgMatches;
 use count_terms::Newest;
 
@@ -10,7 +11,7 @@ use count_terms::Newest;
 pub fn newest_in(values: &ArgMatches<'_>) -> Option<Newest>
     ensures { result ≡ words.newest_in (rows_of (found_of values.now)) }
 {
-    match values.get_str("newest-method") {
+    match value_of(values, "newest-method") {
         Some(word) => newest_named(word),
         None => Some(Newest::Method33),
     }

@@ -3,6 +3,7 @@ ghost use Rattle.std.specs.Prelude.{◌≡◌};
 ghost use Rattle.clap.specs.Words.{found_of, rows_of};
 ghost use Rattle.daemon_words.specs.Rehearsals as words;
 
+use crate::values::value_of;
 use clap::ArgMatches;
 use dir_bytes::{read_u32, read_u64};
 
@@ -21,13 +22,11 @@ pub struct Rehearse {
 pub fn rehearse_in(values: &ArgMatches<'_>) -> Option<Rehearse>
     ensures { result ≡ words.rehearse_in (rows_of (found_of values.now)) }
 {
-    let Some(seed) = values.get_str("seed") else {
-        return None;
-    };
-    let Some(relays) = values.get_str("relays") else {
-        return None;
-    };
-    let Some(authorities) = values.get_str("authorities") else {
+    let (Some(seed), Some(relays), Some(authorities)) = (
+        value_of(values, "seed"),
+        value_of(values, "relays"),
+        value_of(values, "authorities"),
+    ) else {
         return None;
     };
     rehearse_of(seed.as_bytes(), relays.as_bytes(), authorities.as_bytes())

@@ -3,7 +3,7 @@ ghost use Rattle.std.specs.Prelude.{◌≡◌, IfOk};
 ghost use Rattle.clap.specs.Words.{found_of, rows_of};
 ghost use Rattle.daemon_words.specs.Reports as words;
 
-use crate::values::{read_moment, read_roster};
+use crate::values::{read_moment, read_roster, value_of};
 use clap::ArgMatches;
 use dir_bytes::Memory;
 use dir_values::Roster;
@@ -22,10 +22,10 @@ pub struct Report {
 pub fn report_in(alloc: Global, values: &ArgMatches<'_>) -> Result<Option<Report>, Memory>
     ensures { IfOk result (λ report. report ≡ words.report_in (rows_of (found_of values.now))) }
 {
-    let Some(authorities) = values.get_str("authorities") else {
-        return Ok(None);
-    };
-    let Some(valid_after) = values.get_str("valid-after") else {
+    let (Some(authorities), Some(valid_after)) = (
+        value_of(values, "authorities"),
+        value_of(values, "valid-after"),
+    ) else {
         return Ok(None);
     };
     report_of(alloc, authorities.as_bytes(), valid_after.as_bytes())

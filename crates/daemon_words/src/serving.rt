@@ -4,6 +4,7 @@ ghost use Rattle.clap.specs.Words.{found_of, rows_of};
 ghost use Rattle.daemon_words.specs.Serving as words;
 
 use crate::command::Measures;
+use crate::values::value_of;
 use clap::ArgMatches;
 use count_terms::Newest;
 use dir_bytes::{Memory, Text};
@@ -29,7 +30,7 @@ pub fn serve_in(
 ) -> Result<Option<Serve>, Memory>
     ensures { IfOk result (λ serve. serve ≡ words.serve_in (rows_of (found_of values.now)) bandwidths newest) }
 {
-    match values.get_str("listen") {
+    match value_of(values, "listen") {
         Some(address) => serve_of(alloc, address.as_bytes(), bandwidths, newest),
         None => Ok(None),
     }

@@ -1,12 +1,21 @@
 // The values of the options.
 ghost use Rattle.std.specs.Prelude.{◌≡◌, ◌≤◌, IfOk, length};
 ghost use Rattle.std.specs.Option.{option_map};
+ghost use Rattle.clap.specs.Words.{first_of, found_of, rows_of};
 ghost use Rattle.daemon_words.specs.Values as values;
 ghost use Rattle.daemon_words.specs.Lending as lending;
 
+use clap::ArgMatches;
 use dir_bytes::{Memory, read_time};
 use dir_values::{Fingerprint, Roster};
 use std::alloc::Global;
+
+/// The value of this name, if it stands among the values.
+pub fn value_of<'a>(values: &ArgMatches<'a>, name: &str) -> Option<&'a str>
+    ensures { option_map (λ value. value.now) result ≡ first_of name.now (rows_of (found_of values.now)) }
+{
+    values.get_str(name)
+}
 
 /// The roster of 1 to 32 fingerprints with one comma between them, each once.
 pub fn read_roster(alloc: Global, text: &[u8]) -> Result<Option<Roster>, Memory>

@@ -2,14 +2,14 @@ use Rattle.std.proofs.Common.{◌≡◌, sym, ap, ◌∙◌}
 use Rattle.std.specs.Prelude.{map, string_bytes}
 use Rattle.clap.specs.Words.{App, app_of, fault_of, is_simple, is_simple_and_free, subcommand_of}
 use Rattle.daemon_words.specs.CommandLine.{command_line, faults, command_in}
-use Rattle.daemon_words.proofs.Apps.{simple, simple_and_free}
+use Rattle.daemon_words.proofs.Apps.{app_read, simple, simple_and_free}
 use Rattle.daemon_words.proofs.Named.{refused}
 use Rattle.daemon_words.proofs.command_line.matches_of.Goals as goal
 
 pub returns-in-Ok : goal.returns-in-Ok
 unfolding faults command_in
 returns-in-Ok c =
-    let is : app_of c.in_ok-command_line.command_line ≡ command_line = c.in_ok-command_line.ensures in
+    let is : app_of c.in_ok-command_line.command_line ≡ command_line = app_read c.in_ok-command_line.command_line command_line c.in_ok-command_line.ensures in
     let none = c.in-Ok.ensures.kinds (ap is_simple_and_free is ∙ simple_and_free) in
     let found = c.in-Ok.ensures.matches (ap is_simple is ∙ simple) in (
       ap (λ (a : App). fault_of a (map (λ word. string_bytes word) c.args.words.now)) (sym is) ∙ none,
@@ -19,7 +19,7 @@ returns-in-Ok c =
 pub returns : goal.returns
 unfolding faults command_in
 returns c =
-    let is : app_of c.in_ok-command_line.command_line ≡ command_line = c.in_ok-command_line.ensures in
+    let is : app_of c.in_ok-command_line.command_line ≡ command_line = app_read c.in_ok-command_line.command_line command_line c.in_ok-command_line.ensures in
     let some = c.in-Err.ensures.kinds (ap is_simple_and_free is ∙ simple_and_free) in
     λ none. refused (fault_of (app_of c.in_ok-command_line.command_line) (map (λ word. string_bytes word) c.args.words.now)) c.in-Err.error some (λ memory. c.in_default.not-OutOfMemory (c.kind.ensures ∙ memory))
     (ap (λ (a : App). fault_of a (map (λ word. string_bytes word) c.args.words.now)) is ∙ none)
