@@ -4,7 +4,7 @@ use Rattle.std.proofs.Common.{refl, sym, ap, ◌∙◌, subst, inl, inr}
 use Rattle.std.specs.Prelude.{◌⊎◌, Contains, slice_range}
 use Rattle.std.specs.List.{list_any, flat_map}
 use Rattle.std.specs.Str.{bytes_eq}
-use Rattle.std.proofs.lemmas.Bool.{false≢true}
+use Rattle.std.proofs.lemmas.Bool.{and_from, and_parts}
 use Rattle.std.proofs.lemmas.List.Folds.{Any-from_list_any, list_any_at}
 use Rattle.sha1.specs.Sha1.{sha1}
 use Rattle.key_port.specs.Answers.{Rules, ExactlyOneHolds}
@@ -33,18 +33,6 @@ same_truth true b there back = sym (there refl)
 same_truth false true there back = back refl
 same_truth false false there back = refl
 
-tests_hold_together : (a b : Bool) → a ≡ true → b ≡ true → (a && b) ≡ true
-tests_hold_together true b h k = k
-tests_hold_together false b h k = absurd (false≢true h)
-
-first_of : (a b : Bool) → (a && b) ≡ true → a ≡ true
-first_of true b h = refl
-first_of false b h = absurd (false≢true h)
-
-second_of : (a b : Bool) → (a && b) ≡ true → b ≡ true
-second_of true b h = h
-second_of false b h = absurd (false≢true h)
-
 among : (p : SignerKey → Bool) (keys : List SignerKey) (key : SignerKey) → Contains keys key → p key ≡ true
     → list_any p keys ≡ true
 among p keys key at holds = list_any_at p keys at.0 key at.1 (ap p at.2 ∙ holds)
@@ -57,7 +45,7 @@ there rules digest keys lines signers member are some =
     let in_keys : Contains keys any.1 = subst (Contains keys) any.3 (are.members any.0 any.1 any.2) in
     let good : has_good_line rules digest lines any.1 ≡ true =
     subst (λ (k : SignerKey). has_good_line rules digest lines k ≡ true) any.3 (are.signed any.0 any.1 any.2) in
-    among (signs rules digest lines member) keys any.1 in_keys (tests_hold_together (is_of member any.1) _ any.4 good)
+    among (signs rules digest lines member) keys any.1 in_keys (and_from (is_of member any.1) _ any.4 good)
 
 back : (rules : Rules) (digest : List ℕ) (keys : List SignerKey) (lines : List SignatureLine)
     (signers : List SignerKey) (member : List ℕ) → ExactlyOneHolds rules.may_accept rules.may_refuse
@@ -65,12 +53,12 @@ back : (rules : Rules) (digest : List ℕ) (keys : List SignerKey) (lines : List
     → list_any (is_of member) signers ≡ true
 back rules digest keys lines signers member one are some =
     let any = Any-from_list_any (signs rules digest lines member) keys some in
-    let good : has_good_line rules digest lines any.1 ≡ true = second_of (is_of member any.1) _ any.4 in
+    let good : has_good_line rules digest lines any.1 ≡ true = (and_parts (is_of member any.1) _ any.4).1 in
     let other : Contains signers any.1 ⊎ (has_bad_lines rules digest lines any.1 ≡ true) =
     subst (λ (k : SignerKey). Contains signers k ⊎ (has_bad_lines rules digest lines k ≡ true)) any.3
     (are.others any.0 any.1 any.2) in
     elim other [
-      | inl c ↦ among (is_of member) signers any.1 c (first_of (is_of member any.1) _ any.4)
+      | inl c ↦ among (is_of member) signers any.1 c (and_parts (is_of member any.1) _ any.4).0
       | inr bad ↦ absurd (clash rules digest any.1 lines one good bad)
     ]
 

@@ -13,7 +13,6 @@ mod Joined
 pub mod OneAnswer
 pub mod Agreement
 mod Standing
-pub mod ItemTexts
 pub mod VotesRead
 pub mod TextsAgain
 pub mod MadeBasis

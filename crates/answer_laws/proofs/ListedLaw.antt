@@ -8,7 +8,7 @@ use Rattle.std.specs.Cmp.{IsTotalOrder}
 use Rattle.std.specs.Cmp.Lexicographic.{bytes_decides}
 use Rattle.std.specs.declared.cmp.Ordering.{Ordering}
 use Rattle.std.specs.declared.cmp.Ordering.TheVariants.{Equal}
-use Rattle.std.proofs.lemmas.Bool.{false≢true}
+use Rattle.std.proofs.lemmas.Bool.{and_right, false≢true, or_parts}
 use Rattle.std.proofs.lemmas.Option.{same_Some}
 use Rattle.std.proofs.lemmas.List.Folds.{list_any-append}
 use Rattle.dir_values.specs.declared.digest.Fingerprint.{Fingerprint}
@@ -97,10 +97,6 @@ among ids rsa = list_any (λ (x : Fingerprint). same_identity x rsa) ids
 same_print : (x y : Fingerprint) → same_identity x y ≡ true → x ≡ y
 same_print x y e = ap (λ (bytes : List ℕ). record { 0 = bytes }) ((bytes_decides x.0 y.0).0 e)
 
-and_false : (b : Bool) → (b && false) ≡ false
-and_false true = refl
-and_false false = refl
-
 module _ (f : Fingerprint → Option Routerline) (names : (x : Fingerprint) (r : Routerline) → f x ≡ Some r → r.identity ≡ x) (rsa : Fingerprint) where
   abbrev Has : List Fingerprint → Type 0
   Has ids = has_router (filter_map f ids) rsa ≡ (among ids rsa && is_some (f rsa))
@@ -108,7 +104,7 @@ module _ (f : Fingerprint → Option Routerline) (names : (x : Fingerprint) (r :
   one_by : (o : Option Routerline) (b : Bool) (x : Fingerprint) (xs : List Fingerprint) → f x ≡ o → same_identity x rsa ≡ b → Has xs → Has (x ∷ xs)
   one_by None true x xs e is more =
       let none : is_some (f rsa) ≡ false = ap (λ (y : Fingerprint). is_some (f y)) (sym (same_print x rsa is)) ∙ ap is_some e in
-      rw (e, is) (more ∙ rw none (and_false (among xs rsa)))
+      rw (e, is) (more ∙ rw none (and_right (among xs rsa) false refl))
   one_by None false x xs e is more = rw (e, is) more
   one_by (Some r) true x xs e is more =
       let some : is_some (f rsa) ≡ true = ap (λ (y : Fingerprint). is_some (f y)) (sym (same_print x rsa is)) ∙ ap is_some e in
@@ -131,19 +127,12 @@ among_map : (xs : List (List ℕ)) (rsa : Fingerprint) → among (map (λ bytes.
 among_map [] rsa = refl
 among_map (x ∷ xs) rsa = ap (λ (b : Bool). bytes_eq x rsa.0 || b) (among_map xs rsa)
 
-or_first : (a b : Bool) → (a || b) ≡ false → a ≡ false
-or_first true b h = absurd (false≢true (sym h))
-or_first false b h = refl
-
-or_last : (a b : Bool) → (a || b) ≡ false → b ≡ false
-or_last true b h = absurd (false≢true (sym h))
-or_last false b h = h
-
 none_found : (es : List EntryFacts) (rsa : Fingerprint) → has_flag (identities_of es) rsa.0 ≡ false → find (λ (entry : EntryFacts). same_identity entry.identity rsa) es ≡ None
 none_found [] rsa h = refl
 none_found (e ∷ es) rsa h =
-    let here : same_identity e.identity rsa ≡ false = or_first (bytes_eq e.identity.0 rsa.0) (has_flag (identities_of es) rsa.0) h in
-    rw here (none_found es rsa (or_last (bytes_eq e.identity.0 rsa.0) (has_flag (identities_of es) rsa.0) h))
+    let here : same_identity e.identity rsa ≡ false =
+    (or_parts (bytes_eq e.identity.0 rsa.0) (has_flag (identities_of es) rsa.0) h).0 in
+    rw here (none_found es rsa (or_parts (bytes_eq e.identity.0 rsa.0) (has_flag (identities_of es) rsa.0) h).1)
 
 -- an identity that no vote lists has no listings
 nothing_said : (votes : List ReadVote) (rsa : Fingerprint) → has_flag (bytes_in votes) rsa.0 ≡ false → listings votes rsa ≡ []
@@ -151,8 +140,9 @@ nothing_said [] rsa h = refl
 nothing_said (vote ∷ votes) rsa h =
     let both : (has_flag (identities_of vote.says.entries) rsa.0 || has_flag (bytes_in votes) rsa.0) ≡ false =
     sym (list_any-append (λ other. bytes_eq other rsa.0) (identities_of vote.says.entries) (bytes_in votes)) ∙ h in
-    let here = none_found vote.says.entries rsa (or_first (has_flag (identities_of vote.says.entries) rsa.0) (has_flag (bytes_in votes) rsa.0) both) in
-    rw here (nothing_said votes rsa (or_last (has_flag (identities_of vote.says.entries) rsa.0) (has_flag (bytes_in votes) rsa.0) both))
+    let parts = or_parts (has_flag (identities_of vote.says.entries) rsa.0) (has_flag (bytes_in votes) rsa.0) both in
+    let here = none_found vote.says.entries rsa parts.0 in
+    rw here (nothing_said votes rsa parts.1)
 
 unlisted_by : (votes : List ReadVote) (o : Option EdPart) → option_map_or (λ ed. is_running_and_valid (router_flags votes ed (belonging_listings ed []))) o false ≡ false
 unlisted_by votes None = refl

@@ -11,13 +11,13 @@ use Rattle.flag_rules.specs.declared.ruling.Ruling.{Ruling}
 use Rattle.count_terms.specs.declared.newest.Newest.{Newest}
 use Rattle.station_input.specs.Reading.{station_of}
 use Rattle.station_input.specs.declared.facts.StationFacts.{StationFacts}
-use Rattle.vote_terms.specs.Votes.{ReadVote, max_vote}
-use Rattle.blank_lines.specs.Behind.{behind}
+use Rattle.vote_terms.specs.Votes.{max_vote}
 use Rattle.vote_doc.specs.Reading.{vote_of}
 use Rattle.vote_maker.specs.Made.{Basis}
 use Rattle.vote_maker.specs.Relays.{known_of}
 use Rattle.descriptor_laws.proofs.DescriptorInRange.{descriptors_in_range}
 use Rattle.row_laws.proofs.ReadBytes.{bytes_drop}
+use Rattle.vote_laws.proofs.Pairs.{from_start}
 use Rattle.maker_laws.specs.Given.{IsBasis, IsStation}
 use Rattle.maker_laws.specs.FileVotes.{IsToldStation}
 use Rattle.maker_laws.specs.ReadAsMade.{IsSigning, signed_made_text}
@@ -29,14 +29,6 @@ use Rattle.answer_laws.specs.MadeVotes.{AnsweredFileVotesAreRead, AnsweredVotesA
 use Rattle.answer_laws.proofs.MadeBasis.{of_basis}
 
 -- ---- one vote
-
--- what stands behind nothing is what stands alone
-from_start : (read : Result (ReadVote × ℕ) ReadRefusal) (vote : ReadVote) (end : ℕ) → behind 0 read ≡ Ok (vote, end)
-    → read ≡ Ok (vote, end)
-from_start (Ok (found, used)) vote end is =
-    let zero : 0 + used ≡ used = omega arith in
-    ap (λ (n : ℕ). Ok (found, n)) (sym zero) ∙ is
-from_start (Err why) vote end is = absurd cc
 
 again : (its : Basis) (rulings : List Ruling) (signature : List ℕ) → IsBasis its → IsSigning its rulings signature
     → length (signed_made_text its rulings signature) ≤ max_vote

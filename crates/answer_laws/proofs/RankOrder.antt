@@ -1,8 +1,8 @@
 -- Ranks of descriptors are ordered as those of votes are.
-use Rattle.std.proofs.Common.{◌≡◌, Bool, true, false, ◌&&◌, refl, sym, ap, ◌∙◌}
+use Rattle.std.proofs.Common.{◌≡◌, true, false, sym, ap, ◌∙◌}
 use Rattle.std.specs.Prelude.{nat_eq}
 use Rattle.std.specs.Str.{bytes_eq}
-use Rattle.std.proofs.lemmas.Bool.{eqb-true, false≢true, false_from_ne_true}
+use Rattle.std.proofs.lemmas.Bool.{and_parts, eqb-true, false≢true, false_from_ne_true}
 use Rattle.dir_values.proofs.Orders.{same_text}
 use Rattle.vote_terms.specs.declared.rank.Rank.{Rank}
 use Rattle.vote_terms.specs.Votes.{is_above}
@@ -22,14 +22,10 @@ newer_trans a b c h k = above_trans (as_rank a) (as_rank b) (as_rank c) h k
 pub newer_itself : (a : DescriptorRank) → is_newer a a ≡ false
 newer_itself a = above_itself (as_rank a)
 
-both_by : (p q : Bool) → (p && q) ≡ true → (p ≡ true) × (q ≡ true)
-both_by true q h = (refl, h)
-both_by false q h = absurd (false≢true h)
-
 -- nor than one that is the same
 pub newer_same : (a b : DescriptorRank) → is_same_rank a b ≡ true → is_newer b a ≡ false
 newer_same a b h =
-    let parts = both_by (nat_eq a.published b.published) (bytes_eq a.digest.0 b.digest.0) h in
+    let parts = and_parts (nat_eq a.published b.published) (bytes_eq a.digest.0 b.digest.0) h in
     let when : a.published ≡ b.published = eqb-true _ _ parts.0 in
     let what : a.digest.0 ≡ b.digest.0 = same_text a.digest.0 b.digest.0 parts.1 in
     let one : as_rank a ≡ as_rank b = λ i. record { published = when i; whole = record { 0 = what i } } in

@@ -3,15 +3,11 @@ use Rattle.std.proofs.Common.{◌≡◌, ◌==◌, ℕ, ◌+◌, ◌*◌, ◌%�
 use Rattle.std.proofs.Common.{refl, sym, ap, ◌∙◌, subst, ⊎_elim, inl, inr, arith}
 use Rattle.std.specs.Prelude.{nat_le, nat_lt, not}
 use Rattle.std.proofs.Math.Nat.{mod-eq_of_lt}
+use Rattle.std.proofs.lemmas.Bool.{or_parts}
 use Rattle.std.proofs.lemmas.Bool.Decides.{nat_tests}
 use Rattle.vote_schedule.specs.Schedules.{IsSchedule, Schedule, day, schedule_of}
 use Rattle.vote_schedule.specs.declared.config.ScheduleFault.{ScheduleFault}
 use Rattle.answer_laws.specs.Timeline.{SchedulesAreSuch}
-
--- neither of two tests passes
-neither : (p q : Bool) → (p || q) ≡ false → (p ≡ false) × (q ≡ false)
-neither true q h = absurd cc
-neither false q h = (refl, h)
 
 unnot : (p : Bool) → not p ≡ false → p ≡ true
 unnot true h = refl
@@ -32,8 +28,8 @@ tested : (i v d : ℕ) → (i == 0 || not (day % i == 0)) ≡ false → (nat_lt 
     → nat_le i (2 * (v + d)) ≡ false → nat_lt i 300 ≡ false
     → IsSchedule (record { interval = i; vote = v; dist = d })
 tested i v d f g h k =
-    let divides = unnot (day % i == 0) (neither (i == 0) (not (day % i == 0)) f).1 in
-    let delays = neither (nat_lt v 20) (nat_lt d 20) g in
+    let divides = unnot (day % i == 0) (or_parts (i == 0) (not (day % i == 0)) f).1 in
+    let delays = or_parts (nat_lt v 20) (nat_lt d 20) g in
     let none : day % i ≡ 0 = grind (arith, nat_tests, divides) in
     record {
       long = grind (arith, nat_tests, k);

@@ -2,14 +2,16 @@
 use Rattle.std.proofs.Common.{◌≡◌, ℕ, List, [], ◌∷◌, Ok}
 use Rattle.std.specs.Prelude.{All, Contains}
 use Rattle.std.proofs.lemmas.List.Elements.{All-cons, All-contains, All-contains_itself, All-nil, All-weaker}
+use Rattle.grammar_laws.specs.Written.{IsItem}
 use Rattle.vote_terms.specs.Held.{held}
 use Rattle.vote_terms.specs.Votes.{ReadVote}
 use Rattle.vote_terms.proofs.HeldLaw.{held_law}
 use Rattle.vote_doc.specs.Reading.{vote_from}
+use Rattle.vote_text.specs.Texts.{vote_items}
+use Rattle.computed_laws.proofs.VoteLines.{Fills, vote_fills}
 use Rattle.range_laws.proofs.VoteRead.{vote_in_range}
 use Rattle.answer_laws.specs.Inputs.{AreVotes, InputsAreVotes}
 use Rattle.answer_laws.specs.Votes.{IsFit, VotesInRangeAreFit, VotesOfInputsAreFit, VotesReadAreFit}
-use Rattle.answer_laws.proofs.ItemTexts.{vote_fills}
 
 pub in_range_fit : VotesInRangeAreFit
 in_range_fit vote is = record {
@@ -33,7 +35,7 @@ in_range_fit vote is = record {
     };
     entries = is.entries.each;
   };
-  fills = vote_fills vote.says is.items;
+  fills = vote_fills vote.says (All-weaker IsItem Fills (λ item may. may.arguments) (vote_items vote.says) is.items);
 }
 
 pub read_fit : VotesReadAreFit

@@ -18,7 +18,7 @@ use Rattle.compute_terms.specs.Methods.{chosen_method, listed_methods}
 use Rattle.compute_terms.specs.Routers.{routers}
 use Rattle.computed_laws.specs.Computed.{AreVotesInRange, ComputedFactsAreInRange, ComputedTextsAreReadAgain}
 use Rattle.computed_laws.specs.Computed.{IsVoteInRange, ReadableVotesAreInRange}
-use Rattle.computed_laws.proofs.Kept.{AllPairs-filter}
+use Rattle.std.proofs.lemmas.List.Kept.{AllPairs-filter}
 use Rattle.computed_laws.proofs.KnownFlags.{KnowNames, known_in_range}
 use Rattle.computed_laws.proofs.ListedParams.{params_in_range, protocols_in_range}
 use Rattle.computed_laws.proofs.ListedRandoms.{random_in_range}

@@ -1,13 +1,11 @@
 -- What is computed of votes that can be read may be written, but for limits, and within these it is read again.
-use Rattle.std.proofs.Common.{ℕ, ◌+◌, ◌≤◌, List, [], ◌∷◌, length, Option, Some, None, map, refl}
+use Rattle.std.proofs.Common.{List, [], ◌∷◌, map, refl}
 use Rattle.std.specs.Prelude.{All, IfSome}
 use Rattle.std.specs.List.{join_with_byte}
 use Rattle.std.proofs.lemmas.List.Elements.{All-cons, All-filter, All-head, All-map, All-nil, All-tail, All-weaker}
 use Rattle.item_terms.specs.Bytes.{space}
-use Rattle.item_terms.specs.Faults.{max_object}
-use Rattle.dirdoc_grammar.specs.Bodies.{object_text}
-use Rattle.dirdoc_grammar.specs.Writing.{AreWritable, IsLineRest, IsWritableObject, NewItem, NewObject, item_text}
-use Rattle.grammar_laws.specs.Written.{AreWithinLimits, IsItem, IsObject}
+use Rattle.dirdoc_grammar.specs.Writing.{IsLineRest}
+use Rattle.grammar_laws.specs.Written.{IsItem}
 use Rattle.grammar_laws.proofs.LineRests.{rest_of_nothing}
 use Rattle.frame_terms.specs.declared.keyword.Keyword.TheVariants as the
 use Rattle.vote_terms.specs.Votes.{ReadVote}
@@ -28,6 +26,7 @@ use Rattle.compute_terms.specs.Consensuses.{consensus, source_of}
 use Rattle.compute_terms.specs.Lists.{listed_params}
 use Rattle.compute_terms.specs.Methods.{chosen_method}
 use Rattle.compute_terms.specs.Routers.{routers}
+use Rattle.vote_laws.proofs.MayWrite.{items_writable}
 use Rattle.computed_laws.specs.Computed.{AreVotesInRange, IsVoteInRange, signed_consensus}
 use Rattle.computed_laws.specs.WithinLimits.{AllFillLines, ComputedItemsAreItems, FillsLines, IsSignature}
 use Rattle.computed_laws.specs.WithinLimits.{ConsensusesOfReadableVotesAreReadAgain, ConsensusesWithinLimitsAreReadAgain}
@@ -87,32 +86,11 @@ computed_items flavour newest roster votes lines in_range fills signed_ =
 
 -- ---- within limits
 
-object_may : (object : Option NewObject) → IfSome object IsObject
-    → IfSome object (λ (o : NewObject). length (object_text o.words o.bytes) ≤ max_object) → IfSome object IsWritableObject
-object_may None is fits = tt
-object_may (Some object) is fits = record { words = is.words; bytes = is.bytes; fits = fits }
-
--- items that pass no limit may be written
-may_be_written : (limit place : ℕ) (items : List NewItem) → All IsItem items → AreWithinLimits limit place items
-    → AreWritable limit place items
-may_be_written limit place [] each within = tt
-may_be_written limit place (item ∷ items) each within =
-    let is = All-head IsItem item items each in (
-      record {
-        keyword = is.keyword;
-        arguments = is.arguments;
-        line_fits = within.0.line;
-        object = object_may item.object is.object within.0.object;
-        within = within.0.within;
-      },
-      may_be_written limit (place + length (item_text item)) items (All-tail IsItem item items each) within.1,
-    )
-
 pub again_within : ConsensusesWithinLimitsAreReadAgain
 again_within flavour newest roster votes lines are fills signed_ within =
     texts_again flavour newest roster votes lines are
     (All-weaker IsSignature IsSignatureInRange (λ s is. is.says) lines signed_)
-    (may_be_written max_consensus 0 (consensus_items (signed_consensus flavour newest roster votes lines))
+    (items_writable max_consensus 0 (consensus_items (signed_consensus flavour newest roster votes lines))
     (computed_items flavour newest roster votes lines are fills signed_) within)
 
 pub readable_again : ConsensusesOfReadableVotesAreReadAgain

@@ -2,7 +2,7 @@
 use Rattle.std.proofs.Common.{Bool, true, false, List, [], ◌∷◌, Option, Some, None, map}
 use Rattle.std.specs.Prelude.{All, AllPairs, IfSome, unwrap_or, filter, option_map, if◌then◌else◌}
 use Rattle.std.specs.List.{cons_option, filter_map, find, flat_map}
-use Rattle.std.proofs.lemmas.List.Elements.{All-append, All-cons, All-filter, All-head, All-map, All-nil, All-tail}
+use Rattle.std.proofs.lemmas.List.Elements.{All-append, All-cons, All-filter, All-head, All-nil, All-tail}
 use Rattle.std.proofs.lemmas.List.Elements.{All-weaker}
 use Rattle.std.proofs.lemmas.Option.{IfSome_then}
 use Rattle.dir_values.proofs.Orders.{AllPairs-cons, AllPairs-head, AllPairs-nil, AllPairs-tail}
@@ -46,27 +46,6 @@ module _ {A : Type 0} (P : A → Type 0) where
       by : (o : Option A) → IfSome o P → All P (filter_map f rest) → All P (cons_option o (filter_map f rest))
       by None is later = later
       by (Some y) is later = All-cons P y (filter_map f rest) is later
-
-module _ {A : Type 0} (R : A → A → Type 0) where
-  -- pairs of those that pass
-  pub AllPairs-filter : (p : A → Bool) (list : List A) → AllPairs R list → AllPairs R (filter p list)
-  AllPairs-filter p [] up = up
-  AllPairs-filter p (x ∷ rest) up =
-      by (p x) (All-filter p (R x) rest (AllPairs-head R x rest up)) (AllPairs-filter p rest (AllPairs-tail R x rest up))
-    where
-      by : (b : Bool) → All (R x) (filter p rest) → AllPairs R (filter p rest)
-          → AllPairs R (if b then x ∷ filter p rest else filter p rest)
-      by true first later = AllPairs-cons R x (filter p rest) first later
-      by false first later = later
-
-  -- pairs of what is made
-  pub AllPairs-map : {X : Type 0} (f : X → A) (list : List X) → AllPairs (λ (a b : X). R (f a) (f b)) list
-      → AllPairs R (map f list)
-  AllPairs-map f [] up = AllPairs-nil R
-  AllPairs-map {X} f (x ∷ rest) up =
-      AllPairs-cons R (f x) (map f rest)
-      (All-map (R (f x)) f rest (AllPairs-head (λ (a b : X). R (f a) (f b)) x rest up))
-      (AllPairs-map f rest (AllPairs-tail (λ (a b : X). R (f a) (f b)) x rest up))
 
 -- pairs of values that are made, where there is one: each is such that the order of what they are made of is theirs
 module _ {A B : Type 0} (R : A → A → Type 0) (S : B → B → Type 0) (Q : A → B → Type 0) (f : A → Option B)

@@ -10,7 +10,7 @@ use Rattle.compute_terms.specs.Flags.{known_flags, listed_flags, with_own_flags}
 use Rattle.compute_terms.specs.Listings.{Listing}
 use Rattle.compute_terms.specs.RelayFlags.{is_set, middle_flags, router_flags, set_flags, suits_middle}
 use Rattle.compute_terms.specs.declared.identity.EdPart.{EdPart}
-use Rattle.computed_laws.proofs.FlagSets.{All-as_set, All-with_flag}
+use Rattle.vote_laws.proofs.FlagSets.{All-as_set, All-with_flag}
 use Rattle.computed_laws.proofs.Kept.{All-flat_map}
 
 abbrev pub IsName : List ℕ → Type 0

@@ -1,13 +1,11 @@
 pub mod Kept
 pub mod Medians
 pub mod Times
-pub mod FlagSets
 pub mod KnownFlags
 pub mod ListedVersions
 pub mod NamedValues
 pub mod ListedParams
 pub mod ListedRandoms
-pub mod Digests
 pub mod Sources
 pub mod RelayEntries
 pub mod RelayLines

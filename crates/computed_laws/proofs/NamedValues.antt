@@ -12,7 +12,7 @@ use Rattle.field_votes.specs.Lists.{all_names, values_in}
 use Rattle.vote_terms.specs.Votes.{ReadVote}
 use Rattle.vote_terms.specs.declared.lists.VoteLists.{VoteLists}
 use Rattle.compute_terms.specs.Lists.{members_of}
-use Rattle.computed_laws.proofs.FlagSets.{All-as_set}
+use Rattle.vote_laws.proofs.FlagSets.{All-as_set}
 use Rattle.computed_laws.proofs.Kept.{All-filter_map, All-flat_map, IfSome-find, IfSome-map, unwrapped}
 
 -- what a line of each vote has, where it has the line

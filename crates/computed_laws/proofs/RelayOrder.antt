@@ -21,8 +21,9 @@ use Rattle.compute_terms.specs.RelayFlags.{is_running_and_valid, router_flags}
 use Rattle.compute_terms.specs.Routers.{belonging_listings, router_as, router_of, routerline_of, routers}
 use Rattle.compute_terms.specs.Tuples.{Tuple, chosen_tuple}
 use Rattle.compute_terms.specs.declared.identity.EdPart.{EdPart}
-use Rattle.computed_laws.proofs.FlagSets.{All-as_set}
-use Rattle.computed_laws.proofs.Kept.{All-filter_map, All-flat_map, AllPairs-filter_map, AllPairs-map}
+use Rattle.vote_laws.proofs.FlagSets.{All-as_set}
+use Rattle.vote_laws.proofs.Members.{AllPairs-map}
+use Rattle.computed_laws.proofs.Kept.{All-filter_map, All-flat_map, AllPairs-filter_map}
 use Rattle.computed_laws.proofs.KnownFlags.{KnowNames}
 use Rattle.computed_laws.proofs.RelayEntries.{AllEntries}
 use Rattle.computed_laws.proofs.RelayLines.{relay_in_range}

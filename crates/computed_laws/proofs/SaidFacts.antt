@@ -15,7 +15,7 @@ use Rattle.consensus_terms.specs.declared.flavour.Flavour.TheVariants.{Ns, Micro
 use Rattle.consensus_terms.specs.declared.router.Routerline.{Routerline}
 use Rattle.consensus_laws.specs.Again.{AreFactsInRange, Ascending, IsRouterInRange}
 use Rattle.consensus_laws.specs.Items.{listed}
-use Rattle.computed_laws.proofs.Kept.{AllPairs-map}
+use Rattle.vote_laws.proofs.Members.{AllPairs-map}
 use Rattle.computed_laws.proofs.RelayOrder.{Before}
 
 -- ---- the method

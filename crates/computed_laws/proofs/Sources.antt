@@ -6,7 +6,7 @@ use Rattle.vote_terms.specs.Votes.{ReadVote}
 use Rattle.consensus_laws.specs.Again.{IsAuthorityInRange}
 use Rattle.compute_terms.specs.Consensuses.{source_of}
 use Rattle.computed_laws.specs.Computed.{AreVotesInRange, IsVoteInRange}
-use Rattle.computed_laws.proofs.Digests.{twenty}
+use Rattle.vote_laws.proofs.Digests.{twenty}
 
 source_in_range : (vote : ReadVote) → IsVoteInRange vote.says → IsAuthorityInRange (source_of vote)
 source_in_range vote is = record { line = is.source; vote_digest = twenty vote.signed }

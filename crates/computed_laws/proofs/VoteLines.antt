@@ -9,14 +9,16 @@ use Rattle.frame_values.specs.Items.{bare, item_if}
 use Rattle.relay_entries.specs.Texts.{bandwidths_text, ed_text}
 use Rattle.authority_certs.specs.Texts.{cert_items}
 use Rattle.vote_terms.specs.declared.entry.EntryFacts.{EntryFacts}
+use Rattle.vote_terms.specs.declared.facts.VoteFacts.{VoteFacts}
 use Rattle.vote_text.specs.Entries.{entries_items, entry_items, flag_items, items_each, micro_items, relay_items}
 use Rattle.vote_text.specs.Texts.{authority_items, footer_items, preamble_items, random_items}
 use Rattle.vote_text.specs.Texts.{source_text, vote_items}
 use Rattle.vote_terms.specs.Votes.{max_vote}
-use Rattle.computed_laws.specs.WithinLimits.{HasLineTexts, ReadableVotesFillLines}
+use Rattle.vote_laws.proofs.Members.{back_of, front_of}
+use Rattle.computed_laws.specs.WithinLimits.{FillsLines, HasLineTexts, ReadableVotesFillLines}
 
 -- the line of an item may have its rest
-abbrev Fills : NewItem → Type 0
+abbrev pub Fills : NewItem → Type 0
 Fills item = IsLineRest item.arguments
 
 fill : (limit place : ℕ) (items : List NewItem) → AreWritable limit place items → All Fills items
@@ -24,17 +26,9 @@ fill limit place [] are = All-nil Fills
 fill limit place (item ∷ items) are =
     All-cons Fills item items are.0.arguments (fill limit (place + length (item_text item)) items are.1)
 
--- ---- some of the items
+-- ---- texts of items
 
-front : (xs ys : List NewItem) → All Fills (xs ++ ys) → All Fills xs
-front [] ys all = All-nil Fills
-front (x ∷ xs) ys all =
-    All-cons Fills x xs (All-head Fills x (xs ++ ys) all) (front xs ys (All-tail Fills x (xs ++ ys) all))
-
-back : (xs ys : List NewItem) → All Fills (xs ++ ys) → All Fills ys
-back [] ys all = all
-back (x ∷ xs) ys all = back xs ys (All-tail Fills x (xs ++ ys) all)
-
+-- the rest of the line of an item, where there is one
 said : (keyword : Keyword) (rest : Option (List ℕ)) → All Fills (item_if keyword rest) → IfSome rest IsLineRest
 said keyword None all = tt
 said keyword (Some rest) all = All-head Fills (bare keyword rest) [] all
@@ -52,37 +46,43 @@ entry_fills e all =
     let to_policy : List NewItem = to_protocols ++ bandwidths ++ policy in
     let micros : List NewItem = micro_items e.micros in
     let all_to_policy : All Fills to_policy =
-    front to_policy micros (front (to_policy ++ micros) (item_if the.Id (ed_text e.ed)) all) in
+    front_of Fills to_policy micros (front_of Fills (to_policy ++ micros) (item_if the.Id (ed_text e.ed)) all) in
     let all_to_protocols : All Fills to_protocols =
-    front to_protocols bandwidths (front (to_protocols ++ bandwidths) policy all_to_policy) in
+    front_of Fills to_protocols bandwidths (front_of Fills (to_protocols ++ bandwidths) policy all_to_policy) in
     record {
-      version = said the.V e.version (back named version (front (named ++ version) protocols all_to_protocols));
-      protocols = said the.Pr e.protocols (back (named ++ version) protocols all_to_protocols);
-      policy = said the.P e.policy (back (to_protocols ++ bandwidths) policy all_to_policy);
+      version = said the.V e.version
+          (back_of Fills named version (front_of Fills (named ++ version) protocols all_to_protocols));
+      protocols = said the.Pr e.protocols (back_of Fills (named ++ version) protocols all_to_protocols);
+      policy = said the.P e.policy (back_of Fills (to_protocols ++ bandwidths) policy all_to_policy);
     }
 
 entries_fill : (entries : List EntryFacts) → All Fills (entries_items entries) → All HasLineTexts entries
 entries_fill [] all = All-nil HasLineTexts
 entries_fill (e ∷ rest) all =
-    All-cons HasLineTexts e rest (entry_fills e (front (entry_items e) (entries_items rest) all))
-    (entries_fill rest (back (entry_items e) (entries_items rest) all))
+    All-cons HasLineTexts e rest (entry_fills e (front_of Fills (entry_items e) (entries_items rest) all))
+    (entries_fill rest (back_of Fills (entry_items e) (entries_items rest) all))
 
 -- ---- the vote
 
-pub readable_fill : ReadableVotesFillLines
-readable_fill facts is =
+-- of items whose lines have their rests
+pub vote_fills : (facts : VoteFacts) → All Fills (vote_items facts) → FillsLines facts
+vote_fills facts all =
     let first : List NewItem = preamble_items facts in
     let authority : List NewItem = authority_items facts in
     let cert : List NewItem = cert_items facts.certificate in
     let entries : List NewItem = entries_items facts.entries in
-    let all : All Fills (first ++ authority ++ cert ++ entries) =
-    front (first ++ authority ++ cert ++ entries) (footer_items facts.signature)
-    (fill max_vote 0 (vote_items facts) is.items) in
+    let unsigned : All Fills (first ++ authority ++ cert ++ entries) =
+    front_of Fills (first ++ authority ++ cert ++ entries) (footer_items facts.signature) all in
     let own : All Fills authority =
-    back first authority (front (first ++ authority) cert (front (first ++ authority ++ cert) entries all)) in
+    back_of Fills first authority
+    (front_of Fills (first ++ authority) cert (front_of Fills (first ++ authority ++ cert) entries unsigned)) in
     record {
       contact = said the.Contact facts.contact
-          (front (item_if the.Contact facts.contact) (random_items facts)
-          (All-tail Fills (bare the.DirSource (source_text facts)) (item_if the.Contact facts.contact ++ random_items facts) own));
-      entries = entries_fill facts.entries (back (first ++ authority ++ cert) entries all);
+          (front_of Fills (item_if the.Contact facts.contact) (random_items facts)
+          (All-tail Fills (bare the.DirSource (source_text facts))
+          (item_if the.Contact facts.contact ++ random_items facts) own));
+      entries = entries_fill facts.entries (back_of Fills (first ++ authority ++ cert) entries unsigned);
     }
+
+pub readable_fill : ReadableVotesFillLines
+readable_fill facts is = vote_fills facts (fill max_vote 0 (vote_items facts) is.items)

@@ -21,7 +21,7 @@ use Rattle.frame_values.specs.declared.found.Span.{Span}
 use Rattle.frame_values.specs.declared.values.Value.TheVariants as value
 use Rattle.document_laws.specs.Items.{AreItemsIn}
 use Rattle.document_laws.proofs.Taking.{are_said}
-use Rattle.computed_laws.proofs.Digests.{twenty}
+use Rattle.vote_laws.proofs.Digests.{twenty}
 use Rattle.group_laws.specs.Ranges.{AreThirtyTwo, IsAddressInRange}
 use Rattle.descriptor_frame.specs.Tables.{descriptor_tables, rows}
 use Rattle.descriptor_frame.specs.declared.said.DescriptorKind.TheVariants as kind

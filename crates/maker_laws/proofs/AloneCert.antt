@@ -1,7 +1,7 @@
 -- Items that are those of a certificate that stands alone are read as it.
 use Rattle.std.proofs.Common.{◌≡◌, ℕ, List, [], ◌∷◌, ◌++◌, length}
 use Rattle.std.proofs.Common.{None}
-use Rattle.std.proofs.Common.{Result, Ok, Err, refl, sym, ap, subst, ◌∙◌, append-nil}
+use Rattle.std.proofs.Common.{Result, Ok, refl, sym, ap, subst, ◌∙◌, append-nil}
 use Rattle.item_terms.specs.Items.{Contents, Item, items_of}
 use Rattle.frame_terms.specs.Documents.{Document, finish, group}
 use Rattle.frame_terms.specs.declared.document.Group.{Group}
@@ -35,18 +35,6 @@ pub record IsAlone (bytes : List ℕ) (taken : List CertTaken) : Type 0 where
   pub read : cert_of bytes ≡ Ok (cert_in bytes (head_of taken), length bytes)
   pub within : AreTakenIn bytes taken
   pub end : (head_of taken).end ≡ length bytes
-
-abbrev pub first_or : Item → List Item → Item
-first_or other [] = other
-first_or other (item ∷ items) = item
-
-abbrev pub items_behind : List Item → List Item
-items_behind [] = []
-items_behind (item ∷ items) = items
-
-abbrev groups_or : Result (Document (Unit {0}) Said) ReadRefusal → List (Group (Unit {0}) Said)
-groups_or (Ok document) = document.groups
-groups_or (Err refusal) = []
 
 abbrev taken_or : List (Group (Unit {0}) Said) → List CertTaken
 taken_or [] = []

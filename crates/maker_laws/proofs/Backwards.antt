@@ -24,7 +24,8 @@ record IsBack (n : ℕ) (made : Step) (whole : Option Item) (next : Open) : Type
 abbrev made_step : Option Item → Open → Step
 made_step whole next = record { whole = whole; next = Ok next }
 
-abbrev open_or : Result Open DocFault → Open
+-- what is open
+abbrev pub open_or : Result Open DocFault → Open
 open_or (Ok open_) = open_
 open_or (Err fault) = nothing
 

@@ -1,11 +1,11 @@
 -- The items of the certificate inside a station input are those of one that stands alone.
-use Rattle.std.proofs.Common.{◌≡◌, ℕ, ◌+◌, Bool, true, false, List, [], ◌∷◌, ◌++◌, Option, Some, None}
+use Rattle.std.proofs.Common.{◌≡◌, ℕ, ◌+◌, false, List, [], ◌∷◌, ◌++◌, Some}
 use Rattle.std.proofs.Common.{refl, sym, ap, subst, ◌∙◌, inl, inr, map}
-use Rattle.std.specs.Prelude.{option_map, if◌then◌else◌}
+use Rattle.std.specs.Prelude.{option_map}
 use Rattle.item_terms.specs.Items.{Item}
 use Rattle.frame_terms.specs.Documents.{group}
 use Rattle.frame_terms.specs.Keywords.{same}
-use Rattle.frame_terms.specs.Order.{inner, is_keyword}
+use Rattle.frame_terms.specs.Order.{is_keyword}
 use Rattle.frame_terms.specs.Sections.{row_of}
 use Rattle.frame_terms.specs.declared.keyword.Keyword.{Keyword}
 use Rattle.frame_terms.specs.declared.keyword.Keyword.TheVariants as the
@@ -21,10 +21,12 @@ use Rattle.certificate_laws.proofs.Holding.{CertTaken, all_moved, row_there}
 use Rattle.station_input.specs.Tables.{station_tables}
 use Rattle.station_input.specs.declared.across.Across.{Across}
 use Rattle.station_input.specs.declared.frame.StationKind.TheVariants as kind
-use Rattle.station_input.specs.declared.frame.StationSection.{StationSection}
 use Rattle.station_input.specs.declared.frame.StationSection.TheVariants as its
 use Rattle.station_input.specs.declared.frame_said.StationValue.{StationValue}
-use Rattle.maker_laws.proofs.CertItems.{StationTaken, StationGroup, has, in_station, of_back, first_back, NoStrangers, no_stranger_of, passed_both}
+use Rattle.station_laws.proofs.KeptLines.{only_certificate}
+use Rattle.station_laws.proofs.NamedOnce.{StationGroup, StationTaken}
+use Rattle.maker_laws.proofs.FrontCut.{first_or, items_behind}
+use Rattle.maker_laws.proofs.CertItems.{has, in_station, of_back, first_back, NoStrangers, no_stranger_of, passed_both}
 
 -- ---- items between the first and the last
 
@@ -96,14 +98,6 @@ record IsFirst (n : ℕ) (items : List Item) (first : Item) (rest : List Item) :
   one_is : moved_item n one ≡ first
   others_are : map (moved_item n) others ≡ rest
 
-abbrev first_or : Item → List Item → Item
-first_or other [] = other
-first_or other (item ∷ items) = item
-
-abbrev items_behind : List Item → List Item
-items_behind [] = []
-items_behind (item ∷ items) = items
-
 first_of_moved : (n : ℕ) (items : List Item) (first : Item) (rest : List Item) → map (moved_item n) items ≡ first ∷ rest
     → IsFirst n items first rest
 first_of_moved n [] first rest is = absurd (cc (is))
@@ -149,23 +143,11 @@ pub record WasInside (n : ℕ) (items : List Item) (whole : StationGroup) : Type
   pub ends : items ≡ before ++ last ∷ []
   pub none : NoStrangers items
 
-abbrev pub certificate_if : Bool → Option StationSection
-certificate_if test = if test then Some its.Certificate else None
-
-pub opens_inside : (keyword : Keyword) (name : StationSection) → inner station_tables its.Station keyword ≡ Some name
-    → (name ≡ its.Certificate) × (same the.DirKeyCertificateVersion keyword ≡ true)
-opens_inside keyword name e = by (same the.DirKeyCertificateVersion keyword) refl e
-  where
-    by : (t : Bool) → same the.DirKeyCertificateVersion keyword ≡ t → certificate_if t ≡ Some name
-        → (name ≡ its.Certificate) × (same the.DirKeyCertificateVersion keyword ≡ true)
-    by true is found = (cc, is)
-    by false is found = absurd (cc (found))
-
 pub inside_back : (n : ℕ) (items : List Item) (one : StationTaken) (taken : List StationTaken) (before after : Across)
     → IsInside station_tables before its.Station (map (moved_item n) items) one (group its.Certificate taken) after
     → WasInside n items (group its.Certificate taken)
 inside_back n items one taken before after is =
-    let opens = (opens_inside one.keyword its.Certificate is.opens).1 in
+    let opens = (only_certificate one.keyword its.Certificate is.opens).1 in
     let cut = first_of_moved n items is.first_item (is.items_between ++ is.items_last) is.come in
     let first =
     first_back n cut.one one before

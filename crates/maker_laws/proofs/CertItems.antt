@@ -8,8 +8,6 @@ use Rattle.item_terms.specs.Items.{Item}
 use Rattle.frame_terms.specs.Keywords.{same, word_of}
 use Rattle.frame_terms.specs.Order.{is_strange, knows, knows_in, knows_with}
 use Rattle.frame_terms.specs.Sections.{row_of, taken_of}
-use Rattle.frame_terms.specs.declared.document.Group.{Group}
-use Rattle.frame_terms.specs.declared.document.Taken.{Taken}
 use Rattle.frame_terms.specs.declared.keyword.Keyword.{Keyword}
 use Rattle.frame_terms.specs.declared.keyword.Keyword.TheVariants as the
 use Rattle.frame_terms.specs.declared.row.Count.TheVariants.{One}
@@ -40,15 +38,9 @@ use Rattle.station_input.specs.Tables.{station_tables}
 use Rattle.station_input.specs.declared.across.Across.{Across}
 use Rattle.station_input.specs.declared.frame.StationKind.{StationKind}
 use Rattle.station_input.specs.declared.frame.StationKind.TheVariants as kind
-use Rattle.station_input.specs.declared.frame.StationSection.{StationSection}
 use Rattle.station_input.specs.declared.frame.StationSection.TheVariants as its
 use Rattle.station_input.specs.declared.frame_said.StationValue.{StationValue}
-
-abbrev pub StationTaken : Type 0
-StationTaken = Taken (Value StationValue)
-
-abbrev pub StationGroup : Type 0
-StationGroup = Group StationSection (Value StationValue)
+use Rattle.station_laws.proofs.NamedOnce.{StationTaken}
 
 -- ---- rows
 

@@ -29,11 +29,12 @@ use Rattle.station_input.specs.declared.across.Across.{Across}
 use Rattle.station_input.specs.declared.frame.StationSection.TheVariants as its
 use Rattle.station_input.specs.Reading.{max_station}
 use Rattle.maker_laws.proofs.Backwards.{reads_back}
-use Rattle.maker_laws.proofs.CertItems.{NoStrangers, StationTaken, has_object}
+use Rattle.station_laws.proofs.NamedOnce.{StationTaken}
+use Rattle.maker_laws.proofs.CertItems.{NoStrangers, has_object}
 use Rattle.maker_laws.proofs.CertInside.{WasInside, inside_back}
 use Rattle.maker_laws.proofs.CutText.{begins_with_keyword, cut_text}
-use Rattle.maker_laws.proofs.FrontCut.{cut_front}
-use Rattle.maker_laws.proofs.AloneCert.{IsAlone, alone_is, alone_part, first_or, items_behind}
+use Rattle.maker_laws.proofs.FrontCut.{cut_front, first_or, items_behind}
+use Rattle.maker_laws.proofs.AloneCert.{IsAlone, alone_is, alone_part}
 
 -- ---- where it stands in the input
 
@@ -49,6 +50,11 @@ pub record HasCert (input : List ℕ) (taken : List StationTaken) : Type 0 where
   pub first : first_is is_letter_or_digit own ≡ true
   pub begin : (head_of alone).begin ≡ 0
   pub none : NoStrangers (items_of max_cert own).items
+
+-- what ends where the lines end is as long as they are
+same_end : (own after end n whole lines_size : ℕ) → after + n ≡ end → end ≡ 0 + whole → whole ≡ n + lines_size
+    → own ≡ lines_size → own ≡ after
+same_end own after end n whole lines_size there ends both size = omega (arith, there, ends, both, size)
 
 -- the items up to the last one of the certificate
 pub cut_inside : (input : List ℕ) (one : Item) (before inside : List Item) (back : List Item) (taken : List StationTaken)
@@ -78,19 +84,25 @@ cut_inside input one before inside back taken its_opener remembered after come i
     let middle : List Line = split.line ∷ split.more in
     let both : sizes cut.first ≡ n + sizes middle =
     ap sizes split.parts ∙ sizes_both split.first middle in
-    let within = within_all max_station 0 nothing cut.first (front ++ last ∷ []) nothing cut.reads (omega arith) in
-    let near = last_near is.first_item.place is.first_item last is.items_between
-    (subst (λ (l : List Item). AllByRecursion (EndsWithin
-    (Some limit.Certificate) is.first_item.place) l) inside_is is.within) in
-    let few : sizes middle ≤ 65536 = omega (arith, near, split.begins, cut.ends, both) in
-    let back_ =
-    reads_back max_station 65536 0 n nothing middle (is.first_item ∷ (is.items_between ++ last ∷ [])) split.reads
-    (omega (arith, few)) (omega (arith, within, both)) in
-    let items = back_.was in
     let ended : AllEnded (split.first ++ middle) =
     subst AllEnded split.parts (ends_all max_station 0 nothing cut.first (front ++ last ∷ []) nothing cut.reads) in
     let text = cut_text input split.first middle cut.more ended
     (cut.parts ∙ ap (λ (l : List Line). l ++ cut.more) split.parts) in
+    let first = begins_with_keyword text.own split.line split.more text.own_lines split.keyword in
+    let behind : List Item = is.items_between ++ last ∷ [] in
+    let place : is.first_item.place ≡ 0 + n =
+    first_at max_station (0 + n) text.own is.first_item behind first
+    (subst (λ (ls : List Line). Reads max_station (0 + n) nothing ls (is.first_item ∷ behind) nothing)
+    (sym text.own_lines) split.reads) in
+    let within = within_all max_station 0 nothing cut.first (front ++ last ∷ []) nothing cut.reads (omega arith) in
+    let near = last_near is.first_item.place is.first_item last is.items_between
+    (subst (λ (l : List Item). AllByRecursion (EndsWithin
+    (Some limit.Certificate) is.first_item.place) l) inside_is is.within) in
+    let few : sizes middle ≤ 65536 = omega (arith, near, place, cut.ends, both) in
+    let back_ =
+    reads_back max_station 65536 0 n nothing middle (is.first_item ∷ (is.items_between ++ last ∷ [])) split.reads
+    (omega (arith, few)) (omega (arith, within, both)) in
+    let items = back_.was in
     let was : WasInside n items (group its.Certificate taken) =
     inside_back n items its_opener taken remembered after
     (subst (λ (l : List Item). IsInside station_tables remembered its.Station l its_opener
@@ -103,9 +115,9 @@ cut_inside input one before inside back taken its_opener remembered after come i
     (ap (map (moved_item n)) (sym was.ends) ∙ back_.are) in
     let size : length text.own ≡ was.last.after =
     let there : was.last.after + n ≡ last.after = ap (λ (i : Item). i.after) last_moved in
-    omega (arith, there, cut.ends, both, text.own_size) in
+    same_end (length text.own) was.last.after last.after n (sizes cut.first) (sizes middle) there cut.ends both
+    text.own_size in
     let alone = alone_is text.own items was.taken was.before was.last contents was.is_part was.ends size in
-    let first = begins_with_keyword text.own split.line split.more text.own_lines split.keyword in
     let begin : (head_of was.taken).begin ≡ 0 =
     begins_at_zero text.own items was.taken was.is_part
     (λ item others e. first_at 65536 0 text.own item others first

@@ -1,7 +1,7 @@
 -- The entry of a relay whose descriptor is in range, of which what is known is, is in range.
-use Rattle.std.proofs.Common.{◌≡◌, ℕ, ◌≤◌, Bool, true, false, List, [], ◌∷◌, ◌++◌, length, map, filter}
+use Rattle.std.proofs.Common.{◌≡◌, ℕ, ◌≤◌, Bool, true, false, List, [], ◌∷◌, ◌++◌, map, filter}
 use Rattle.std.proofs.Common.{Option, Some, None, refl, arith}
-use Rattle.std.specs.Prelude.{All, AllPairs, IfSome, codes, decimal, min, option_and_then, option_map, take, unwrap_or}
+use Rattle.std.specs.Prelude.{All, IfSome, codes, decimal, min, option_and_then, option_map, take, unwrap_or}
 use Rattle.std.specs.Prelude.{◌==◌, ◌/◌, if◌then◌else◌}
 use Rattle.std.specs.List.{find}
 use Rattle.std.specs.Str.{bytes_eq}
@@ -17,7 +17,6 @@ use Rattle.dir_values.specs.Ports.{entries_text, range_text, word_text}
 use Rattle.dir_values.specs.declared.digest.Fingerprint.{Fingerprint}
 use Rattle.dir_values.specs.declared.port_range.PortRange.{PortRange}
 use Rattle.dir_values.proofs.Flags.{Ascend-as_set}
-use Rattle.dir_values.proofs.Orders.{AllPairs-cons, AllPairs-head, AllPairs-nil, AllPairs-tail}
 use Rattle.dirdoc_grammar.specs.Writing.{IsLineRest}
 use Rattle.grammar_laws.proofs.LineRests.{rest_of_argument}
 use Rattle.frame_laws.proofs.WordTexts.{AreWords, Dark, IsWord, both_dark, bytes_of, two_words, word_of_number}
@@ -31,11 +30,9 @@ use Rattle.flag_rules.specs.Names.{name_table, names_of}
 use Rattle.flag_rules.specs.Relays.{ruled_relays}
 use Rattle.flag_rules.specs.declared.flags.Flags.{Flags}
 use Rattle.flag_rules.specs.declared.relay.RelayFacts.{RelayFacts}
-use Rattle.flag_rules.specs.declared.relay.RuledRelay.{RuledRelay}
 use Rattle.flag_rules.specs.declared.ruling.Ruling.{Ruling}
 use Rattle.station_input.specs.declared.frame_said.MeasuredRelay.{MeasuredRelay}
 use Rattle.maker_laws.specs.Ranges.{IsMeasuredInRange}
-use Rattle.vote_pool.specs.Pools.{DescriptorsAscend}
 use Rattle.vote_pool.specs.Summaries.{family_digest_of, micro_digest_of}
 use Rattle.vote_laws.specs.Again.{AreEntryFlags, IsEntryInRange, IsMicroInRange}
 use Rattle.vote_terms.specs.declared.entry.MicroFacts.{MicroFacts}
@@ -45,7 +42,8 @@ use Rattle.vote_maker.specs.Listings.{JudgedRelay, entry_of_judged, judged_relay
 use Rattle.vote_maker.specs.Relays.{is_of, known_of, known_relays, most_kilobytes}
 use Rattle.vote_maker.specs.Relays.{unmeasured_relay}
 use Rattle.range_laws.proofs.EntryTexts.{HasRests}
-use Rattle.range_laws.proofs.ReadNames.{IsName, each_of_set}
+use Rattle.vote_laws.proofs.FlagSets.{All-as_set}
+use Rattle.range_laws.proofs.ReadNames.{IsName}
 use Rattle.maker_laws.proofs.MicroLines.{IsFine, relay_micros}
 use Rattle.maker_laws.proofs.RestWords.{rest_words}
 
@@ -103,37 +101,9 @@ judged_ranged measured (d ∷ ds) (ruling ∷ rulings) (its ∷ flags) are all =
     (record { descriptor = All-head IsDescriptorInRange d ds all; known = known_ranged measured d are })
     (judged_ranged measured ds rulings flags are (All-tail IsDescriptorInRange d ds all))
 
-judged_all : (P : Descriptor → Type 0) (ds : List Descriptor) (ruled : List RuledRelay) (fs : List Flags) → All P ds
-    → All (λ (one : JudgedRelay). P one.descriptor) (judged_relays ds ruled fs)
-judged_all P [] ruled fs all = All-nil (λ (one : JudgedRelay). P one.descriptor)
-judged_all P (x ∷ ds) [] fs all = All-nil (λ (one : JudgedRelay). P one.descriptor)
-judged_all P (x ∷ ds) (y ∷ ruled) [] all = All-nil (λ (one : JudgedRelay). P one.descriptor)
-judged_all P (x ∷ ds) (y ∷ ruled) (z ∷ fs) all =
-    All-cons (λ (one : JudgedRelay). P one.descriptor) (record { descriptor = x; ruled = y; flags = z })
-    (judged_relays ds ruled fs) (All-head P x ds all) (judged_all P ds ruled fs (All-tail P x ds all))
-
+-- one stands before the other
 abbrev pub IsBelow : JudgedRelay → JudgedRelay → Type 0
 IsBelow a b = identity_below a.descriptor.identity b.descriptor.identity ≡ true
-
-abbrev DescriptorBelow : Descriptor → Descriptor → Type 0
-DescriptorBelow a b = identity_below a.identity b.identity ≡ true
-
-pub judged_ascend : (ds : List Descriptor) (ruled : List RuledRelay) (fs : List Flags) → DescriptorsAscend ds
-    → AllPairs IsBelow (judged_relays ds ruled fs)
-judged_ascend [] ruled fs up = AllPairs-nil IsBelow
-judged_ascend (x ∷ ds) [] fs up = AllPairs-nil IsBelow
-judged_ascend (x ∷ ds) (y ∷ ruled) [] up = AllPairs-nil IsBelow
-judged_ascend (x ∷ ds) (y ∷ ruled) (z ∷ fs) up =
-    AllPairs-cons IsBelow (record { descriptor = x; ruled = y; flags = z }) (judged_relays ds ruled fs)
-    (judged_all (DescriptorBelow x) ds ruled fs (AllPairs-head DescriptorBelow x ds up))
-    (judged_ascend ds ruled fs (AllPairs-tail DescriptorBelow x ds up))
-
-pub judged_few : (ds : List Descriptor) (ruled : List RuledRelay) (fs : List Flags)
-    → length (judged_relays ds ruled fs) ≤ length ds
-judged_few [] ruled fs = omega arith
-judged_few (x ∷ ds) [] fs = omega arith
-judged_few (x ∷ ds) (y ∷ ruled) [] = omega arith
-judged_few (x ∷ ds) (y ∷ ruled) (z ∷ fs) = omega (arith, judged_few ds ruled fs)
 
 -- ---- an entry
 
@@ -149,7 +119,7 @@ flags_ranged flags =
     let names : List (List ℕ) = map (λ (row : Bool × List ℕ). row.1) rows in
     record {
       ascend = Ascend-as_set names;
-      each = each_of_set IsName names
+      each = All-as_set IsName names
           (All-map IsName (λ (row : Bool × List ℕ). row.1) rows
           (All-filter (λ (row : Bool × List ℕ). row.0) IsNamed (name_table flags) all));
     }

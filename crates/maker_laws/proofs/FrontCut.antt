@@ -1,31 +1,27 @@
 -- Lines are cut in front of an item.
 use Rattle.std.proofs.Common.{◌≡◌, ◌⊎◌, ℕ, ◌+◌, Bool, true, false, List, [], ◌∷◌, ◌++◌, Option, Some, None, inl, inr}
-use Rattle.std.proofs.Common.{Result, Ok, Err, refl, sym, ap, subst, ◌∙◌, arith}
-use Rattle.std.specs.Prelude.{nat_lt, if◌then◌else◌}
+use Rattle.std.proofs.Common.{Ok, Err, refl, sym, ap, subst, ◌∙◌, arith}
+use Rattle.std.specs.Prelude.{if◌then◌else◌}
 use Rattle.item_terms.specs.declared.fault.DocFault.{DocFault}
-use Rattle.item_terms.specs.declared.fault.DocReason.TheVariants.{Keyword, ObjectTooLong}
+use Rattle.item_terms.specs.declared.fault.DocReason.TheVariants.{Keyword}
 use Rattle.item_terms.specs.Base64Text.{is_body}
-use Rattle.item_terms.specs.Faults.{at, line_fault, max_object, object_line_fault}
+use Rattle.item_terms.specs.Faults.{at, line_fault, object_line_fault}
 use Rattle.item_terms.specs.Lines.{Line, size}
 use Rattle.item_terms.specs.Words.{begin_words, is_blank_line, is_end_line, is_keyword_line}
-use Rattle.item_terms.specs.Steps.{Item, Object, Open, Step, begun_object, first_object_line, item_unless}
+use Rattle.item_terms.specs.Steps.{Item, Open, Step, first_object_line, item_unless}
 use Rattle.item_terms.specs.Steps.{keyword_item}
 use Rattle.item_terms.specs.Steps.{keyword_line, nothing, object_lines, object_step, open_item, open_unless}
 use Rattle.item_terms.specs.Steps.{read_line, starts_dash, step, step_unless}
 use Rattle.grammar_laws.specs.Moved.{Reads, sizes, with_whole}
 use Rattle.grammar_laws.proofs.MovedLines.{after_line, object_made}
+use Rattle.maker_laws.proofs.Backwards.{open_or}
 
 -- ---- what a line between items opens
 
 -- what is open is the item of this line
 record IsBegun (limit place : ℕ) (line : Line) (next : Open) : Type 0 where
   keyword : is_keyword_line line.text ≡ true
-  item_is : next ≡ keyword_line (keyword_item place line)
   is_open : open_item (read_line limit place line) ≡ Ok next
-
-abbrev open_or : Result Open DocFault → Open
-open_or (Ok open_) = open_
-open_or (Err fault) = nothing
 
 -- a line between items is blank, or begins an item
 either : (limit place : ℕ) (line : Line) (next : Open) → open_item (read_line limit place line) ≡ Ok next
@@ -39,80 +35,8 @@ either limit place line next is =
         → (next ≡ nothing) ⊎ IsBegun limit place line next
     by (Some f) blank key e found = absurd (cc (found))
     by None true key e found = inl (sym (ap open_or found))
-    by None false true e found = inr (record { keyword = e; item_is = sym (ap open_or found); is_open = is })
+    by None false true e found = inr (record { keyword = e; is_open = is })
     by None false false e found = absurd (cc (found))
-
--- ---- what is open while an item is not whole
-
--- the first item that will be whole is this one
-abbrev BeginsAt : ℕ → Open → Type 0
-BeginsAt p nothing = ⊥
-BeginsAt p (keyword_line item) = item.place ≡ p
-BeginsAt p (object_lines item begin object) = item.place ≡ p
-
-abbrev IsAt : ℕ → Option Item → Result Open DocFault → Type 0
-IsAt p (Some item) next = item.place ≡ p
-IsAt p None (Ok open_) = BeginsAt p open_
-IsAt p None (Err fault) = Unit {0}
-
-abbrev MadeAt : ℕ → Step → Type 0
-MadeAt p made = IsAt p made.whole made.next
-
-begun_at : (p : ℕ) (f : Option DocFault) (place : ℕ) (item : Item) (line : Line) (words : Option (List ℕ))
-    → item.place ≡ p
-    → IsAt p None (open_unless f (first_object_line place item line words))
-begun_at p (Some f) place item line words is = tt
-begun_at p None place item line None is = tt
-begun_at p None place item line (Some words) is = by (nat_lt max_object (size line))
-  where
-    by : (t : Bool)
-        → IsAt p None (if t then Err (at place ObjectTooLong) else Ok
-        (object_lines item place (begun_object place line words)))
-    by true = tt
-    by false = is
-
-object_at : (p : ℕ) (f : Option DocFault) (place : ℕ) (item : Item) (begin : ℕ) (object : Object) (line : Line)
-    → item.place ≡ p
-    → MadeAt p (step_unless f (object_step item begin object place line))
-object_at p (Some f) place item begin object line is = tt
-object_at p None place item begin object line is =
-    by (starts_dash line) (is_end_line object.words line.text) (is_body object.text)
-  where
-    by : (dash end_ body : Bool) → MadeAt p (object_made line place item begin object dash end_ body)
-    by true true true = is
-    by true true false = tt
-    by true false body = tt
-    by false end_ body = is
-
-step_at : (p limit place : ℕ) (open_ : Open) (line : Line) → BeginsAt p open_ → MadeAt p (step limit place open_ line)
-step_at p limit place nothing line is = absurd is
-step_at p limit place (keyword_line item) line is = by (starts_dash line)
-  where
-    by : (dash : Bool) → MadeAt p
-        (after_line dash (open_unless (line_fault limit place line)
-        (first_object_line place item line (begin_words line.text)))
-        item (open_item (read_line limit place line)))
-    by true = begun_at p (line_fault limit place line) place item line (begin_words line.text) is
-    by false = is
-step_at p limit place (object_lines item begin object) line is =
-    object_at p (object_line_fault limit begin place line) place item begin object line is
-
-abbrev FirstAt : ℕ → List Item → Type 0
-FirstAt p [] = ⊥
-FirstAt p (item ∷ items) = item.place ≡ p
-
-open_at : (p limit place : ℕ) (open_ : Open) (ls : List Line) (items : List Item) → BeginsAt p open_
-    → Reads limit place open_ ls items nothing → FirstAt p items
-open_at p limit place open_ [] items at_ is = absurd (subst (BeginsAt p) is.1 at_)
-open_at p limit place open_ (line ∷ rest) items at_ (whole, next, others, made, come, more) =
-    subst (FirstAt p) (sym come)
-    (by (λ at_. open_at p limit (place + size line) next rest others at_ more) whole
-    (subst (MadeAt p) made (step_at p limit place open_ line at_)))
-  where
-    by : (BeginsAt p next → FirstAt p others) → (w : Option Item) → IsAt p w (Ok next)
-        → FirstAt p (with_whole w others)
-    by again (Some item) e = e
-    by again None e = again e
 
 -- ---- a line that makes an item whole
 
@@ -171,7 +95,6 @@ pub record IsFrontCut (limit place : ℕ) (ls : List Line) (item : Item) (items 
   pub line : Line
   pub more : List Line
   pub parts : ls ≡ first ++ line ∷ more
-  pub begins : item.place ≡ place + sizes first
   pub keyword : is_keyword_line line.text ≡ true
   pub reads : Reads limit (place + sizes first) nothing (line ∷ more) (item ∷ items) nothing
 
@@ -185,7 +108,6 @@ longer limit place line rest item items cut =
       line = cut.line;
       more = cut.more;
       parts = ap (λ (l : List Line). line ∷ l) cut.parts;
-      begins = cut.begins ∙ ends;
       keyword = cut.keyword;
       reads = subst (λ (k : ℕ). Reads limit k nothing (cut.line ∷ cut.more) (item ∷ items) nothing) ends cut.reads;
     }
@@ -196,8 +118,6 @@ here : (limit place : ℕ) (line : Line) (rest : List Line) (item : Item) (items
     → IsFrontCut limit place (line ∷ rest) item items
 here limit place line rest item items next begun more =
     let none : place ≡ place + 0 = omega arith in
-    let at_ : BeginsAt place next = subst (BeginsAt place) (sym begun.item_is) refl in
-    let begins : item.place ≡ place = open_at place limit (place + size line) next rest (item ∷ items) at_ more in
     let made : step limit place nothing line ≡ record { whole = None; next = Ok next } =
     λ i. record { whole = None; next = begun.is_open i } in
     record {
@@ -205,17 +125,17 @@ here limit place line rest item items next begun more =
       line = line;
       more = rest;
       parts = refl;
-      begins = begins ∙ none;
       keyword = begun.keyword;
       reads = subst (λ (k : ℕ). Reads limit k nothing (line ∷ rest) (item ∷ items) nothing) none
           (None, next, item ∷ items, made, refl, more);
     }
 
-abbrev first_or : Item → List Item → Item
+-- the first of items, and those behind it
+abbrev pub first_or : Item → List Item → Item
 first_or other [] = other
 first_or other (item ∷ items) = item
 
-abbrev items_behind : List Item → List Item
+abbrev pub items_behind : List Item → List Item
 items_behind [] = []
 items_behind (item ∷ items) = items
 

@@ -45,8 +45,8 @@ use Rattle.station_input.specs.Reading.{max_station, with_facts}
 use Rattle.station_input.specs.declared.facts.StationFacts.{StationFacts}
 use Rattle.station_laws.proofs.StationTables.{stations_are_exact}
 use Rattle.maker_laws.specs.CertsGiven.{StationsCertificatesAreGiven}
-use Rattle.maker_laws.proofs.CertItems.{StationGroup, StationTaken}
-use Rattle.maker_laws.proofs.CertInside.{certificate_if, opens_inside}
+use Rattle.station_laws.proofs.KeptLines.{certificate_if, only_certificate, same_facts}
+use Rattle.station_laws.proofs.NamedOnce.{StationGroup, StationTaken}
 use Rattle.maker_laws.proofs.CertPlace.{HasCert, cut_inside}
 
 -- ---- the input
@@ -146,7 +146,7 @@ section_is part next section is items left come input contents =
         absurd (never_once once_ none.1)
     by inside name named (inr have) =
         let whole = have.whole in
-        let opens = opens_inside have.one.keyword whole.section
+        let opens = only_certificate have.one.keyword whole.section
         (subst (λ (s : StationSection). inner station_tables s have.one.keyword
         ≡ Some whole.section) section have.is.opens) in
         let inside_is : IsInside station_tables have.when_begun its.Station have.items_inside have.one
@@ -178,16 +178,6 @@ section_is part next section is items left come input contents =
         }
 
 -- ---- the law
-
-abbrev facts_or : StationFacts → Result (StationFacts × ℕ) ReadRefusal → StationFacts
-facts_or other (Ok found) = found.0
-facts_or other (Err refusal) = other
-
-abbrev as_facts : StationFacts → ℕ → Result (StationFacts × ℕ) ReadRefusal
-as_facts facts used = Ok (facts, used)
-
-same_facts : (a b : StationFacts) (m n : ℕ) → as_facts a m ≡ as_facts b n → a ≡ b
-same_facts a b m n is = ap (facts_or a) is
 
 -- what is read of such an input has a certificate that is given
 given_in : (newest : Newest) (input : List ℕ) (groups : List StationGroup) → IsStationInput input groups

@@ -32,13 +32,14 @@ use Rattle.station_input.specs.Reading.{max_station, with_facts}
 use Rattle.station_input.specs.Saying.{source_in}
 use Rattle.station_input.specs.declared.facts.StationFacts.{StationFacts}
 use Rattle.station_laws.proofs.KeptLines.{AreSections, facts_in, groups_are, same_facts, sections_are}
-use Rattle.station_laws.proofs.NamedOnce.{StationGroup}
+use Rattle.station_laws.proofs.NamedOnce.{StationGroup, StationTaken}
+use Rattle.maker_laws.proofs.StationKept.{AreFrom, CountsOf}
 use Rattle.vote_terms.specs.declared.facts.VoteFacts.{VoteFacts}
 use Rattle.vote_text.specs.Texts.{source_text}
 use Rattle.maker_laws.specs.Lines.{GivenLinesAreShort, HasShortLine, SaysAsGiven}
 use Rattle.maker_laws.proofs.ItemLines.{EachShort, FitsLine, each_short}
 use Rattle.maker_laws.proofs.OwnLine.{IsShortSource}
-use Rattle.maker_laws.proofs.StandingLines.{StationTaken, each_stands_short}
+use Rattle.maker_laws.proofs.StandingLines.{each_stands_short}
 use Rattle.maker_laws.proofs.GivenLists.{HasShortLists, lists_short, contact_short, source_short}
 
 -- ---- all that is read
@@ -77,12 +78,6 @@ source_said bytes source station short nickname identity address ip dir_port or_
         (sym dir_port ∙ sym says.dir_port)
         ∙ ap (λ (o : ℕ). rest facts.nickname facts.identity facts.address facts.ip facts.dir_port o)
         (sym or_port ∙ sym says.or_port)
-
-abbrev AreFrom : List Item → StationGroup → Type 0
-AreFrom items g = AreItemsIn station_tables g.section items g.taken
-
-abbrev CountsOf : StationGroup → Type 0
-CountsOf g = RowsStand station_tables g.section g.taken
 
 section_short : (bytes : List ℕ) (items : List Item) (taken : List StationTaken) (station : StationFacts)
     → EachSound bytes items → EachShort items → AreItemsIn station_tables its.Station items taken

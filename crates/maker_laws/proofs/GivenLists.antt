@@ -35,7 +35,8 @@ use Rattle.vote_text.specs.Lists.{param_items, protocol_items, version_items}
 use Rattle.maker_laws.specs.Lines.{HasShortLine}
 use Rattle.maker_laws.proofs.ItemLines.{FitsLine, shorter_fits}
 use Rattle.maker_laws.proofs.OwnLine.{IsShortSource, SourceFits, source_fits}
-use Rattle.maker_laws.proofs.StandingLines.{EachStandsShort, StationTaken, contact_fits}
+use Rattle.station_laws.proofs.NamedOnce.{StationTaken}
+use Rattle.maker_laws.proofs.StandingLines.{EachStandsShort, contact_fits}
 use Rattle.maker_laws.proofs.StandingLines.{item_short, params_fit, protocols_fit, versions_fit}
 
 -- ---- lines of lists

@@ -2,31 +2,29 @@
 -- anew.
 use Rattle.std.proofs.Common.{◌≡◌, ℕ, ◌+◌, ◌-◌, ◌≤◌, Bool, true, false, cond, List, [], ◌∷◌, ◌++◌, length, drop}
 use Rattle.std.proofs.Common.{Option, Some, None, refl, sym, ap, subst, ◌∙◌, arith, length-append}
-use Rattle.std.specs.Prelude.{min, nat_le, if◌then◌else◌}
+use Rattle.std.specs.Prelude.{if◌then◌else◌}
 use Rattle.std.specs.List.{prefix_len, suffix_len}
-use Rattle.std.proofs.lemmas.Bool.{and_parts, false≢true, leb-true}
+use Rattle.std.proofs.lemmas.Bool.{and_parts, false≢true}
 use Rattle.std.proofs.lemmas.List.{length-drop, length-take}
 use Rattle.std.proofs.lemmas.List.Sums.{prefix_len-le-length}
 use Rattle.item_terms.specs.declared.fault.DocFault.{DocFault}
-use Rattle.item_terms.specs.declared.fault.DocReason.TheVariants.{DocumentTooLong, LineTooLong, Unterminated}
-use Rattle.item_terms.specs.Faults.{at, line_fault, max_line, nul_fault, or_else, too_long, unterminated_fault}
+use Rattle.item_terms.specs.Faults.{line_fault, max_line}
 use Rattle.item_terms.specs.Items.{Contents, Item, items_from}
 use Rattle.item_terms.specs.Lines.{Line, lines, size}
 use Rattle.item_terms.specs.Words.{after_keyword, arguments, ends_or_blank, first_is, is_blank, is_keyword_line}
-use Rattle.item_terms.specs.Words.{is_letter_or_digit, keyword, keyword_len, nul_in, trim, trim_front}
+use Rattle.item_terms.specs.Words.{is_letter_or_digit, keyword, keyword_len, trim, trim_front}
 use Rattle.dirdoc_grammar.specs.Writing.{tail}
 use Rattle.grammar_laws.specs.Blocks.{AreLinesOfItems}
 use Rattle.grammar_laws.proofs.BlockFronts.{fault_is_there, items_are_there}
+use Rattle.grammar_laws.proofs.SoundLines.{has_end}
+use Rattle.range_laws.proofs.TextSizes.{tail_short}
+use Rattle.maker_laws.proofs.SoundBack.{line_fits}
 
 -- a line of this keyword and this rest is no longer than a line may be, with its NL
 abbrev pub FitsLine : List ℕ → List ℕ → Type 0
 FitsLine keyword rest = length (keyword ++ tail rest) + 1 ≤ max_line
 
 -- ---- the rest of a line
-
-tail_size : (rest : List ℕ) → length (tail rest) ≤ length rest + 1
-tail_size [] = omega arith
-tail_size (b ∷ rest) = omega arith
 
 no_tail : (rest : List ℕ) → length rest ≤ 0 → length (tail rest) ≤ 0
 no_tail [] none = omega arith
@@ -61,32 +59,16 @@ trim_size (b ∷ text) is =
   where
     by : (t : Bool) → t ≡ true → length (trim (b ∷ text)) + cond t (1 + prefix_len is_blank text) 0 ≤ length (b ∷ text)
         → length (tail (trim (b ∷ text))) ≤ length (b ∷ text)
-    by true its short = omega (arith, short, tail_size (trim (b ∷ text)))
+    by true its short = omega (arith, short, tail_short (trim (b ∷ text)))
     by false its short = absurd (false≢true its)
 
 -- ---- a line without a fault
 
-both_none : (a b : Option DocFault) → or_else a b ≡ None → (a ≡ None) × (b ≡ None)
-both_none None b e = (refl, e)
-both_none (Some fault) b e = absurd (cc e)
-
-passed : {X : Type 0} (t : Bool) (fault : X) → (if t then None else Some fault) ≡ None → t ≡ true
-passed true fault e = refl
-passed false fault e = absurd (cc e)
-
 line_size : (limit place : ℕ) (line : Line) → line_fault limit place line ≡ None → length line.text + 1 ≤ max_line
 line_size limit place line sound =
-    let rest = or_else (unterminated_fault place line) (nul_fault place (nul_in line.text)) in
-    let first = both_none (too_long limit place (size line)) rest sound in
-    let second = both_none (unterminated_fault place line) (nul_fault place (nul_in line.text)) first.1 in
-    let fits =
-    leb-true (size line) (min (limit - place) max_line)
-    (passed (nat_le (size line) (min (limit - place) max_line))
-    (if nat_le (limit - place) max_line then at limit DocumentTooLong else at (place + max_line) LineTooLong)
-    first.0) in
-    let ended = passed line.ended (at (place + length line.text) Unterminated) second.0 in
-    let whole : size line ≡ length line.text + 1 = ap (λ (t : Bool). length line.text + (if t then 1 else 0)) ended in
-    omega (arith, fits, whole)
+    let whole : size line ≡ length line.text + 1 =
+    ap (λ (t : Bool). length line.text + (if t then 1 else 0)) (has_end limit place line sound) in
+    omega (arith, line_fits limit place line sound, whole)
 
 item_line : (text : List ℕ) → is_keyword_line text ≡ true → length text + 1 ≤ max_line
     → FitsLine (keyword text) (arguments text)

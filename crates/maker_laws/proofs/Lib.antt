@@ -18,7 +18,6 @@ pub mod GivenLines
 pub mod Telling
 pub mod FileTelling
 pub mod RestWords
-pub mod ThirtyTwo
 pub mod MicroLines
 pub mod ObjectFits
 pub mod RulingLaws

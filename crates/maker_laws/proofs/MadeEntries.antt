@@ -1,11 +1,11 @@
 -- The entries that are made of descriptors that are in range are in range.
-use Rattle.std.proofs.Common.{◌≡◌, ℕ, ◌≤◌, Bool, true, false, List, [], ◌∷◌, length, map, filter, get_or}
-use Rattle.std.proofs.Common.{Option, Some, None, refl, sym, ◌∙◌, arith}
+use Rattle.std.proofs.Common.{◌≡◌, ℕ, ◌≤◌, true, false, List, [], ◌∷◌, length, map, filter, get_or}
+use Rattle.std.proofs.Common.{Option, Some, None, sym, ◌∙◌, arith}
 use Rattle.std.specs.Prelude.{All, AllPairs}
-use Rattle.std.specs.Prelude.{not, ◌||◌, if◌then◌else◌}
+use Rattle.std.specs.Prelude.{not}
 use Rattle.std.specs.List.{list_any}
 use Rattle.std.proofs.lemmas.Bool.{and_from, and_parts, false≢true, not-true}
-use Rattle.std.proofs.lemmas.List.Elements.{All-cons, All-filter, All-head, All-map, All-nil, All-tail, filter_passes}
+use Rattle.std.proofs.lemmas.List.Elements.{All-filter, All-head, All-map, All-tail, filter_passes}
 use Rattle.std.proofs.lemmas.List.Kept.{AllPairs-filter}
 use Rattle.std.proofs.lemmas.Slice.Eq.{bytes_eq-Decides}
 use Rattle.dir_values.specs.Digests.{identity_below}
@@ -26,19 +26,11 @@ use Rattle.vote_maker.specs.Listings.{made_entries}
 use Rattle.vote_maker.specs.Listings.{listed_relays, same_key}
 use Rattle.range_laws.proofs.EntryTexts.{HasRests}
 use Rattle.range_laws.proofs.KeptEntries.{count_map}
-use Rattle.maker_laws.proofs.EntryRanges.{IsBelow, IsJudgedInRange, entry_ranged, entry_rests, judged_ascend}
-use Rattle.maker_laws.proofs.EntryRanges.{judged_few}
+use Rattle.vote_laws.proofs.Members.{AllPairs-map, few_pass, none_any}
+use Rattle.vote_maker.proofs.Judged.{judged_ascend, judged_few}
+use Rattle.maker_laws.proofs.EntryRanges.{IsBelow, IsJudgedInRange, entry_ranged, entry_rests}
 
 -- ---- no two of one key
-
-none_any : {X : Type 0} (p : X → Bool) (xs : List X) → list_any p xs ≡ false → All (λ x. p x ≡ false) xs
-none_any p [] is = All-nil (λ x. p x ≡ false)
-none_any {X} p (x ∷ xs) is = by (λ found. none_any p xs found) (p x) refl is
-  where
-    by : (list_any p xs ≡ false → All (λ y. p y ≡ false) xs) → (t : Bool) → p x ≡ t → (t || list_any p xs) ≡ false
-        → All (λ y. p y ≡ false) (x ∷ xs)
-    by again true e found = absurd (cc (found))
-    by again false e found = All-cons (λ y. p y ≡ false) x xs e (again found)
 
 key_same : (x y : Option EdCert) (key : List ℕ) → opinion_of x ≡ opinion.Key key → opinion_of y ≡ opinion.Key key
     → same_key x y ≡ true
@@ -90,22 +82,6 @@ module _ (newest : Newest) (relays : List JudgedRelay) where
 
 -- ---- all of them
 
-all_pairs_map : {X Y : Type 0} (R : Y → Y → Type 0) (f : X → Y) (xs : List X) → AllPairs (λ a b. R (f a) (f b)) xs
-    → AllPairs R (map f xs)
-all_pairs_map R f [] pairs = AllPairs-nil R
-all_pairs_map R f (x ∷ xs) pairs =
-    AllPairs-cons R (f x) (map f xs) (All-map (R (f x)) f xs (AllPairs-head (λ a b. R (f a) (f b)) x xs pairs))
-    (all_pairs_map R f xs (AllPairs-tail (λ a b. R (f a) (f b)) x xs pairs))
-
-pub few_pass : {X : Type 0} (p : X → Bool) (xs : List X) → length (filter p xs) ≤ length xs
-few_pass p [] = omega arith
-few_pass {X} p (x ∷ xs) = by (p x) (few_pass p xs)
-  where
-    by : (t : Bool) → length (filter p xs) ≤ length xs
-        → length (if t then x ∷ filter p xs else filter p xs) ≤ length (x ∷ xs)
-    by true more = omega (arith, more)
-    by false more = omega (arith, more)
-
 -- the entries of relays of a pool
 pub entries_ranged : (newest : Newest) (ds : List Descriptor) (ruled : List RuledRelay) (flags : List Flags) → DescriptorsAscend ds
     → length ds ≤ most_relays → All IsJudgedInRange (judged_relays ds ruled flags)
@@ -125,10 +101,10 @@ entries_ranged newest ds ruled flags up few all =
       each = All-map IsEntryInRange (entry_of_judged newest) listed
           (λ k d lt. entry_ranged newest (get_or listed k d)
           (All-filter (has_entry relays) IsJudgedInRange relays all k d lt));
-      ascending = all_pairs_map (λ (a b : EntryFacts). identity_below a.identity b.identity
+      ascending = AllPairs-map (λ (a b : EntryFacts). identity_below a.identity b.identity
           ≡ true) (entry_of_judged newest) listed
           (AllPairs-filter IsBelow (has_entry relays) relays below);
-      keys = all_pairs_map DifferInKey (entry_of_judged newest) listed (listed_apart newest relays below);
+      keys = AllPairs-map DifferInKey (entry_of_judged newest) listed (listed_apart newest relays below);
     }
 
 -- the rests of their lines

@@ -1,8 +1,8 @@
 -- What is made of what is in range says what can be read, and its items may be written.
-use Rattle.std.proofs.Common.{◌≡◌, ℕ, List, [], ◌∷◌, ◌++◌, refl, subst}
+use Rattle.std.proofs.Common.{◌≡◌, ℕ, List, ◌++◌, refl, subst}
 use Rattle.std.proofs.Common.{arith}
 use Rattle.std.specs.Prelude.{All}
-use Rattle.std.proofs.lemmas.List.Elements.{All-append, All-cons, All-head, All-nil, All-tail}
+use Rattle.std.proofs.lemmas.List.Elements.{All-append}
 use Rattle.std.proofs.lemmas.List.Sums.{AllPass-from_list_all}
 use Rattle.dir_values.specs.FlagSets.{Ascend, as_set}
 use Rattle.dir_values.specs.FlagSets.{is_name}
@@ -10,7 +10,7 @@ use Rattle.dir_values.proofs.Flags.{Ascend-as_set}
 use Rattle.grammar_laws.specs.Written.{IsItem}
 use Rattle.authority_certs.specs.Texts.{cert_items}
 use Rattle.count_terms.specs.declared.newest.Newest.{Newest}
-use Rattle.computed_laws.proofs.Digests.{twenty}
+use Rattle.vote_laws.proofs.Digests.{twenty}
 use Rattle.descriptor_laws.specs.ReadRanges.{IsDescriptorInRange}
 use Rattle.flag_rules.specs.Flags.{flags_of}
 use Rattle.flag_rules.specs.Relays.{ruled_relays}
@@ -23,6 +23,7 @@ use Rattle.vote_text.specs.Entries.{entries_items}
 use Rattle.vote_text.specs.Texts.{authority_items, footer_items, preamble_items}
 use Rattle.vote_laws.specs.Again.{AreEntriesInRange, AreFlags, AreMethods, HasValuesInRange, IsSignatureInRange}
 use Rattle.vote_laws.proofs.BareRows.{no_rests}
+use Rattle.vote_laws.proofs.Members.{back_of, front_of}
 use Rattle.vote_laws.proofs.VoteRows.{preamble_texts}
 use Rattle.range_laws.proofs.EntryTexts.{HasRests}
 use Rattle.range_laws.proofs.VoteTexts.{SaysWhole, vote_may}
@@ -53,16 +54,7 @@ flags_ranged = record {
   each = AllPass-from_list_all is_name made_flags refl;
 }
 
--- ---- parts of a list
-
-front_of : {X : Type 0} (P : X → Type 0) (xs ys : List X) → All P (xs ++ ys) → All P xs
-front_of P [] ys all = All-nil P
-front_of P (x ∷ xs) ys all =
-    All-cons P x xs (All-head P x (xs ++ ys) all) (front_of P xs ys (All-tail P x (xs ++ ys) all))
-
-back_of : {X : Type 0} (P : X → Type 0) (xs ys : List X) → All P (xs ++ ys) → All P ys
-back_of P [] ys all = all
-back_of P (x ∷ xs) ys all = back_of P xs ys (All-tail P x (xs ++ ys) all)
+-- ---- parts of what is made
 
 -- of a vote's items those before its certificate and those behind it
 before_and_behind : (facts : VoteFacts) → HasValuesInRange facts → SaysWhole facts → IsMadeInRangeButForLimits facts

@@ -1,11 +1,10 @@
 -- Items whose lines and objects are short enough pass no limit where the whole text passes none.
 use Rattle.std.proofs.Common.{◌≡◌, ℕ, ◌+◌, ◌*◌, ◌≤◌, List, [], ◌∷◌, ◌++◌, length, length-append, get_or, Option, Some}
 use Rattle.std.proofs.Common.{None, ap}
-use Rattle.std.proofs.Common.{◌∙◌, arith, refl}
-use Rattle.std.specs.Prelude.{All, IfSome, codes, nat_le, true}
+use Rattle.std.proofs.Common.{◌∙◌, arith}
+use Rattle.std.specs.Prelude.{All, IfSome, codes}
 use Rattle.dir_values.specs.declared.algorithm.Algorithm.{Algorithm}
 use Rattle.dir_values.specs.declared.algorithm.Algorithm.TheVariants.{Sha1, Sha256}
-use Rattle.std.proofs.lemmas.Bool.{leb-true}
 use Rattle.std.proofs.lemmas.List.Elements.{All-append, All-cons, All-head, All-nil, All-tail}
 use Rattle.item_terms.specs.Faults.{max_line, max_object}
 use Rattle.dir_bytes.specs.FieldTexts.{hex_text}
@@ -15,7 +14,6 @@ use Rattle.dirdoc_grammar.specs.Writing.{NewItem, NewObject, item_text, items_te
 use Rattle.grammar_laws.specs.Written.{AreWithinLimits}
 use Rattle.frame_terms.specs.Keywords.{text_of}
 use Rattle.frame_terms.specs.declared.keyword.Keyword.{Keyword}
-use Rattle.frame_terms.specs.declared.keyword.Keyword.TheVariants.{NetworkStatusVersion}
 use Rattle.frame_terms.specs.declared.keyword.Keyword.TheVariants as the
 use Rattle.frame_values.specs.Items.{bare, with_object}
 use Rattle.key_port.specs.Signing.{signature_limit}
@@ -29,24 +27,13 @@ use Rattle.vote_terms.specs.Votes.{max_vote}
 use Rattle.vote_laws.specs.Again.{IsSignatureInRange}
 use Rattle.vote_laws.specs.Made.{IsMadeInRange}
 use Rattle.vote_laws.proofs.MadeTexts.{before_same, before_text, behind_same, behind_text, text_parts}
-use Rattle.range_laws.proofs.CertRead.{items_writable}
+use Rattle.vote_laws.proofs.MayWrite.{items_writable}
+use Rattle.range_laws.proofs.TextSizes.{keyword_short, tail_short}
 use Rattle.maker_laws.specs.Lines.{HasShortLine}
 use Rattle.maker_laws.specs.ReadAsMade.{IsMadeInRangeButForLimits}
 use Rattle.maker_laws.proofs.ObjectFits.{object_fits}
 
 -- ---- lines
-
--- the name of each keyword is short
-pub keyword_short : (keyword : Keyword) → length (text_of keyword) ≤ 64
-keyword_short keyword = leb-true (length (text_of keyword)) 64 (small keyword)
-  where
-    small : (k : Keyword) → nat_le (length (text_of k)) 64 ≡ true
-    small NetworkStatusVersion = refl
-    small _ = refl
-
-tail_short : (rest : List ℕ) → length (tail rest) ≤ 1 + length rest
-tail_short [] = omega arith
-tail_short (b ∷ rest) = omega arith
 
 -- a line whose rest has a million bytes at most is short
 pub line_short : (keyword : Keyword) (rest : List ℕ) → length rest ≤ 1000000

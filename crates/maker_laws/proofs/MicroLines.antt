@@ -24,7 +24,7 @@ use Rattle.vote_terms.specs.declared.entry.MicroFacts.{MicroFacts}
 use Rattle.vote_text.specs.Entries.{micro_line}
 use Rattle.vote_laws.specs.Again.{IsMicroInRange}
 use Rattle.vote_maker.specs.Entries.{made_methods, micro_of_digest, micros_of}
-use Rattle.maker_laws.proofs.ThirtyTwo.{thirty_two}
+use Rattle.vote_laws.proofs.Digests.{thirty_two}
 
 abbrev Is32 : ℕ → Type 0
 Is32 n = n ≤ 4294967295

@@ -1,8 +1,8 @@
 -- The `dir-source` line of a vote, of an authority that a station input names, is no longer than a line may be.
 use Rattle.std.proofs.Common.{◌≡◌, ℕ, ◌+◌, ◌≤◌, Bool, true, false, List, [], ◌∷◌, ◌++◌, length}
-use Rattle.std.proofs.Common.{Result, Ok, Err, refl, ap, ◌∙◌, arith, length-append}
-use Rattle.std.specs.Prelude.{codes, decimal, if◌then◌else◌}
-use Rattle.std.proofs.lemmas.Bool.{false≢true, leb-true}
+use Rattle.std.proofs.Common.{Ok, refl, ap, ◌∙◌, arith, length-append}
+use Rattle.std.specs.Prelude.{codes, decimal}
+use Rattle.std.proofs.lemmas.Bool.{leb-true}
 use Rattle.item_terms.specs.Bytes.{line_feed, space}
 use Rattle.item_terms.specs.Faults.{max_line}
 use Rattle.item_terms.specs.Items.{Item}
@@ -30,7 +30,11 @@ use Rattle.station_input.specs.declared.frame.StationKind.TheVariants as kind
 use Rattle.station_input.specs.declared.frame_said.StationValue.{StationValue}
 use Rattle.station_input.specs.declared.frame_said.StationValue.TheVariants as own
 use Rattle.frame_terms.specs.declared.keyword.Keyword.{Keyword}
+use Rattle.range_laws.proofs.LineReads.{source_made}
+use Rattle.range_laws.proofs.RelayReads.{nickname_there}
+use Rattle.range_laws.proofs.TextSizes.{tail_short}
 use Rattle.maker_laws.proofs.ItemLines.{FitsLine}
+use Rattle.maker_laws.proofs.StationReads.{own_if}
 use Rattle.maker_laws.proofs.StandingLines.{SaysShort}
 
 -- ---- the line by its parts
@@ -40,10 +44,6 @@ abbrev pub rest_of_source : List ℕ → DirSource → List ℕ
 rest_of_source bytes source =
     part bytes source.nickname ++ space ∷ hex_text source.identity.0 ++ space ∷ part bytes source.address
     ++ space ∷ (address_text source.ip ++ space ∷ decimal source.dir_port ++ space ∷ decimal source.or_port)
-
-tail_size : (rest : List ℕ) → length (tail rest) ≤ length rest + 1
-tail_size [] = omega arith
-tail_size (b ∷ rest) = omega arith
 
 -- the sizes of six texts with a space before each, and of the same one behind the other
 same_size : (word a b c d e f : List ℕ)
@@ -55,7 +55,7 @@ same_size word a b c d e f =
     omega (
       arith,
       length-append word (tail (names ++ space ∷ ports)),
-      tail_size (names ++ space ∷ ports),
+      tail_short (names ++ space ∷ ports),
       length-append names (space ∷ ports),
       length-append (a ++ space ∷ b) (space ∷ c),
       length-append a (space ∷ b),
@@ -80,20 +80,6 @@ line_fits nickname host source fits = leb-true (length (source_line nickname hos
 -- the nickname and the host name stand in the input as the arguments say
 abbrev IsNamed : List ℕ → List ℕ → List ℕ → DirSource → Type 0
 IsNamed bytes name host source = (part bytes source.nickname ≡ name) × (part bytes source.address ≡ host)
-
-nickname_is_there : (text : List ℕ) → is_nickname text ≡ true → is_there text ≡ true
-nickname_is_there [] is = absurd (false≢true is)
-nickname_is_there (b ∷ text) is = refl
-
-abbrev source_made : Span → Fingerprint → Span → ℕ → ℕ → ℕ → Result DirSource ℕ
-source_made nickname digest host ip dir_port or_port = Ok (record {
-  nickname = nickname;
-  identity = digest;
-  address = host;
-  ip = ip;
-  dir_port = dir_port;
-  or_port = or_port;
-})
 
 named_reads : (bytes : List ℕ) (item : Item) → IsSound bytes item
     → ReadAs (IsNamed bytes (front item.place (arguments_of item)).text
@@ -129,7 +115,7 @@ named_reads bytes item sound =
     let Any : ℕ → Type 0 = λ n. Unit {0} in
     next_reads (λ (n : Span). part bytes n ≡ t0.text) Named f0 m0
     (span_reads (λ (n : Span). part bytes n ≡ t0.text) t0 (is_nickname t0.text)
-    (λ is. (front_found bytes item.place a0 found0 (nickname_is_there t0.text is)).part)) (λ n is_n.
+    (λ is. (front_found bytes item.place a0 found0 (nickname_there t0.text is)).part)) (λ n is_n.
     next_reads (λ (k : Fingerprint). Unit {0}) Named f1 (m1 n) (any_reads f1) (λ k is_k.
     next_reads (λ (h : Span). part bytes h ≡ t2.text) Named f2 (m2 n k)
     (span_reads (λ (h : Span). part bytes h ≡ t2.text) t2 (is_there t2.text)
@@ -141,9 +127,6 @@ named_reads bytes item sound =
 -- an authority whose line is short
 abbrev pub IsShortSource : List ℕ → DirSource → Type 0
 IsShortSource bytes source = FitsLine (codes "dir-source") (rest_of_source bytes source)
-
-abbrev own_if : Bool → ℕ → DirSource → Result DirSource ℕ
-own_if fits place source = if fits then Ok source else Err place
 
 own_reads : (bytes : List ℕ) (item : Item) → IsSound bytes item → ReadAs (IsShortSource bytes) (own_of item)
 own_reads bytes item sound =

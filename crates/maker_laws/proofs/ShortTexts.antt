@@ -1,5 +1,5 @@
 -- The texts in the lines of an entry that is in range are short.
-use Rattle.std.proofs.Common.{◌≡◌, ℕ, suc, ◌+◌, ◌*◌, ◌/◌, ◌%◌, ◌≤◌, ◌<◌, ◌^◌, Bool, true, false, List, [], ◌∷◌, ◌++◌}
+use Rattle.std.proofs.Common.{◌≡◌, ℕ, suc, ◌+◌, ◌/◌, ◌%◌, ◌≤◌, Bool, true, false, List, [], ◌∷◌, ◌++◌}
 use Rattle.std.proofs.Common.{length, length-append}
 use Rattle.std.proofs.Common.{map, filter, Option, Some, None, refl, ap, arith}
 use Rattle.std.specs.Prelude.{All, IfSome, codes, decimal, nat_le, option_and_then, option_map, ◌&&◌}
@@ -31,29 +31,10 @@ use Rattle.vote_terms.specs.declared.entry.EntryFacts.{EntryFacts}
 use Rattle.vote_text.specs.Entries.{line_of}
 use Rattle.vote_maker.specs.Entries.{version_of_platform, version_of_words}
 use Rattle.range_laws.proofs.KeptEntries.{count_map}
-use Rattle.range_laws.proofs.ReadNames.{count_of_set, each_of_set}
-use Rattle.maker_laws.proofs.MadeEntries.{few_pass}
-
--- ---- texts of several
-
-abbrev IsAtMost : ℕ → List ℕ → Type 0
-IsAtMost most text = length text ≤ most
-
--- texts with a byte between each two
-join_short : (most : ℕ) (byte : ℕ) (texts : List (List ℕ)) → All (IsAtMost most) texts
-    → length (join_with_byte byte texts) ≤ (most + 1) * length texts
-join_short most byte [] all = omega arith
-join_short most byte (text ∷ []) all = omega (arith, All-head (IsAtMost most) text [] all)
-join_short most byte (text ∷ next ∷ rest) all =
-    let first = All-head (IsAtMost most) text (next ∷ rest) all in
-    let later = join_short most byte (next ∷ rest) (All-tail (IsAtMost most) text (next ∷ rest) all) in
-    let size = length-append text (byte ∷ join_with_byte byte (next ∷ rest)) in
-    let more : (most + 1) * suc (length (next ∷ rest)) ≡ (most + 1) + (most + 1) * length (next ∷ rest) =
-    times_suc (most + 1) (length (next ∷ rest)) in
-    omega (arith, first, later, size, more)
-  where
-    times_suc : (a b : ℕ) → a * suc b ≡ a + a * b
-    times_suc a b = grind arith
+use Rattle.vote_laws.proofs.FlagSets.{All-as_set}
+use Rattle.range_laws.proofs.ReadNames.{count_of_set}
+use Rattle.range_laws.proofs.TextSizes.{IsAtMost, address_short, join_short}
+use Rattle.vote_laws.proofs.Members.{few_pass}
 
 -- ---- the relay
 
@@ -64,27 +45,6 @@ date_short m =
 clock_short : (m : ℕ) → length (clock_text (m % 86400)) ≤ 19
 clock_short m =
     omega (arith, length-moment_text m, length-append (date_text (m / 86400)) (32 ∷ clock_text (m % 86400)))
-
-byte_short : (n : ℕ) → n < 256 → length (decimal n) ≤ 256
-byte_short n small = omega (arith, small, length-decimal-le_succ n (omega (arith, small)))
-
-address_short : (ip : ℕ) → ip < 2 ^ 32 → length (address_text ip) ≤ 65536
-unfolding address_text
-address_short ip small =
-    let a = decimal (ip / 16777216) in
-    let b = decimal (ip / 65536 % 256) in
-    let c = decimal (ip / 256 % 256) in
-    let d = decimal (ip % 256) in
-    omega (
-      arith,
-      length-append (a ++ 46 ∷ b ++ 46 ∷ c) (46 ∷ d),
-      length-append (a ++ 46 ∷ b) (46 ∷ c),
-      length-append a (46 ∷ b),
-      byte_short (ip / 16777216) (omega (arith, small)),
-      byte_short (ip / 65536 % 256) (omega arith),
-      byte_short (ip / 256 % 256) (omega arith),
-      byte_short (ip % 256) (omega arith),
-    )
 
 port_short : (port : ℕ) → port ≤ 65535 → length (decimal port) ≤ 65536
 port_short port small = omega (arith, small, length-decimal-le_succ port (omega (arith, small)))
@@ -117,7 +77,7 @@ relay_short entry are =
     (All-cons P c (d ∷ e ∷ f ∷ g ∷ h ∷ []) (twenty_short entry.digest.0 are.digest_is.count)
     (All-cons P d (e ∷ f ∷ g ∷ h ∷ []) (omega (arith, date_short m))
     (All-cons P e (f ∷ g ∷ h ∷ []) (omega (arith, clock_short m))
-    (All-cons P f (g ∷ h ∷ []) (address_short entry.ip are.ip_is)
+    (All-cons P f (g ∷ h ∷ []) (omega (arith, address_short entry.ip are.ip_is))
     (All-cons P g (h ∷ []) (port_short entry.or_port are.or_port_is)
     (All-cons P h [] (port_short entry.dir_port are.dir_port_is) (All-nil P)))))))) in
     let shape =
@@ -151,7 +111,7 @@ names_short flags =
       count_map (λ (row : Bool × List ℕ). row.1) rows,
       few_pass (λ (row : Bool × List ℕ). row.0) (name_table flags),
     ) in
-    let text = join_short 64 space (as_set names) (each_of_set (IsAtMost 64) names short) in
+    let text = join_short 64 space (as_set names) (All-as_set (IsAtMost 64) names short) in
     omega (arith, text, few)
 
 -- ---- its version

@@ -4,7 +4,6 @@ use Rattle.std.proofs.Common.{◌≡◌, ℕ, Bool, true, false, List, [], ◌�
 use Rattle.std.proofs.Common.{Option, subst, ◌∙◌, inl, inr}
 use Rattle.std.specs.Prelude.{IfSome, if◌then◌else◌}
 use Rattle.item_terms.specs.Items.{Item}
-use Rattle.frame_terms.specs.declared.document.Taken.{Taken}
 use Rattle.frame_terms.specs.declared.keyword.Keyword.{Keyword}
 use Rattle.frame_terms.specs.declared.row.Row.{Row}
 use Rattle.frame_terms.specs.Keywords.{same, text_of}
@@ -26,7 +25,7 @@ use Rattle.document_laws.specs.Items.{AreItemsIn, IsItemIn}
 use Rattle.range_laws.proofs.ValueTexts.{TextIs}
 use Rattle.row_laws.proofs.ItemArguments.{IsSound}
 use Rattle.row_laws.proofs.ReadSteps.{no_fault}
-use Rattle.row_laws.proofs.Saying.{EachSound, by_own_row}
+use Rattle.row_laws.proofs.Saying.{EachSound, by_own_row, sound_parts}
 use Rattle.vote_laws.proofs.KeywordTexts.{text_as}
 use Rattle.station_input.specs.Tables.{over_limit, station_tables, value_at}
 use Rattle.station_input.specs.declared.across.Across.{Across}
@@ -36,10 +35,8 @@ use Rattle.station_input.specs.declared.frame.StationSection.{StationSection}
 use Rattle.station_input.specs.declared.frame.StationSection.TheVariants as its
 use Rattle.station_input.specs.declared.frame_said.StationValue.{StationValue}
 use Rattle.station_laws.proofs.KeptLines.{only_certificate}
+use Rattle.station_laws.proofs.NamedOnce.{StationTaken}
 use Rattle.maker_laws.proofs.ItemLines.{EachShort, FitsLine, IsShortItem}
-
-abbrev pub StationTaken : Type 0
-StationTaken = Taken (Value StationValue)
 
 -- ---- items that stand there
 
@@ -59,16 +56,12 @@ behind_short : (before rest : List Item) → EachShort (before ++ rest) → Each
 behind_short [] rest each = each
 behind_short (item ∷ before) rest each = behind_short before rest each.1
 
-behind_sound : (bytes : List ℕ) (before rest : List Item) → EachSound bytes (before ++ rest) → EachSound bytes rest
-behind_sound bytes [] rest each = each
-behind_sound bytes (item ∷ before) rest each = behind_sound bytes before rest each.1
-
 pub each_stands_short : (bytes : List ℕ) (items : List Item) (taken : List StationTaken) → EachSound bytes items
     → EachShort items → AreItemsIn station_tables its.Station items taken → EachStandsShort bytes taken
 each_stands_short bytes items [] sound short are = tt
 each_stands_short bytes items (one ∷ taken) sound short are =
     let here =
-    behind_sound bytes are.0 (are.1 ∷ are.2) (subst (λ (l : List Item). EachSound bytes l) are.3 sound) in
+    sound_parts bytes are.0 (are.1 ∷ are.2) (subst (λ (l : List Item). EachSound bytes l) are.3 sound) in
     let lines = behind_short are.0 (are.1 ∷ are.2) (subst (λ (l : List Item). EachShort l) are.3 short) in (
       record { remembered = are.4; item = are.1; sound = here.0; short = lines.0; within = are.5 },
       each_stands_short bytes are.2 taken here.1 lines.1 are.6,
@@ -93,7 +86,7 @@ found_short bytes (one ∷ taken) keyword each =
 -- no section inside another is a station's
 never_station : (around : StationSection) (keyword : Keyword)
     → inner station_tables around keyword ≡ Some its.Station → ⊥
-never_station its.Station keyword begins = absurd (cc (only_certificate keyword its.Station begins))
+never_station its.Station keyword begins = absurd (cc (only_certificate keyword its.Station begins).0)
 never_station its.Certificate keyword begins = absurd (cc begins)
 
 -- an item with the text of this keyword says this by a row of this kind, and its line is short

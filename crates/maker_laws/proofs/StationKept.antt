@@ -1,6 +1,6 @@
 -- What is read of a station input is in range.
 use Rattle.std.proofs.Common.{◌≡◌, ℕ, List, [], ◌∷◌, length, Option, Some, None, refl, sym, subst}
-use Rattle.std.proofs.Common.{Result, Ok, Err, arith, inl, inr}
+use Rattle.std.proofs.Common.{Result, Ok, Err, inl, inr}
 use Rattle.std.specs.Prelude.{All, IfSome, option_map}
 use Rattle.std.proofs.lemmas.List.Elements.{All-head, All-tail}
 use Rattle.base64.specs.GeneralPurpose.{IsBytes}
@@ -15,8 +15,7 @@ use Rattle.frame_values.specs.Parts.{part}
 use Rattle.frame_values.specs.Values.{item_at, text_if}
 use Rattle.frame_values.specs.declared.found.Span.{Span}
 use Rattle.frame_values.specs.declared.values.Value.{Value}
-use Rattle.value_laws.specs.Ranges.{AreProtocolsInRange, AreVersionsInRange}
-use Rattle.value_groups.specs.Listed.{params_in, protocols_in, versions_in}
+use Rattle.value_groups.specs.Listed.{params_in}
 use Rattle.authority_certs.specs.Certs.{cert_in}
 use Rattle.authority_certs.specs.Heads.{head_of, no_head}
 use Rattle.authority_certs.specs.declared.head.CertHead.{CertHead}
@@ -27,8 +26,8 @@ use Rattle.document_laws.proofs.Counting.{stand_as_often}
 use Rattle.document_laws.proofs.Taking.{are_said}
 use Rattle.vote_laws.specs.Again.{AreListsInRange, AreVoteParams}
 use Rattle.range_laws.proofs.CertRanges.{has_bytes, nothing_says, section_says}
+use Rattle.range_laws.proofs.KeptFacts.{params_few, protocols_at, versions_at}
 use Rattle.range_laws.proofs.LineReads.{IsSourceIn}
-use Rattle.range_laws.proofs.ReadLists.{params_ranged, protocols_ranged, versions_ranged}
 use Rattle.row_laws.proofs.Saying.{EachSound, all_sound, each_stands}
 use Rattle.range_laws.proofs.VoteReads.{AreFew}
 use Rattle.station_input.specs.Tables.{station_tables}
@@ -41,30 +40,17 @@ use Rattle.vote_terms.specs.ListLines.{lists_in, vote_lists}
 use Rattle.station_input.specs.Reading.{max_station, with_facts}
 use Rattle.station_input.specs.Saying.{measured_in, source_in}
 use Rattle.station_laws.proofs.KeptLines.{AreSections, facts_in, groups_are, same_facts, sections_are}
-use Rattle.station_laws.proofs.NamedOnce.{StationGroup}
+use Rattle.station_laws.proofs.NamedOnce.{StationGroup, StationTaken}
 use Rattle.maker_laws.specs.Ranges.{HasKeyBytes, IsMeasuredInRange, IsStationInRange, StationsReadAreInRange}
 use Rattle.station_input.specs.Facts.{facts_of}
 use Rattle.row_laws.proofs.KindRanges.{field_is, once_there}
 use Rattle.row_laws.proofs.Saying.{EachStands}
-use Rattle.maker_laws.proofs.StationStands.{StationTaken, certificates, measured_ranged, never_station}
+use Rattle.maker_laws.proofs.StationStands.{certificates, measured_ranged, never_station}
 use Rattle.maker_laws.proofs.StationReads.{params_are, rest_is, source_is}
 
 -- ---- lists
 
-params_few : (text : List ℕ) → AreFew 1024 text → AreVoteParams (params_in text)
-params_few text few =
-    let are = params_ranged text in record { count = omega (arith, few, are.1); each = are.0 }
-
 module _ (bytes : List ℕ) where
-  versions_at : (span : Option Span) → IfSome (option_map versions_in (option_map (part bytes) span)) AreVersionsInRange
-  versions_at None = tt
-  versions_at (Some span) = versions_ranged (part bytes span)
-
-  protocols_at : (span : Option Span)
-      → IfSome (option_map protocols_in (option_map (part bytes) span)) AreProtocolsInRange
-  protocols_at None = tt
-  protocols_at (Some span) = protocols_ranged (part bytes span)
-
   params_at : (span : Option Span) → IfSome (option_map (part bytes) span) (AreFew 1024)
       → IfSome (option_map params_in (option_map (part bytes) span)) AreVoteParams
   params_at None few = tt
@@ -121,10 +107,12 @@ keys_of bytes head are =
       certification = keys.certification;
     }
 
-abbrev AreFrom : List Item → StationGroup → Type 0
+-- a section's items are from these
+abbrev pub AreFrom : List Item → StationGroup → Type 0
 AreFrom items g = AreItemsIn station_tables g.section items g.taken
 
-abbrev CountsOf : StationGroup → Type 0
+-- a section's rows count
+abbrev pub CountsOf : StationGroup → Type 0
 CountsOf g = RowsStand station_tables g.section g.taken
 
 -- what is kept of the station's section, where the head of its certificate is in range

@@ -35,6 +35,7 @@ use Rattle.row_laws.proofs.ReadSteps.{was_read}
 use Rattle.row_laws.proofs.SaidByKinds.{said_of_any}
 use Rattle.row_laws.proofs.Saying.{Says}
 use Rattle.range_laws.proofs.VoteReads.{AreFew}
+use Rattle.station_laws.proofs.NewLines.{measured_made}
 use Rattle.maker_laws.specs.Ranges.{IsMeasuredInRange}
 use Rattle.frame_values.specs.Faults.{too_many}
 use Rattle.frame_values.specs.Lines.{rest_of}
@@ -57,7 +58,7 @@ MeasuredIs v = IfSome (measured_if v) IsMeasuredInRange
 abbrev pub StationSays : List ℕ → StationKind → Value StationValue → Type 0
 StationSays bytes of v = Says station_tables bytes of v
 
-abbrev own_if : Bool → ℕ → DirSource → Result DirSource ℕ
+abbrev pub own_if : Bool → ℕ → DirSource → Result DirSource ℕ
 own_if fits place source = if fits then Ok source else Err place
 
 own_reads : (bytes : List ℕ) (item : Item) → IsSound bytes item → ReadAs (IsSourceIn bytes) (own_of item)
@@ -108,18 +109,6 @@ kb_is text kb is = by (is_dash text) (number_of text) refl is
 
 kb_reads : (argument : Argument) → ReadAs KbIs (field argument (bandwidth argument.text))
 kb_reads argument = field_reads KbIs argument (bandwidth argument.text) (λ kb is. kb_is argument.text kb is)
-
-abbrev measured_made : Fingerprint → ℕ → ℕ → ℕ → ℕ → Option ℕ → Result MeasuredRelay ℕ
-measured_made identity reached_at wmtbf wfu_ppm known_for kb = Ok (record {
-  identity = identity;
-  measured = record {
-    reached_at = reached_at;
-    wmtbf = wmtbf;
-    wfu_ppm = wfu_ppm;
-    known_for = known_for;
-    kb = kb;
-  };
-})
 
 measured_reads : (earlier : Identities) (item : Item) → ReadAs IsMeasuredInRange (measured_of earlier item)
 measured_reads earlier item =

@@ -1,14 +1,12 @@
 -- What stands in the section of a station, and in the certificate's inside it.
-use Rattle.std.proofs.Common.{◌≡◌, ℕ, Bool, true, false, List, [], ◌∷◌, Option, Some, None, refl}
-use Rattle.std.specs.Prelude.{All, IfSome, is_some, if◌then◌else◌}
+use Rattle.std.proofs.Common.{◌≡◌, ℕ, true, List, [], ◌∷◌, Option, Some, None, refl}
+use Rattle.std.specs.Prelude.{All, IfSome, is_some}
 use Rattle.std.proofs.lemmas.List.Elements.{All-cons, All-nil}
-use Rattle.frame_terms.specs.declared.document.Taken.{Taken}
 use Rattle.frame_terms.specs.declared.keyword.Keyword.{Keyword}
 use Rattle.frame_terms.specs.declared.keyword.Keyword.TheVariants as the
 use Rattle.frame_terms.specs.Keywords.{same}
 use Rattle.frame_terms.specs.Order.{inner}
 use Rattle.frame_values.specs.Values.{item_at}
-use Rattle.frame_values.specs.declared.values.Value.{Value}
 use Rattle.document_laws.specs.Counts.{RowsStand}
 use Rattle.row_laws.proofs.KindRanges.{IsNotInside, once_there}
 use Rattle.row_laws.proofs.Saying.{EachStands}
@@ -19,29 +17,19 @@ use Rattle.station_input.specs.declared.frame.StationKind.TheVariants as kind
 use Rattle.station_input.specs.declared.frame.StationSection.{StationSection}
 use Rattle.station_input.specs.declared.frame.StationSection.TheVariants as its
 use Rattle.station_input.specs.declared.frame_said.MeasuredRelay.{MeasuredRelay}
-use Rattle.station_input.specs.declared.frame_said.StationValue.{StationValue}
 use Rattle.station_input.specs.Saying.{measured_if, measured_in, onto_if}
 use Rattle.maker_laws.specs.Ranges.{IsMeasuredInRange}
+use Rattle.station_laws.proofs.KeptLines.{only_certificate}
+use Rattle.station_laws.proofs.NamedOnce.{StationTaken}
 use Rattle.maker_laws.proofs.StationReads.{measured_says}
 
-abbrev pub StationTaken : Type 0
-StationTaken = Taken (Value StationValue)
-
 -- ---- a section inside another
-
-abbrev certificate_if : Bool → Option StationSection
-certificate_if test = if test then Some its.Certificate else None
 
 -- it is the certificate, which begins with its opener
 only_certificates : (around : StationSection) (keyword : Keyword) (name : StationSection)
     → inner station_tables around keyword ≡ Some name
     → (name ≡ its.Certificate) × (same the.DirKeyCertificateVersion keyword ≡ true)
-only_certificates its.Station keyword name e = by (same the.DirKeyCertificateVersion keyword) refl e
-  where
-    by : (t : Bool) → same the.DirKeyCertificateVersion keyword ≡ t → certificate_if t ≡ Some name
-        → (name ≡ its.Certificate) × (same the.DirKeyCertificateVersion keyword ≡ true)
-    by true is found = (cc, is)
-    by false is found = absurd (cc (found))
+only_certificates its.Station keyword name e = only_certificate keyword name e
 only_certificates its.Certificate keyword name e = absurd (cc (e))
 
 pub certificates : HaveCertificates station_tables its.Certificate kind.Certificate

@@ -1,11 +1,5 @@
 -- What is read of a certificate is in range, but for the limits.
-use Rattle.std.proofs.Common.{ℕ, ◌+◌, ◌≤◌, List, [], ◌∷◌, length, Option, Some, None, refl, sym, subst}
-use Rattle.std.specs.Prelude.{IfSome}
-use Rattle.std.proofs.lemmas.List.Elements.{All-head, All-tail}
-use Rattle.item_terms.specs.Faults.{max_object}
-use Rattle.dirdoc_grammar.specs.Bodies.{object_text}
-use Rattle.dirdoc_grammar.specs.Writing.{AreWritable, IsWritableObject, NewItem, NewObject, item_text}
-use Rattle.grammar_laws.specs.Written.{AreWithinLimits, IsItem, IsObject}
+use Rattle.std.proofs.Common.{length, refl, sym, subst}
 use Rattle.authority_certs.specs.Certs.{cert_in}
 use Rattle.authority_certs.specs.Heads.{head_with, no_head}
 use Rattle.authority_certs.specs.Reading.{max_cert, with_cert}
@@ -16,9 +10,9 @@ use Rattle.certificate_laws.specs.Again.{SaysInRange}
 use Rattle.row_laws.proofs.KindRanges.{read_is}
 use Rattle.range_laws.specs.Certificates.{CertificatesReadAreInRange, CertificatesWithinLimitsAreInRange}
 use Rattle.range_laws.specs.Certificates.{IsInRangeButForLimits}
+use Rattle.vote_laws.proofs.MayWrite.{items_writable}
 use Rattle.range_laws.proofs.CertItems.{cert_may}
 use Rattle.range_laws.proofs.CertRanges.{HaveCertificates, has_bytes, nothing_says, section_says}
-use Rattle.vote_laws.proofs.MayWrite.{MayWrite}
 
 abbrev itself : CertKind → CertKind
 itself kind = kind
@@ -41,30 +35,6 @@ cert_in_range bytes cert used are is =
     (record { says = found.2; items = cert_may (cert_in bytes found.0) found.2 (has_bytes bytes found.0 are) })
 
 -- ---- with the limits
-
--- an item that may be written but for the limits, and passes none, may be written
-abbrev Fits : NewObject → Type 0
-Fits object = length (object_text object.words object.bytes) ≤ max_object
-
-object_writable : (object : Option NewObject) → IfSome object IsObject → IfSome object Fits
-    → IfSome object IsWritableObject
-object_writable None is fits = tt
-object_writable (Some object) is fits = record { words = is.words; bytes = is.bytes; fits = fits }
-
-pub items_writable : (limit place : ℕ) (items : List NewItem) → MayWrite items → AreWithinLimits limit place items
-    → AreWritable limit place items
-items_writable limit place [] may within = tt
-items_writable limit place (item ∷ items) may within =
-    let is = All-head IsItem item items may in (
-      record {
-        keyword = is.keyword;
-        arguments = is.arguments;
-        line_fits = within.0.line;
-        object = object_writable item.object is.object within.0.object;
-        within = within.0.within;
-      },
-      items_writable limit (place + length (item_text item)) items (All-tail IsItem item items may) within.1,
-    )
 
 pub cert_within : CertificatesWithinLimitsAreInRange
 cert_within cert is within = record { says = is.says; items = items_writable max_cert 0 (cert_items cert) is.items within }

@@ -45,7 +45,8 @@ use Rattle.range_laws.proofs.EntryReads.{HasDigest}
 use Rattle.range_laws.proofs.EntrySays.{AreNames, MicroIs, address_is, entry_flags_are, entry_rests_are, micro_says}
 use Rattle.range_laws.proofs.EntrySays.{opinion_is, relay_is, widths_are}
 use Rattle.range_laws.proofs.EntryTexts.{HasRests}
-use Rattle.range_laws.proofs.ReadNames.{IsName, each_of_set}
+use Rattle.vote_laws.proofs.FlagSets.{All-as_set}
+use Rattle.range_laws.proofs.ReadNames.{IsName}
 use Rattle.range_laws.proofs.RelayReads.{IsLine}
 use Rattle.range_laws.proofs.VoteReads.{says_so}
 use Rattle.range_laws.proofs.VoteStands.{EachVoteStands, IsReadSection, VoteTaken, any_says, kept_is, opener_there}
@@ -149,7 +150,7 @@ module _ (bytes : List ℕ) where
           addresses = addresses_ranged here.are taken here.each;
           flags = record {
             ascend = Ascend-as_set flags;
-            each = each_of_set IsName flags
+            each = All-as_set IsName flags
                 (kept_is here the.S refl entry_flags_are (λ o. part bytes (text_in (text_if o))) AreNames
                 (λ none. All-nil IsName) (λ one span is. is));
           };

@@ -29,7 +29,8 @@ use Rattle.range_laws.proofs.EntryTexts as entry
 use Rattle.range_laws.proofs.KeptEntries.{AreKept, IsKept, count_map, numbers_small}
 use Rattle.range_laws.proofs.KeptHeads.{AuthorityOf, HeadIs}
 use Rattle.range_laws.proofs.ReadLists.{params_ranged, protocols_ranged, versions_ranged}
-use Rattle.range_laws.proofs.ReadNames.{IsName, count_of_set, each_of_set}
+use Rattle.vote_laws.proofs.FlagSets.{All-as_set}
+use Rattle.range_laws.proofs.ReadNames.{IsName, count_of_set}
 use Rattle.range_laws.proofs.VoteReads.{AreFew, AreKnown}
 use Rattle.range_laws.proofs.VoteTexts.{vote_may}
 
@@ -54,10 +55,11 @@ flags_ranged : (text : List ℕ) → AreKnown text → AreFlags (as_set (words_o
 flags_ranged text are = record {
   count = omega (arith, are.few, count_of_set (words_of text));
   ascend = Ascend-as_set (words_of text);
-  each = each_of_set IsName (words_of text) are.names;
+  each = All-as_set IsName (words_of text) are.names;
 }
 
-params_few : (text : List ℕ) → AreFew 1024 text → AreVoteParams (params_in text)
+-- params of which there are few
+pub params_few : (text : List ℕ) → AreFew 1024 text → AreVoteParams (params_in text)
 params_few text few =
     let are = params_ranged text in record { count = omega (arith, few, are.1); each = are.0 }
 
@@ -89,12 +91,13 @@ but_for_limits facts are certificate items = record {
 }
 
 module _ (bytes : List ℕ) where
-  versions_at : (span : Option Span) → IfSome (option_map versions_in (option_map (part bytes) span)) AreVersionsInRange
+  -- versions and protocols of a line, where it stands
+  pub versions_at : (span : Option Span) → IfSome (option_map versions_in (option_map (part bytes) span)) AreVersionsInRange
   versions_at span =
       let text = option_map (part bytes) span in
       made_if (λ t. Unit {0}) AreVersionsInRange versions_in text (any_text text) (λ t is. versions_ranged t)
 
-  protocols_at : (span : Option Span)
+  pub protocols_at : (span : Option Span)
       → IfSome (option_map protocols_in (option_map (part bytes) span)) AreProtocolsInRange
   protocols_at span =
       let text = option_map (part bytes) span in

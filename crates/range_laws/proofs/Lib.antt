@@ -1,3 +1,4 @@
+pub mod TextSizes
 pub mod ReadNames
 pub mod ReadLists
 pub mod ValueTexts

@@ -77,7 +77,8 @@ delays_read item =
     next_reads (λ (n : ℕ). n ≤ 4294967295) AreDelays f0 m0 (seconds_read first) (λ a is_a.
     next_reads (λ (n : ℕ). n ≤ 4294967295) AreDelays f1 (m1 a) (seconds_read second) (λ b is_b. (is_a, is_b)))
 
-abbrev source_made : Span → Fingerprint → Span → ℕ → ℕ → ℕ → Result DirSource ℕ
+-- an authority of these fields
+abbrev pub source_made : Span → Fingerprint → Span → ℕ → ℕ → ℕ → Result DirSource ℕ
 source_made nickname digest host ip dir_port or_port = Ok (record {
   nickname = nickname;
   identity = digest;
@@ -156,14 +157,6 @@ signature_reads item =
     if_reads IsSigned (is_space item.separator) (next name more) (item.place + length item.keyword)
     (next_reads (λ (n : Option Algorithm). Unit {0}) IsSigned name more (any_reads name)
     (λ n is. signed_reads n (after_algorithm n (arguments_of item)) item))
-
--- ---- what follows
-
--- what follows from what was read
-pub made_reads : {A V : Type 0} (P : A → Type 0) (Q : V → Type 0) (read : Result A ℕ) (of : A → V) → ReadAs P read
-    → ((a : A) → P a → Q (of a)) → ReadAs Q (next read (λ a. Ok (of a)))
-made_reads P Q (Ok a) of reads is = is a reads
-made_reads P Q (Err place) of reads is = tt
 
 -- ---- rests of lines
 

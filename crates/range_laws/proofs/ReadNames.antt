@@ -5,7 +5,7 @@ use Rattle.std.specs.Prelude.{All, ◌&&◌, not, if◌then◌else◌}
 use Rattle.std.specs.List.{fold}
 use Rattle.std.specs.Str.{bytes_eq}
 use Rattle.std.proofs.lemmas.Bool.{and_parts}
-use Rattle.std.proofs.lemmas.List.Elements.{All-cons, All-head, All-nil, All-tail}
+use Rattle.std.proofs.lemmas.List.Elements.{All-cons, All-nil}
 use Rattle.item_terms.specs.Words.{words_of}
 use Rattle.dir_values.specs.Arguments.{Argument, arguments_at, texts_of}
 use Rattle.dir_values.specs.Digests.{bytes_below}
@@ -48,17 +48,6 @@ pub names_of_words : (place : ℕ) (text : List ℕ) → wrong_flag [] (argument
 names_of_words place text is =
     subst (λ (l : List (List ℕ)). All IsName l) (arguments_words place text) (names_if [] (arguments_at place text) is)
 
-each_with : (P : List ℕ → Type 0) (set : List (List ℕ)) (flag : List ℕ) → All P set → P flag → All P (with_flag set flag)
-each_with P [] flag all is = All-cons P flag [] is all
-each_with P (first ∷ rest) flag all is =
-    by (bytes_below first flag) (bytes_eq first flag) (each_with P rest flag (All-tail P first rest all) is)
-  where
-    by : (b e : Bool) → All P (with_flag rest flag)
-        → All P (if b then first ∷ with_flag rest flag else if e then first ∷ rest else flag ∷ first ∷ rest)
-    by true e more = All-cons P first (with_flag rest flag) (All-head P first rest all) more
-    by false true more = all
-    by false false more = All-cons P flag (first ∷ rest) is all
-
 count_with : (set : List (List ℕ)) (flag : List ℕ) → length (with_flag set flag) ≤ suc (length set)
 count_with [] flag = omega arith
 count_with (first ∷ rest) flag = by (bytes_below first flag) (bytes_eq first flag) (count_with rest flag)
@@ -70,20 +59,11 @@ count_with (first ∷ rest) flag = by (bytes_below first flag) (bytes_eq first f
     by false true more = omega arith
     by false false more = omega arith
 
-each_fold : (P : List ℕ → Type 0) (flags set : List (List ℕ)) → All P set → All P flags → All P (fold with_flag set flags)
-each_fold P [] set all each = all
-each_fold P (flag ∷ flags) set all each =
-    each_fold P flags (with_flag set flag) (each_with P set flag all (All-head P flag flags each))
-    (All-tail P flag flags each)
-
 count_fold : (flags set : List (List ℕ)) → length (fold with_flag set flags) ≤ length set + length flags
 count_fold [] set = omega arith
 count_fold (flag ∷ flags) set =
     omega (arith, count_fold flags (with_flag set flag), count_with set flag)
 
--- each flag of a set is one of those that it is made of, and there are no more of them
-pub each_of_set : (P : List ℕ → Type 0) (flags : List (List ℕ)) → All P flags → All P (as_set flags)
-each_of_set P flags each = each_fold P flags [] (All-nil P) each
-
+-- no more flags make a set than it is made of
 pub count_of_set : (flags : List (List ℕ)) → length (as_set flags) ≤ length flags
 count_of_set flags = omega (arith, count_fold flags [])

@@ -53,7 +53,8 @@ abbrev pub IsLine : List ℕ → RelayLine → Type 0
 IsLine bytes line =
     IsRelayInRange (part bytes line.nickname) line.identity line.digest line.ip line.or_port line.dir_port
 
-nickname_there : (text : List ℕ) → is_nickname text ≡ true → is_there text ≡ true
+-- a nickname is some text
+pub nickname_there : (text : List ℕ) → is_nickname text ≡ true → is_there text ≡ true
 nickname_there [] is = absurd (false≢true is)
 nickname_there (b ∷ text) is = refl
 

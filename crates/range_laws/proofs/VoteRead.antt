@@ -7,7 +7,6 @@ use Rattle.std.proofs.lemmas.List.Elements.{All-head, All-map, All-tail, All-wea
 use Rattle.base64.specs.GeneralPurpose.{IsBytes}
 use Rattle.item_terms.specs.Items.{Item, items_of}
 use Rattle.dir_values.specs.Digests.{identity_below}
-use Rattle.dir_values.proofs.Orders.{AllPairs-cons, AllPairs-head, AllPairs-nil, AllPairs-tail}
 use Rattle.frame_values.specs.declared.values.Value.{Value}
 use Rattle.vote_terms.specs.Votes.{ReadVote, max_vote}
 use Rattle.vote_terms.specs.declared.entry.EntryFacts.{EntryFacts}
@@ -22,6 +21,7 @@ use Rattle.vote_doc.specs.Kept.{kept_with, none_kept}
 use Rattle.vote_doc.specs.declared.head.Head.{Head}
 use Rattle.vote_doc.specs.declared.kept.Kept.{Kept}
 use Rattle.vote_laws.specs.Again.{AreEntriesInRange, DifferInKey, IsEntryInRange}
+use Rattle.vote_laws.proofs.Members.{AllPairs-map}
 use Rattle.document_laws.specs.Items.{AreItemsIn}
 use Rattle.document_laws.specs.Order.{AreInOrder, BeginsWithOpener, Part, sections_of}
 use Rattle.document_laws.proofs.Ordering.{stand_in_order}
@@ -32,7 +32,7 @@ use Rattle.vote_kinds.proofs.ClearVotes.{vote_kinds_are_clear}
 use Rattle.vote_parts.specs.Own.{IsOwn}
 use Rattle.vote_parts.proofs.OwnVotes.{own_read, placed_read}
 use Rattle.range_laws.specs.Votes.{IsInRangeButForLimits, VotesReadAreInRange, VotesWithinLimitsAreInRange}
-use Rattle.range_laws.proofs.CertRead.{items_writable}
+use Rattle.vote_laws.proofs.MayWrite.{items_writable}
 use Rattle.range_laws.proofs.EntryKeys.{keys_apart}
 use Rattle.range_laws.proofs.EntryRoom.{VoteGroup, few_entries}
 use Rattle.range_laws.proofs.KeptEntries.{AreKept, IsKept, count_map}
@@ -99,22 +99,15 @@ authority_there parts are =
 
 -- ---- entries
 
-all_pairs_map : {X Y : Type 0} (R : Y → Y → Type 0) (f : X → Y) (xs : List X) → AllPairs (λ a b. R (f a) (f b)) xs
-    → AllPairs R (map f xs)
-all_pairs_map R f [] pairs = AllPairs-nil R
-all_pairs_map R f (x ∷ xs) pairs =
-    AllPairs-cons R (f x) (map f xs) (All-map (R (f x)) f xs (AllPairs-head (λ a b. R (f a) (f b)) x xs pairs))
-    (all_pairs_map R f xs (AllPairs-tail (λ a b. R (f a) (f b)) x xs pairs))
-
 entries_ranged : (bytes : List ℕ) (entries : List KeptEntry) → AreKept bytes entries → AreSome entries []
     → AreEntriesInRange (map (entry_in bytes) entries)
 entries_ranged bytes entries are some = record {
   count = omega (arith, some.count, count_map (entry_in bytes) entries);
   each = All-map IsEntryInRange (entry_in bytes) entries
       (All-weaker (IsKept bytes) (λ e. IsEntryInRange (entry_in bytes e)) (λ e is. is.says) entries are.each);
-  ascending = all_pairs_map (λ (a b : EntryFacts). identity_below a.identity b.identity ≡ true) (entry_in bytes) entries
+  ascending = AllPairs-map (λ (a b : EntryFacts). identity_below a.identity b.identity ≡ true) (entry_in bytes) entries
       are.ascend;
-  keys = all_pairs_map DifferInKey (entry_in bytes) entries some.apart;
+  keys = AllPairs-map DifferInKey (entry_in bytes) entries some.apart;
 }
 
 -- ---- the law

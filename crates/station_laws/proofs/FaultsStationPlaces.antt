@@ -1,6 +1,6 @@
 -- The places of what is wrong with the items of what a station is given, and of the first fault of their document.
 use Rattle.std.proofs.Common.{ℕ, Bool, true, false, length, Result, Ok, Err}
-use Rattle.std.specs.Prelude.{◌||◌, codes, if◌then◌else◌}
+use Rattle.std.specs.Prelude.{codes, if◌then◌else◌}
 use Rattle.item_terms.specs.Items.{Item}
 use Rattle.dir_values.specs.Digests.{fingerprint}
 use Rattle.dir_values.specs.Numbers.{number_of}
@@ -10,18 +10,15 @@ use Rattle.list_values.specs.VersionLists.{wrong_version_list}
 use Rattle.value_groups.specs.ListLines.{params_of, protocols_of, versions_of}
 use Rattle.frame_terms.specs.declared.row.Limit.TheVariants as limit
 use Rattle.frame_values.specs.Arguments.{arguments_of, front, next, others}
-use Rattle.frame_values.specs.Lines.{argument_of, fingerprint_of, literal, source_of, time_of}
-use Rattle.frame_values.specs.Signatures.{has_words, object_of}
+use Rattle.frame_values.specs.Lines.{literal, source_of}
 use Rattle.frame_values.specs.declared.found.DirSource.{DirSource}
 use Rattle.frame_values.specs.declared.values.Value.{Value}
 use Rattle.frame_values.specs.declared.values.Value.TheVariants as value
-use Rattle.authority_certs.specs.declared.frame.CertKind.{CertKind}
-use Rattle.authority_certs.specs.declared.frame.CertKind.TheVariants as cert
 use Rattle.station_input.specs.Across.{note_value}
 use Rattle.station_input.specs.Fields.{Identities, bandwidth, long_number, new_identity, peer, ruling_named}
 use Rattle.station_input.specs.Lines.{measured_of, member_of, own_of, rule_of, schedule_of}
 use Rattle.station_input.specs.Sources.{fits_line}
-use Rattle.station_input.specs.Tables.{certificate_value, over_limit, station_tables, value_at}
+use Rattle.station_input.specs.Tables.{over_limit, station_tables, value_at}
 use Rattle.station_input.specs.declared.across.Across.{Across}
 use Rattle.station_input.specs.declared.frame.StationKind.{StationKind}
 use Rattle.station_input.specs.declared.frame.StationKind.TheVariants as kind
@@ -30,9 +27,10 @@ use Rattle.station_input.specs.declared.frame_said.StationValue.TheVariants as o
 use Rattle.fault_places.specs.Within.{FaultIn, FaultsStandIn, HasFaultsWithin}
 use Rattle.fault_places.proofs.FirstFaults.{first_faults}
 use Rattle.fault_places.proofs.ArgumentPlaces.{PlaceIn, others_begin, param_in, protocol_in, versions_in}
-use Rattle.fault_places.proofs.ItemPlaces.{IsItemIn, all_begin, argument_in, front_argument_begins, fingerprint_in, first_begins, item_in}
-use Rattle.fault_places.proofs.ItemPlaces.{literal_in, more_in, object_in, rest_in, second_begins, source_in, then_in, time_in}
+use Rattle.fault_places.proofs.ItemPlaces.{IsItemIn, all_begin, front_argument_begins, first_begins, item_in}
+use Rattle.fault_places.proofs.ItemPlaces.{literal_in, more_in, rest_in, second_begins, source_in, then_in}
 use Rattle.vote_parts.proofs.VotePlaces.{many_in}
+use Rattle.document_faults.proofs.CertificatePlaces.{certificate_in}
 use Rattle.fault_places.proofs.Placed.{last_in, placed_unless}
 
 module _ (n : ℕ) (item : Item) (is : IsItemIn n item) where
@@ -110,24 +108,6 @@ module _ (n : ℕ) (item : Item) (is : IsItemIn n item) where
 
   -- ---- what an item says
 
-  object_at : (wanted : Bool) → PlaceIn n (object_of wanted item)
-  object_at wanted = object_in n item is wanted item.object
-
-  certificate_in : (of_kind : CertKind) → PlaceIn n (certificate_value of_kind item)
-  certificate_in cert.Version = then_in n (literal (codes "3") item) _ (literal_in n item is (codes "3"))
-  certificate_in cert.Address = then_in n (argument_of item) _ (argument_in n item is)
-  certificate_in cert.Fingerprint = then_in n (fingerprint_of item) _ (fingerprint_in n item is)
-  certificate_in cert.Time = then_in n (time_of item) _ (time_in n item is)
-  certificate_in cert.Key =
-      let wanted = has_words item.object (codes "RSA PUBLIC KEY") in
-      then_in n (object_of wanted item) _ (object_at wanted)
-  certificate_in cert.Crosscert =
-      let wanted = has_words item.object (codes "ID SIGNATURE") || has_words item.object (codes "SIGNATURE") in
-      then_in n (object_of wanted item) _ (object_at wanted)
-  certificate_in cert.Certification =
-      let wanted = has_words item.object (codes "SIGNATURE") in
-      then_in n (object_of wanted item) _ (object_at wanted)
-
   value_in : (across : Across) (of_kind : StationKind) → PlaceIn n (value_at across of_kind item)
   value_in across kind.Version = then_in n (literal (codes "1") item) _ (literal_in n item is (codes "1"))
   value_in across kind.Source = then_in n (own_of item) _ own_in
@@ -147,7 +127,7 @@ module _ (n : ℕ) (item : Item) (is : IsItemIn n item) where
   value_in across kind.Rule = then_in n (rule_of across.ruled item) _ (rule_in across.ruled)
   value_in across kind.Measured = then_in n (measured_of across.measured item) _ (measured_in across.measured)
   value_in across kind.Nothing = tt
-  value_in across (kind.Certificate of_kind) = certificate_in of_kind
+  value_in across (kind.Certificate of_kind) = certificate_in StationValue n item is of_kind
 
   over_in : (of_kind : StationKind) → FaultIn n (over_limit of_kind item)
   over_in kind.Version = tt

@@ -75,18 +75,20 @@ sections_are bytes document is =
       are = exact.are ∙ ap (λ (l : List StationPart). sections_of l) one.1;
     }
 
-abbrev certificate_if : Bool → Option StationSection
+-- the certificate's section where its opener is there
+abbrev pub certificate_if : Bool → Option StationSection
 certificate_if test = if test then Some its.Certificate else None
 
--- only the certificate stands inside a station's section
+-- only the certificate stands inside a station's section, and it begins with its opener
 pub only_certificate : (keyword : Keyword) (name : StationSection)
     → inner station_tables its.Station keyword ≡ Some name
-    → name ≡ its.Certificate
-only_certificate keyword name e = by (same the.DirKeyCertificateVersion keyword) e
+    → (name ≡ its.Certificate) × (same the.DirKeyCertificateVersion keyword ≡ true)
+only_certificate keyword name e = by (same the.DirKeyCertificateVersion keyword) refl e
   where
-    by : (t : Bool) → certificate_if t ≡ Some name → name ≡ its.Certificate
-    by true found = cc
-    by false found = absurd (cc (found))
+    by : (t : Bool) → same the.DirKeyCertificateVersion keyword ≡ t → certificate_if t ≡ Some name
+        → (name ≡ its.Certificate) × (same the.DirKeyCertificateVersion keyword ≡ true)
+    by true is found = (cc, is)
+    by false is found = absurd (cc (found))
 
 -- the sections themselves: the station's, and before it the certificate's or none
 abbrev pub AreSections : List StationGroup → List StationTaken → Type 0
@@ -115,7 +117,7 @@ groups_are document has = by has.part.inside has.section has.is_part.others
         let opens : inner station_tables its.Station have.one.keyword ≡ Some have.whole.section =
         subst (λ (s : StationSection). inner station_tables s have.one.keyword
         ≡ Some have.whole.section) e have.is.opens in
-        let certificate = only_certificate have.one.keyword have.whole.section opens in
+        let certificate = (only_certificate have.one.keyword have.whole.section opens).0 in
         inr (
           have.whole.taken,
           has.are ∙ ap (λ (l : List StationGroup). l ++ whole ∷ []) have.only

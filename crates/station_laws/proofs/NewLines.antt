@@ -112,7 +112,8 @@ new_rule earlier item =
     next_reads (λ (r : Ruling). Unit {0}) New f0 m0 (any_reads f0) (λ r is_r.
     next_reads (IsNew earlier) New f1 (m1 r) (new_field earlier second) (λ identity is. is))
 
-abbrev measured_made : Fingerprint → ℕ → ℕ → ℕ → ℕ → Option ℕ → Result MeasuredRelay ℕ
+-- a relay that was measured
+abbrev pub measured_made : Fingerprint → ℕ → ℕ → ℕ → ℕ → Option ℕ → Result MeasuredRelay ℕ
 measured_made identity reached_at wmtbf wfu_ppm known_for kb = Ok (record {
   identity = identity;
   measured = record {

@@ -1,5 +1,5 @@
 -- The items of a vote before its certificate may be written, but for the limits, and have no objects.
-use Rattle.std.proofs.Common.{◌≡◌, ℕ, List, [], ◌∷◌, ◌++◌, refl, sym, ap, subst, ◌∙◌, append_assoc}
+use Rattle.std.proofs.Common.{List, [], ◌∷◌, ◌++◌, refl, sym, ap, subst}
 use Rattle.std.specs.Prelude.{All, IfSome, codes, decimal}
 use Rattle.std.proofs.lemmas.List.Elements.{All-append, All-cons, All-nil}
 use Rattle.dir_bytes.specs.FieldTexts.{address_text, hex_text}
@@ -19,13 +19,9 @@ use Rattle.vote_laws.proofs.BareRows.{AreRests, IsBare, both_bare, one_bare, row
 use Rattle.vote_laws.proofs.VoteRows.{authority, authority_bare, no_randoms, preamble, preamble_bare, preamble_rows}
 use Rattle.vote_laws.proofs.VoteRows.{preamble_texts}
 use Rattle.vote_laws.proofs.VoteSame.{authority_same, preamble_same}
+use Rattle.vote_laws.proofs.WrittenSources.{six_in_a_row}
 
 -- ---- its authority
-
-six_in_a_row : (a b c d e f : List ℕ) → ((a ++ b) ++ c) ++ ((d ++ e) ++ f) ≡ a ++ (b ++ (c ++ (d ++ (e ++ f))))
-six_in_a_row a b c d e f =
-    append_assoc (a ++ b) c ((d ++ e) ++ f) ∙ append_assoc a b (c ++ ((d ++ e) ++ f))
-    ∙ ap (λ (l : List ℕ). a ++ (b ++ (c ++ l))) (append_assoc d e f)
 
 source_rest : (facts : VoteFacts) → HasValuesInRange facts → IsLineRest (source_text facts)
 source_rest facts are =

@@ -10,7 +10,6 @@ use Rattle.dir_values.specs.Digests.{identity_below}
 use Rattle.dir_values.proofs.Orders.{AllPairs-head, AllPairs-tail}
 use Rattle.frame_terms.specs.Keywords.{same}
 use Rattle.frame_terms.specs.declared.document.Group.{Group}
-use Rattle.frame_terms.specs.declared.document.Taken.{Taken}
 use Rattle.frame_terms.specs.declared.keyword.Keyword.TheVariants as the
 use Rattle.frame_values.specs.Parts.{moment_of, part}
 use Rattle.frame_values.specs.declared.values.Value.{Value}
@@ -43,12 +42,9 @@ use Rattle.vote_laws.proofs.EntryRows.{taken_parts}
 use Rattle.vote_laws.proofs.EntrySays.{addresses_said, all_micros, bandwidths_said, ed_none, ed_said, entry_flags_said}
 use Rattle.vote_laws.proofs.EntrySays.{micros_in-append, quiet_none, relay_name}
 use Rattle.vote_laws.proofs.Heard.{is_quiet, is_quiet_kind, kinds_pass}
-use Rattle.vote_laws.proofs.VoteItems.{VoteEntry}
+use Rattle.vote_laws.proofs.VoteItems.{VoteEntry, VoteTaken}
 
 -- what was taken of a section
-abbrev VoteTaken : Type 0
-VoteTaken = Taken (Value VoteValue)
-
 -- ---- the microdescriptors of an entry
 
 -- where they begin

@@ -47,26 +47,23 @@ use Rattle.vote_laws.specs.Again.{AreEntryFlags, IsMicroInRange}
 use Rattle.vote_laws.proofs.EntryItems.{micro_entry}
 use Rattle.vote_laws.proofs.EntryRows.{bandwidths_row, ed_if, entry_kind}
 use Rattle.vote_laws.proofs.Heard.{is_quiet}
-use Rattle.vote_laws.proofs.VoteItems.{VoteEntry}
+use Rattle.vote_laws.proofs.VoteItems.{VoteEntry, VoteTaken}
 
 -- what was taken of an entry
-abbrev EntryTaken : Type 0
-EntryTaken = Taken (Value VoteValue)
-
 -- ---- addresses
 
 -- where the texts of items stand
-abbrev texts_if : List EntryTaken → List Span
+abbrev texts_if : List VoteTaken → List Span
 texts_if [] = []
 texts_if (one ∷ taken) = onto_if (text_of_value one.value) (texts_if taken)
 
 -- those of addresses stand where the items of their keyword do
-addresses_at : (taken : List EntryTaken) → addresses_in taken ≡ texts_if (items_at taken the.A)
+addresses_at : (taken : List VoteTaken) → addresses_in taken ≡ texts_if (items_at taken the.A)
 addresses_at [] = refl
 addresses_at (one ∷ taken) =
     by_test (same one.keyword the.A) one (addresses_in taken) (items_at taken the.A) (addresses_at taken)
   where
-    by_test : (t : Bool) (one : EntryTaken) (found : List Span) (items : List EntryTaken) → found ≡ texts_if items
+    by_test : (t : Bool) (one : VoteTaken) (found : List Span) (items : List VoteTaken) → found ≡ texts_if items
         → onto_if (if t then text_of_value one.value else None) found ≡ texts_if (if t then one ∷ items else items)
     by_test true one found items is = ap (onto_if (text_of_value one.value)) is
     by_test false one found items is = is
@@ -84,7 +81,7 @@ all_addresses limit bytes place (text ∷ texts) stand =
 
 -- ---- microdescriptors
 
-pub micros_in-append : (front back : List EntryTaken) → micros_in (front ++ back) ≡ micros_in front ++ micros_in back
+pub micros_in-append : (front back : List VoteTaken) → micros_in (front ++ back) ≡ micros_in front ++ micros_in back
 micros_in-append [] back = refl
 micros_in-append (one ∷ front) back =
     ap (onto_if (micro_if one.value)) (micros_in-append front back)

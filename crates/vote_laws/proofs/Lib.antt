@@ -1,6 +1,9 @@
 pub mod Lines
 pub mod Slices
 pub mod Pairs
+pub mod Members
+pub mod FlagSets
+pub mod Digests
 pub mod KeywordTexts
 pub mod Covered
 pub mod Certificates

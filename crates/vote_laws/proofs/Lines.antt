@@ -6,13 +6,12 @@ use Rattle.std.specs.List.{list_all}
 use Rattle.std.proofs.lemmas.Bool.{and_from, eqb-true}
 use Rattle.std.proofs.lemmas.List.{append-nil, drop-drop, drop_at, length-append}
 use Rattle.item_terms.specs.declared.fault.DocFault.{DocFault}
-use Rattle.item_terms.specs.declared.fault.DocReason.TheVariants.{Unterminated}
-use Rattle.item_terms.specs.Faults.{at, line_fault, nul_fault, or_else, too_long, unterminated_fault}
 use Rattle.item_terms.specs.Items.{Item, items_from}
 use Rattle.item_terms.specs.Lines.{Line, lines, onto, size}
 use Rattle.item_terms.specs.Words as word
 use Rattle.grammar_laws.specs.Blocks.{AreLinesOfItem, AreLinesOfItems, sizes}
 use Rattle.grammar_laws.proofs.BlockFronts.{fault_is_there, items_are_there}
+use Rattle.grammar_laws.proofs.SoundLines.{has_end}
 
 -- ---- the lines of a text, joined, are the text
 
@@ -83,19 +82,6 @@ clean_parts [] rest clean = (tt, clean)
 clean_parts (line ∷ front) rest clean =
     let parts = clean_parts front rest clean.1 in ((clean.0, parts.0), parts.1)
 
--- ---- a keyword line has its NL
-
-ended_by : (line : Line) (place : ℕ) (long nul : Option DocFault)
-    → or_else long (or_else (unterminated_fault place line) nul) ≡ None → line.ended ≡ true
-ended_by line place (Some fault) nul e = absurd cc
-ended_by line place None nul e =
-    elim line.ended as (λ b. or_else (cond b None (Some (at (place + length line.text) Unterminated))) nul ≡ None → b ≡ true)
-    [ true ↦ λ h. refl | false ↦ λ h. absurd cc ] e
-
-line_ended : (limit place : ℕ) (line : Line) → line_fault limit place line ≡ None → line.ended ≡ true
-line_ended limit place line e =
-    ended_by line place (too_long limit place (size line)) (nul_fault place (word.nul_in line.text)) e
-
 -- ---- an item
 
 -- an item begins at a place or behind it, and its keyword line stands there
@@ -128,7 +114,7 @@ item_stands : (limit start place : ℕ) (bytes : List ℕ) (own : List Line) (it
     → StandsFrom bytes start item
 item_stands limit start place bytes own item more later its clean there =
     let first = its.first in
-    let ended : first.ended ≡ true = line_ended limit place first its.begins.sound in
+    let ended : first.ended ≡ true = has_end limit place first its.begins.sound in
     let rest = joined its.others ++ more in
     let own_is : joined own ≡ whole_line first ++ joined its.others = ap joined its.lines in
     let whole_is : whole_line first ≡ first.text ++ 10 ∷ [] = ap (λ (b : Bool). first.text ++ end_of b) ended in

@@ -17,8 +17,8 @@ use Rattle.vote_doc.specs.Heads.{signed_to}
 use Rattle.vote_doc.specs.declared.kept.Kept.{Kept}
 use Rattle.vote_frame.specs.Tables.{vote_tables}
 use Rattle.vote_frame.specs.declared.frame.VoteValue.{VoteValue}
-use Rattle.vote_laws.proofs.VoteItems.{signature_entry, signature_row}
-use Rattle.vote_laws.proofs.VotePlaces.{VoteTaken, end_from, footer_from}
+use Rattle.vote_laws.proofs.VoteItems.{VoteTaken, signature_entry, signature_row}
+use Rattle.vote_laws.proofs.VotePlaces.{end_from, footer_from}
 use Rattle.vote_laws.proofs.VoteRows.{footer}
 use Rattle.vote_laws.proofs.VoteSame.{in_list}
 use Rattle.vote_laws.proofs.VoteSigned.{from_first}

@@ -22,7 +22,8 @@ use Rattle.vote_doc.specs.declared.kept.Kept.{Kept}
 use Rattle.vote_frame.specs.declared.frame.VoteSection.TheVariants.{Authority, Certificate, Footer, Preamble}
 use Rattle.vote_laws.specs.Again.{AreEntriesInRange}
 use Rattle.vote_laws.proofs.EntryKept.{entries_kept, keeps, kept_list}
-use Rattle.vote_laws.proofs.VotePlaces.{VoteDocument, VoteTaken, authority_place, end_from, footer_taken, in_preamble}
+use Rattle.vote_laws.proofs.VoteItems.{VoteTaken}
+use Rattle.vote_laws.proofs.VotePlaces.{VoteDocument, authority_place, end_from, footer_taken, in_preamble}
 use Rattle.vote_laws.proofs.VotePlaces.{sections_of}
 use Rattle.vote_laws.proofs.VoteRows.{authority}
 use Rattle.vote_laws.proofs.MadeTexts.{before_text}

@@ -11,7 +11,7 @@ use Rattle.item_terms.specs.declared.fault.DocFault.{DocFault}
 use Rattle.dirdoc_grammar.specs.Writing.{AreWritable, NewItem, all_written, in_front, is_open}
 use Rattle.grammar_laws.proofs.ItemsAgain.{items_again}
 use Rattle.grammar_laws.proofs.WrittenBytes.{differs}
-use Rattle.frame_terms.specs.Documents.{document_of, finish, group, onto, read_items, start}
+use Rattle.frame_terms.specs.Documents.{document_of, group, onto, read_items, start}
 use Rattle.frame_terms.specs.Sections.{lacking_keyword, stands}
 use Rattle.frame_terms.specs.declared.fault.ReadRefusal.{ReadRefusal}
 use Rattle.frame_terms.specs.declared.keyword.Keyword.TheVariants as the
@@ -27,18 +27,17 @@ use Rattle.vote_terms.specs.declared.facts.VoteFacts.{VoteFacts}
 use Rattle.vote_text.specs.Made.{made_text}
 use Rattle.blank_lines.specs.Behind as places
 use Rattle.vote_doc.specs.Facts.{vote_in}
-use Rattle.vote_doc.specs.Kept.{kept_with, none_kept}
-use Rattle.vote_doc.specs.Reading.{vote_from, vote_of, with_facts}
+use Rattle.vote_doc.specs.Reading.{vote_from, vote_of}
 use Rattle.vote_doc.specs.declared.kept.Kept.{Kept}
 use Rattle.vote_frame.specs.Across.{nothing_across}
 use Rattle.vote_frame.specs.Tables.{vote_tables}
 use Rattle.vote_frame.specs.declared.frame.VoteSection.TheVariants.{Authority, Certificate, Preamble}
 use Rattle.vote_laws.specs.Again.{HasValuesInRange}
 use Rattle.vote_laws.proofs.Heard.{forgotten, is_quiet}
-use Rattle.vote_laws.proofs.VoteItems.{VoteEntry, signature_entry, suits_source, suits_version}
-use Rattle.vote_laws.proofs.VotePlaces.{VoteDocument, VoteTaken, authority_place, certificate_place, end_from}
+use Rattle.vote_laws.proofs.VoteItems.{VoteEntry, VoteTaken, signature_entry, suits_source, suits_version}
+use Rattle.vote_laws.proofs.VotePlaces.{VoteDocument, authority_place, certificate_place, end_from}
 use Rattle.vote_laws.proofs.VotePlaces.{in_preamble}
-use Rattle.vote_laws.proofs.VoteRead.{authority_notes, authority_whole, has_object, preamble_quiet}
+use Rattle.vote_laws.proofs.VoteRead.{answer, authority_notes, authority_whole, has_object, preamble_quiet, read_as}
 use Rattle.vote_laws.proofs.VoteRows.{authority, certificate_row, footer, preamble}
 use Rattle.vote_laws.proofs.VoteSame.{footer_entries, in_list}
 use Rattle.vote_laws.proofs.VoteTail.{remembered, tail_read}
@@ -204,12 +203,6 @@ made_contents facts bytes rest stand first are =
     joined a b c r = simp append_assoc refl
 
 -- ---- the text
-
-abbrev read_as : List ℕ → Result VoteDocument ReadRefusal → Result (ReadVote × ℕ) ReadRefusal
-read_as bytes document = with_facts bytes (finish kept_with none_kept document)
-
-abbrev answer : Kept → List ℕ → ℕ → Result (ReadVote × ℕ) ReadRefusal
-answer kept bytes end = Ok (vote_in (take end bytes) kept, end)
 
 -- what is kept of a made vote
 abbrev pub given_kept : (facts : VoteFacts) (bytes : List ℕ) → InVote facts bytes → Kept

@@ -1,13 +1,15 @@
 -- Items that may be written, but for the limits.
-use Rattle.std.proofs.Common.{◌≡◌, ℕ, ◌/◌, ◌%◌, true, List, [], ◌∷◌, Option, Some, None, refl}
+use Rattle.std.proofs.Common.{◌≡◌, ℕ, ◌+◌, ◌/◌, ◌%◌, ◌≤◌, true, List, [], ◌∷◌, length, Option, Some, None, refl}
 use Rattle.std.specs.Prelude.{All, IfSome}
 use Rattle.std.specs.List.{list_all}
-use Rattle.std.proofs.lemmas.List.Elements.{All-cons, All-nil}
+use Rattle.std.proofs.lemmas.List.Elements.{All-cons, All-head, All-nil, All-tail}
 use Rattle.base64.specs.GeneralPurpose.{IsBytes}
 use Rattle.dir_bytes.specs.FieldTexts.{clock_text, date_text, moment_text}
 use Rattle.item_terms.specs.Words.{are_words, first_is, is_letter_or_digit, is_word_byte}
-use Rattle.dirdoc_grammar.specs.Writing.{IsLineRest, NewItem}
-use Rattle.grammar_laws.specs.Written.{IsItem}
+use Rattle.item_terms.specs.Faults.{max_object}
+use Rattle.dirdoc_grammar.specs.Bodies.{object_text}
+use Rattle.dirdoc_grammar.specs.Writing.{AreWritable, IsLineRest, IsWritableObject, NewItem, NewObject, item_text}
+use Rattle.grammar_laws.specs.Written.{AreWithinLimits, IsItem, IsObject}
 use Rattle.frame_terms.specs.Keywords.{text_of}
 use Rattle.frame_terms.specs.declared.keyword.Keyword.{Keyword}
 use Rattle.frame_terms.specs.declared.keyword.Keyword.TheVariants.{NetworkStatusVersion}
@@ -73,3 +75,30 @@ moment_rest moment =
 
 pub timed_may : (keyword : Keyword) (moment : ℕ) → IsItem (moment_item keyword moment)
 timed_may keyword moment = bare_may keyword (moment_text (moment_of moment)) (moment_rest (moment_of moment))
+
+-- ---- with the limits
+
+-- an object is no longer than it may be
+abbrev Fits : NewObject → Type 0
+Fits object = length (object_text object.words object.bytes) ≤ max_object
+
+object_writable : (object : Option NewObject) → IfSome object IsObject → IfSome object Fits
+    → IfSome object IsWritableObject
+object_writable None is fits = tt
+object_writable (Some object) is fits = record { words = is.words; bytes = is.bytes; fits = fits }
+
+-- items that may be written but for the limits, and pass none, may be written
+pub items_writable : (limit place : ℕ) (items : List NewItem) → MayWrite items → AreWithinLimits limit place items
+    → AreWritable limit place items
+items_writable limit place [] may within = tt
+items_writable limit place (item ∷ items) may within =
+    let is = All-head IsItem item items may in (
+      record {
+        keyword = is.keyword;
+        arguments = is.arguments;
+        line_fits = within.0.line;
+        object = object_writable item.object is.object within.0.object;
+        within = within.0.within;
+      },
+      items_writable limit (place + length (item_text item)) items (All-tail IsItem item items may) within.1,
+    )

@@ -4,6 +4,7 @@ use Rattle.std.specs.Prelude.{codes, option_map}
 use Rattle.dir_values.specs.FlagSets.{set_text}
 use Rattle.dirdoc_grammar.specs.Writing.{written}
 use Rattle.frame_terms.specs.Rows.{row}
+use Rattle.frame_terms.specs.declared.document.Taken.{Taken}
 use Rattle.frame_terms.specs.declared.fault.FrameFault.{FrameFault}
 use Rattle.frame_terms.specs.declared.keyword.Keyword.{Keyword}
 use Rattle.frame_terms.specs.declared.keyword.Keyword.TheVariants as the
@@ -49,6 +50,10 @@ use Rattle.vote_laws.proofs.WrittenValues.{length-numbers, numbers-written, sign
 -- what an item of a vote is, with what it says, and a row of its tables
 abbrev pub VoteEntry : Type 0
 VoteEntry = Entry (Value VoteValue)
+
+-- what is taken of one
+abbrev pub VoteTaken : Type 0
+VoteTaken = Taken (Value VoteValue)
 
 abbrev pub VoteRow : Type 0
 VoteRow = RowSays VoteKind (Value VoteValue)

@@ -3,7 +3,6 @@ use Rattle.std.proofs.Common.{◌≡◌, ℕ, true, List, [], ◌∷◌, ◌++�
 use Rattle.std.specs.Prelude.{map}
 use Rattle.std.specs.List.{fold, list_all}
 use Rattle.frame_terms.specs.Documents.{Document, group}
-use Rattle.frame_terms.specs.declared.document.Taken.{Taken}
 use Rattle.frame_terms.specs.declared.row.Row.{Row}
 use Rattle.frame_values.specs.declared.values.Value.{Value}
 use Rattle.frame_laws.proofs.Both.{both_hold}
@@ -28,14 +27,11 @@ use Rattle.vote_laws.specs.Again.{IsInRange}
 use Rattle.vote_laws.proofs.EntryKept.{entries_kept, keeps, kept_list}
 use Rattle.vote_laws.proofs.EntryRows.{entry_section}
 use Rattle.vote_laws.proofs.Heard.{is_quiet, is_quiet_kind, kinds_pass}
-use Rattle.vote_laws.proofs.VoteItems.{VoteEntry, VotePart, signature_entry}
+use Rattle.vote_laws.proofs.VoteItems.{VoteEntry, VotePart, VoteTaken, signature_entry}
 use Rattle.vote_laws.proofs.VoteRows.{authority, footer, preamble}
 use Rattle.vote_laws.proofs.VoteSame.{in_cert, in_list}
 
--- what was taken of a section, and a document of them
-abbrev pub VoteTaken : Type 0
-VoteTaken = Taken (Value VoteValue)
-
+-- a document of what is taken of its sections
 abbrev pub VoteDocument : Type 0
 VoteDocument = Document VoteSection (Value VoteValue)
 

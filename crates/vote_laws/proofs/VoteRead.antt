@@ -53,10 +53,10 @@ use Rattle.vote_laws.specs.Again.{HasValuesInRange, IsInRange}
 use Rattle.vote_laws.proofs.EntryRows.{taken_parts}
 use Rattle.vote_laws.proofs.Heard.{forgotten, is_quiet, is_quiet_kind, kinds_pass}
 use Rattle.vote_laws.proofs.Values.{values_in}
-use Rattle.vote_laws.proofs.VoteItems.{VoteEntry, VotePart, signature_entry, source_entry, suits_source}
+use Rattle.vote_laws.proofs.VoteItems.{VoteEntry, VotePart, VoteTaken, signature_entry, source_entry, suits_source}
 use Rattle.vote_laws.proofs.VoteItems.{suits_version}
 use Rattle.vote_laws.proofs.VoteRandoms.{notes_randoms, random_if}
-use Rattle.vote_laws.proofs.VotePlaces.{VoteDocument, VoteTaken, all_kept, authority_place, certificate_place}
+use Rattle.vote_laws.proofs.VotePlaces.{VoteDocument, all_kept, authority_place, certificate_place}
 use Rattle.vote_laws.proofs.VotePlaces.{entries_place, in_certificate, in_footer, in_preamble, section_quiet}
 use Rattle.vote_laws.proofs.VotePlaces.{section_to_quiet, sections_of, vote_document, vote_end, vote_kept}
 use Rattle.vote_laws.proofs.VoteRows.{authority, certificate_row, footer, preamble, preamble_rows, preamble_said}
@@ -232,10 +232,12 @@ closed facts rest =
         → p ++ (a ++ (c ++ (e ++ (f ++ l)))) ≡ (p ++ (a ++ (c ++ (e ++ f)))) ++ l
     joined p a c e f l = simp append_assoc refl
 
-abbrev read_as : List ℕ → Result VoteDocument ReadRefusal → Result (ReadVote × ℕ) ReadRefusal
+-- what is read of a document of these bytes
+abbrev pub read_as : List ℕ → Result VoteDocument ReadRefusal → Result (ReadVote × ℕ) ReadRefusal
 read_as bytes document = with_facts bytes (finish kept_with none_kept document)
 
-abbrev answer : Kept → List ℕ → ℕ → Result (ReadVote × ℕ) ReadRefusal
+-- what is kept is the answer
+abbrev pub answer : Kept → List ℕ → ℕ → Result (ReadVote × ℕ) ReadRefusal
 answer kept bytes end = Ok (vote_in (take end bytes) kept, end)
 
 -- the vote that a text is

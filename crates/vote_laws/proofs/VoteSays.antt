@@ -25,13 +25,9 @@ use Rattle.vote_frame.specs.declared.frame.VoteKind.TheVariants as kind
 use Rattle.vote_frame.specs.declared.frame.VoteValue.{VoteValue}
 use Rattle.vote_frame.specs.declared.frame.VoteValue.TheVariants as own
 use Rattle.vote_laws.specs.Again.{AreFlags, AreMethods}
-use Rattle.vote_laws.proofs.VoteItems.{methods_if, signature_entry, signature_row, source_entry}
+use Rattle.vote_laws.proofs.VoteItems.{VoteTaken, methods_if, signature_entry, signature_row, source_entry}
 use Rattle.vote_laws.proofs.WrittenSources.{SourceSays, source_stands}
 use Rattle.vote_laws.proofs.WrittenValues.{algorithm_of-name, numbers_in-text}
-
--- what was taken of a section
-abbrev VoteTaken : Type 0
-VoteTaken = Taken (Value VoteValue)
 
 -- the methods
 methods_back : (methods : Option (List ℕ)) → IfSome methods AreMethods

@@ -33,8 +33,8 @@ use Rattle.vote_laws.specs.Again.{AreEntriesInRange, IsSignatureInRange}
 use Rattle.vote_laws.proofs.EntryNotes.{all_listed, all_may, entries_next, knowing}
 use Rattle.vote_laws.proofs.EntryRows.{entry_section, first_follows, footer_after}
 use Rattle.vote_laws.proofs.Heard.{forgotten, is_quiet}
-use Rattle.vote_laws.proofs.VoteItems.{signature_entry, signature_row, suits_nothing}
-use Rattle.vote_laws.proofs.VotePlaces.{VoteDocument, VoteTaken, end_from, footer_from, footer_taken, section_quiet}
+use Rattle.vote_laws.proofs.VoteItems.{VoteTaken, signature_entry, signature_row, suits_nothing}
+use Rattle.vote_laws.proofs.VotePlaces.{VoteDocument, end_from, footer_from, footer_taken, section_quiet}
 use Rattle.vote_laws.proofs.VotePlaces.{section_to_quiet, sections_of}
 use Rattle.vote_laws.proofs.VoteRandoms.{with_randoms}
 use Rattle.vote_laws.proofs.VoteRows.{footer}

@@ -28,7 +28,8 @@ abbrev words_text : VoteFacts → List ℕ
 words_text facts =
     line.source_text facts.nickname facts.identity facts.address facts.ip facts.dir_port facts.or_port
 
-six_in_a_row : (a b c d e f : List ℕ) → ((a ++ b) ++ c) ++ ((d ++ e) ++ f) ≡ a ++ (b ++ (c ++ (d ++ (e ++ f))))
+-- six texts one behind the other
+pub six_in_a_row : (a b c d e f : List ℕ) → ((a ++ b) ++ c) ++ ((d ++ e) ++ f) ≡ a ++ (b ++ (c ++ (d ++ (e ++ f))))
 six_in_a_row a b c d e f =
     append_assoc (a ++ b) c ((d ++ e) ++ f) ∙ append_assoc a b (c ++ ((d ++ e) ++ f))
     ∙ ap (λ (l : List ℕ). a ++ (b ++ (c ++ l))) (append_assoc d e f)

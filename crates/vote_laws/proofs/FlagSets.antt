@@ -1,4 +1,4 @@
--- Flags that a consensus and its relays have are names, ascending.
+-- What holds of flags holds of the set that they make.
 use Rattle.std.proofs.Common.{ℕ, Bool, true, false, List, [], ◌∷◌}
 use Rattle.std.specs.Prelude.{All, if◌then◌else◌}
 use Rattle.std.specs.List.{fold}
