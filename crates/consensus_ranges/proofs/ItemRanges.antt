@@ -1,10 +1,21 @@
--- What the items of a consensus say is in range, by their kinds.
-use Rattle.std.proofs.Common.{◌≡◌, ℕ, List, Option, Result, Ok, Err, refl}
+-- What the items of a consensus say is in range, by their kinds, and so are its signatures.
+use Rattle.std.proofs.Common.{◌≡◌, ℕ, Bool, true, cond, List, [], ◌∷◌, Option, Some, None, Result, Ok, Err, refl, sym, ap}
+use Rattle.std.proofs.Common.{subst, ◌∙◌}
+use Rattle.std.specs.Prelude.{All, IfSome}
+use Rattle.std.specs.List.{filter}
+use Rattle.std.proofs.lemmas.List.Elements.{All-append, All-cons, All-head, All-nil, All-tail}
+use Rattle.base64.specs.GeneralPurpose.{IsBytes}
+use Rattle.dir_bytes.specs.Fields.{hex}
+use Rattle.dirdoc_grammar.specs.Writers.{is_argument}
+use Rattle.dir_values.specs.Digests.{fingerprint}
+use Rattle.dir_values.specs.declared.algorithm.Algorithm.{Algorithm}
+use Rattle.dir_values.specs.declared.algorithm.Algorithm.TheVariants.{Sha1, Sha256}
 use Rattle.dir_values.specs.declared.digest.Digest1.{Digest1}
 use Rattle.dir_values.specs.declared.digest.Digest2.{Digest2}
+use Rattle.frame_terms.specs.declared.document.Taken.{Taken}
 use Rattle.frame_values.specs.Arguments.{arguments_of, front, next}
 use Rattle.frame_values.specs.Faults.{at_place}
-use Rattle.frame_values.specs.Lines.{delays_of, flags_of, source_of}
+use Rattle.frame_values.specs.Lines.{delays_of, flags_of, rest_of, source_of}
 use Rattle.frame_values.specs.Ranges.{AreTwenty}
 use Rattle.frame_values.specs.declared.found.DirSource.{DirSource}
 use Rattle.frame_values.specs.declared.found.Span.{Span}
@@ -21,17 +32,25 @@ use Rattle.relay_entries.specs.declared.said.EntryValue.TheVariants as said
 use Rattle.relay_entries.specs.declared.said.RelayLine.{RelayLine}
 use Rattle.consensus_terms.specs.declared.flavour.Flavour.{Flavour}
 use Rattle.consensus_terms.specs.declared.router.Bandwidth.{Bandwidth}
+use Rattle.consensus_terms.specs.declared.signature.SignatureLine.{SignatureLine}
 use Rattle.consensus_frame.specs.Lines.{bandwidth_of, micro_digest_of, relay_of, vote_digest_of}
-use Rattle.consensus_frame.specs.Tables.{consensus_tables, signature_of}
+use Rattle.consensus_frame.specs.Tables.{consensus_tables, signature_of, value_at}
 use Rattle.consensus_frame.specs.declared.rows.ConsensusKind.{ConsensusKind}
 use Rattle.consensus_frame.specs.declared.rows.ConsensusKind.TheVariants as kind
+use Rattle.consensus_frame.specs.declared.rows.ConsensusSection.TheVariants as section
 use Rattle.consensus_frame.specs.declared.value.ConsensusValue.{ConsensusValue}
 use Rattle.consensus_frame.specs.declared.value.ConsensusValue.TheVariants as own
+use Rattle.consensus_doc.specs.Drafts as drafts
+use Rattle.consensus_doc.specs.Drafts.{algorithm_name, all_signatures, signatures_in}
+use Rattle.consensus_laws.specs.Again.{IsSignatureInRange, is_known, known_signatures}
 use Rattle.row_laws.proofs.KindRanges.{KindIs, kind_read, kind_unless}
-use Rattle.row_laws.proofs.ReadSteps.{key_digest_reads}
-use Rattle.range_laws.proofs.LineReads.{AreDelays, IsSourceIn, delays_read, source_reads}
+use Rattle.row_laws.proofs.ReadSteps.{key_digest_reads, placed, was_read}
+use Rattle.row_laws.proofs.SaidByKinds.{said_of_any}
+use Rattle.row_laws.proofs.Saying.{EachStands, Says}
+use Rattle.range_laws.proofs.LineReads.{AreDelays, IsSigned, IsSourceIn, delays_read, source_reads}
 use Rattle.range_laws.proofs.RandomReads.{random_reads}
 use Rattle.range_laws.proofs.RelayReads.{AreNamesAt, IsAddressAt, address_reads, flags_read}
+use Rattle.range_laws.proofs.VoteStands.{any_says}
 use Rattle.consensus_ranges.proofs.LineRanges.{IsDigest, IsRelayIn, IsSignedIf, IsSmall, bandwidth_reads}
 use Rattle.consensus_ranges.proofs.LineRanges.{micro_digest_reads, relay_reads, signature_reads}
 
@@ -95,3 +114,79 @@ module _ (flavour : Flavour) where
   signature_is =
       kind_unless (λ across item. Ok tt) (λ across item. signature_of across.is_signed item) (λ across item. refl)
       (λ bytes are across item sound passes. signature_reads across.is_signed item)
+
+-- ---- which items are signatures: those of their kind alone
+
+-- it is a signature that is such, if it is one
+abbrev SignatureIs : Value ConsensusValue → Type 0
+SignatureIs (value.Own (own.Signature signature)) = IfSome signature IsSigned
+SignatureIs _ = Unit {0}
+
+-- what an entry's item says is no signature
+entry_signature : (text : Value EntryValue) → SignatureIs (lifted_entry_value own.Entry text)
+entry_signature value.Nothing = tt
+entry_signature _ = tt
+
+-- whatever the kind of an item, a signature that it is is such
+signature_says : (flavour : Flavour) (bytes : List ℕ) → IsBytes bytes → (of : ConsensusKind)
+    (v : Value ConsensusValue) → Says (consensus_tables flavour) bytes of v → SignatureIs v
+signature_says flavour bytes are kind.Signature v says =
+    let its = (signature_is flavour).says bytes are v says in subst SignatureIs (sym its.1) its.2
+signature_says flavour bytes are kind.Rest v says =
+    was_read SignatureIs (Ok (value.Text (rest_of says.item))) v tt
+    (placed (value_at flavour says.remembered kind.Rest says.item) v says.says)
+signature_says flavour bytes are kind.Nothing v says =
+    was_read SignatureIs (Ok value.Nothing) v tt
+    (placed (value_at flavour says.remembered kind.Nothing says.item) v says.says)
+signature_says flavour bytes are (kind.Entry of) v says =
+    said_of_any SignatureIs _ _ v (placed (value_at flavour says.remembered (kind.Entry of) says.item) v says.says)
+    entry_signature
+signature_says flavour bytes are of v says =
+    said_of_any SignatureIs _ _ v (placed (value_at flavour says.remembered of says.item) v says.says) (λ a. tt)
+
+-- ---- those that are kept
+
+-- a signature that is read is in range, and of a known algorithm
+abbrev pub IsSignatureRead : SignatureLine → Type 0
+IsSignatureRead line = IsSignatureInRange line × (is_known line.algorithm ≡ true)
+
+-- the name of an algorithm is a word that spells no identity, and is known
+named : (a : Option Algorithm)
+    → (is_argument (algorithm_name a) ≡ true) × (fingerprint (algorithm_name a) ≡ None) × (is_known (algorithm_name a) ≡ true)
+unfolding hex
+named None = (refl, refl, refl)
+named (Some Sha1) = (refl, refl, refl)
+named (Some Sha256) = (refl, refl, refl)
+
+signature_read : (bytes : List ℕ) (v : Value ConsensusValue) → SignatureIs v
+    → All IsSignatureRead (signatures_in bytes v)
+signature_read bytes (value.Own (own.Signature (Some signature))) is =
+    let name = named signature.algorithm in
+    All-cons IsSignatureRead (drafts.signature_of bytes signature) []
+    (record { algorithm = name.0; no_identity = name.1; identity = is.0; key_digest = is.1 }, name.2)
+    (All-nil IsSignatureRead)
+signature_read bytes _ is = All-nil IsSignatureRead
+
+-- the signatures of a footer
+pub signatures_read : (flavour : Flavour) (bytes : List ℕ) → IsBytes bytes
+    → (taken : List (Taken (Value ConsensusValue)))
+    → EachStands (consensus_tables flavour) bytes section.Footer taken
+    → All IsSignatureRead (all_signatures bytes taken)
+signatures_read flavour bytes are [] each = All-nil IsSignatureRead
+signatures_read flavour bytes are (one ∷ taken) each =
+    let says = any_says each.0 in
+    All-append IsSignatureRead (signatures_in bytes one.value) (all_signatures bytes taken)
+    (signature_read bytes one.value (signature_says flavour bytes are says.0 one.value says.1))
+    (signatures_read flavour bytes are taken each.1)
+
+-- of a list whose members all pass none is left out
+pub none_left_out : {X : Type 0} (passes : X → Bool) (xs : List X) → All (λ x. passes x ≡ true) xs
+    → filter passes xs ≡ xs
+none_left_out passes [] all = refl
+none_left_out {X} passes (x ∷ xs) all =
+    ap (λ (t : Bool). cond t (x ∷ filter passes xs) (filter passes xs)) (All-head (λ x. passes x ≡ true) x xs all)
+    ∙ ap (λ (l : List X). x ∷ l) (none_left_out passes xs (All-tail (λ x. passes x ≡ true) x xs all))
+
+pub signatures_whole : (lines : List SignatureLine) → All IsSignatureRead lines → known_signatures lines ≡ lines
+signatures_whole lines each =
+    none_left_out (λ (line : SignatureLine). is_known line.algorithm) lines (λ k d lt. (each k d lt).1)

@@ -1,9 +1,10 @@
 -- What is read of the lines that a consensus alone has is in range.
 use Rattle.std.proofs.Common.{◌≡◌, ℕ, ◌+◌, ◌*◌, ◌<◌, ◌≤◌, ◌^◌, Bool, true, false, List, [], ◌∷◌, Option, Some, None}
 use Rattle.std.proofs.Common.{Result, Ok, Err, refl, subst}
-use Rattle.std.specs.Prelude.{IfSome, codes, not, ◌||◌, if◌then◌else◌}
+use Rattle.std.specs.Prelude.{IfSome, codes, not, ◌||◌}
 use Rattle.std.specs.Option.{option_map}
 use Rattle.std.specs.Str.{bytes_eq}
+use Rattle.std.proofs.lemmas.Bool.{cond_both}
 use Rattle.base64.specs.GeneralPurpose.{IsBytes}
 use Rattle.dir_bytes.specs.Fields.{address, date, time_of_day}
 use Rattle.item_terms.specs.Items.{Item}
@@ -70,17 +71,6 @@ digest_here_reads Ns bytes item arguments are found =
     digest_reads (front item arguments) (front item arguments).text (front_bytes bytes item arguments are found)
 digest_here_reads Microdesc bytes item arguments are found = refl
 
-abbrev line_made : Span → Fingerprint → Digest1 → ℕ → ℕ → ℕ → ℕ → ℕ → Result RelayLine ℕ
-line_made nickname key digest days seconds ip or_port dir_port = Ok (record {
-  nickname = nickname;
-  identity = key;
-  digest = digest;
-  published = 86400 * days + seconds;
-  ip = ip;
-  or_port = or_port;
-  dir_port = dir_port;
-})
-
 pub relay_reads : (flavour : Flavour) (bytes : List ℕ) (item : Item) → IsBytes bytes → IsSound bytes item
     → ReadAs (IsRelayIn flavour bytes) (relay_of flavour item)
 relay_reads flavour bytes item are sound =
@@ -110,26 +100,18 @@ relay_reads flavour bytes item are sound =
     let f5 = field t5 (address t5.text) in
     let f6 = field t6 (port_of t6.text) in
     let f7 = field t7 (port_of t7.text) in
-    let m7 = λ (n : Span) (k : Fingerprint) (g : Digest1) (x y i o d : ℕ). line_made n k g x y i o d in
-    let m6 = λ (n : Span) (k : Fingerprint) (g : Digest1) (x y i o : ℕ). next f7 (m7 n k g x y i o) in
-    let m5 = λ (n : Span) (k : Fingerprint) (g : Digest1) (x y i : ℕ). next f6 (m6 n k g x y i) in
-    let m4 = λ (n : Span) (k : Fingerprint) (g : Digest1) (x y : ℕ). next f5 (m5 n k g x y) in
-    let m3 = λ (n : Span) (k : Fingerprint) (g : Digest1) (x : ℕ). next f4 (m4 n k g x) in
-    let m2 = λ (n : Span) (k : Fingerprint) (g : Digest1). next f3 (m3 n k g) in
-    let m1 = λ (n : Span) (k : Fingerprint). next f2 (m2 n k) in
-    let m0 = λ (n : Span). next f1 (m1 n) in
     let Line : RelayLine → Type 0 = IsRelayIn flavour bytes in
     let Any : ℕ → Type 0 = λ n. Unit {0} in
-    next_reads (IsNickname bytes) Line f0 m0 (nickname_reads bytes item.place a0 found0) (λ n is_n.
-    next_reads (λ (key : Fingerprint). AreTwenty key.0) Line f1 (m1 n)
+    next_reads (IsNickname bytes) Line f0 _ (nickname_reads bytes item.place a0 found0) (λ n is_n.
+    next_reads (λ (key : Fingerprint). AreTwenty key.0) Line f1 _
     (twenty_reads t1 t1.text (front_bytes bytes item.place a1 are found1)) (λ k is_k.
-    next_reads (λ (digest : Digest1). IsDigestOf flavour digest) Line f2 (m2 n k)
+    next_reads (λ (digest : Digest1). IsDigestOf flavour digest) Line f2 _
     (digest_here_reads flavour bytes item.place a2 are found2) (λ g is_g.
-    next_reads Any Line f3 (m3 n k g) (any_reads f3) (λ x is_x.
-    next_reads Any Line f4 (m4 n k g x) (any_reads f4) (λ y is_y.
-    next_reads (λ (i : ℕ). i < 2 ^ 32) Line f5 (m5 n k g x y) (ip_reads t5) (λ i is_i.
-    next_reads (λ (o : ℕ). o ≤ 65535) Line f6 (m6 n k g x y i) (port_reads t6) (λ o is_o.
-    next_reads (λ (d : ℕ). d ≤ 65535) Line f7 (m7 n k g x y i o) (port_reads t7) (λ d is_d.
+    next_reads Any Line f3 _ (any_reads f3) (λ x is_x.
+    next_reads Any Line f4 _ (any_reads f4) (λ y is_y.
+    next_reads (λ (i : ℕ). i < 2 ^ 32) Line f5 _ (ip_reads t5) (λ i is_i.
+    next_reads (λ (o : ℕ). o ≤ 65535) Line f6 _ (port_reads t6) (λ o is_o.
+    next_reads (λ (d : ℕ). d ≤ 65535) Line f7 _ (port_reads t7) (λ d is_d.
     record { nickname = is_n; identity = is_k; digest = is_g; ip = is_i; or_port = is_o; dir_port = is_d }))))))))
 
 -- ---- the digest of a microdescriptor
@@ -150,30 +132,22 @@ micro_digest_reads bytes item are sound =
 abbrev AreSmall : Said → Type 0
 AreSmall said = AreBandwidthsInRange said.bandwidths
 
-with_word_ranged : (said : Said) (text : List ℕ) (more : Said) → AreSmall said → with_word said text ≡ Some more
-    → AreSmall more
-with_word_ranged said text more are is = by (strip (codes "Unmeasured=") text) is
+with_word_small : (said : Said) (text : List ℕ) → AreSmall said → IfSome (with_word said text) AreSmall
+with_word_small said text are = by (strip (codes "Unmeasured=") text)
   where
-    same_said : (a : Said) → Some a ≡ Some more → a ≡ more
-    same_said a e = cc
-
-    unmeasured : (t : Bool) → (if t then None else Some (record { bandwidths = said.bandwidths; unmeasured = true }))
-        ≡ Some more → AreSmall more
-    unmeasured true e = absurd (cc e)
-    unmeasured false e = subst AreSmall (same_said (record { bandwidths = said.bandwidths; unmeasured = true }) e) are
-
     number : (found : Option Bandwidths) → with_argument said.bandwidths text ≡ found
-        → option_map (λ (b : Bandwidths). record { bandwidths = b; unmeasured = said.unmeasured }) found
-        ≡ Some more → AreSmall more
-    number None got e = absurd (cc e)
-    number (Some b) got e =
-        subst AreSmall (same_said (record { bandwidths = b; unmeasured = said.unmeasured }) e)
-        (with_either_ranged said.bandwidths (strip (codes "Bandwidth=") text) (strip (codes "Measured=") text) b are
-        got)
+        → IfSome (option_map (λ (b : Bandwidths). record { bandwidths = b; unmeasured = said.unmeasured }) found)
+        AreSmall
+    number None got = tt
+    number (Some b) got =
+        with_either_ranged said.bandwidths (strip (codes "Bandwidth=") text) (strip (codes "Measured=") text) b are got
 
-    by : (found : Option (List ℕ)) → with_word_by said text found ≡ Some more → AreSmall more
-    by (Some value) e = unmeasured (said.unmeasured || not (bytes_eq value (codes "1"))) e
-    by None e = number (with_argument said.bandwidths text) refl e
+    by : (found : Option (List ℕ)) → IfSome (with_word_by said text found) AreSmall
+    by (Some value) =
+        cond_both (said.unmeasured || not (bytes_eq value (codes "1"))) None
+        (Some (record { bandwidths = said.bandwidths; unmeasured = true })) (λ (o : Option Said). IfSome o AreSmall)
+        (λ wrong. tt) (λ fine. are)
+    by None = number (with_argument said.bandwidths text) refl
 
 with_words_read : (arguments : List Argument) (said : Said) → AreSmall said
     → ReadAs AreSmall (with_words said arguments)
@@ -182,7 +156,7 @@ with_words_read [] said are = are
 with_words_read (argument ∷ rest) said are =
     next_reads AreSmall AreSmall (field argument (with_word said argument.text)) (λ more. with_words more rest)
     (field_reads AreSmall argument (with_word said argument.text)
-    (λ more is. with_word_ranged said argument.text more are is))
+    (λ more is. subst (λ (o : Option Said). IfSome o AreSmall) is (with_word_small said argument.text are)))
     (λ more is. with_words_read rest more is)
 
 abbrev pub IsSmall : Bandwidth → Type 0

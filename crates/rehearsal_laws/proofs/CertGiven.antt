@@ -1,41 +1,37 @@
 -- The bytes of an authority's certificate are one certificate, which says what the authority means, and may stand in a
 -- vote.
-use Rattle.std.proofs.Common.{◌≡◌, ℕ, ◌+◌, ◌≤◌, ◌<◌, ◌^◌, true, List, [], ◌∷◌, ◌++◌, length, Ok, refl, sym, ap, subst}
-use Rattle.std.proofs.Common.{◌∙◌, false, Option, None, append_assoc, append-nil, arith}
-use Rattle.std.specs.Prelude.{All, IfSome, codes, is_some}
-use Rattle.std.specs.List.{AllByRecursion}
-use Rattle.std.proofs.lemmas.Bool.{false≢true, leb-true}
-use Rattle.std.proofs.lemmas.List.Elements.{All-cons, All-nil}
+use Rattle.std.proofs.Common.{◌≡◌, ℕ, ◌+◌, ◌≤◌, ◌<◌, ◌^◌, Bool, true, false, List, [], ◌∷◌, ◌++◌, length, Option, Some, None}
+use Rattle.std.proofs.Common.{Ok, refl, sym, ap, subst, ◌∙◌, append_assoc, append-nil, arith}
+use Rattle.std.specs.Prelude.{IfSome, codes, is_some}
+use Rattle.std.specs.List.{AllByRecursion, list_all}
+use Rattle.std.specs.Option.{option_and_then}
+use Rattle.std.proofs.lemmas.Bool.{and_parts, false≢true, leb-true}
 use Rattle.sha1.specs.Sha1.{sha1}
 use Rattle.sha2.specs.Sha256.{sha256}
 use Rattle.item_terms.specs.Items.{Contents, Item, contents, contents_of, items_of, nothing}
 use Rattle.item_terms.specs.Words.{first_is, is_letter_or_digit}
-use Rattle.dir_bytes.specs.FieldTexts.{hex_text, moment_text}
-use Rattle.dir_bytes.proofs.Days.{length-moment_text}
+use Rattle.dir_bytes.specs.FieldTexts.{hex_text}
 use Rattle.dir_bytes.proofs.Spelling.{length-hex_text}
 use Rattle.dirdoc_grammar.specs.Bodies.{object_text}
-use Rattle.dirdoc_grammar.specs.Writing.{NewItem, all_written, item_text, items_text}
-use Rattle.dirdoc_grammar.specs.Writing.{keyword_text, written}
+use Rattle.dirdoc_grammar.specs.Writing.{NewItem, all_written, item_text, items_text, keyword_text}
 use Rattle.grammar_laws.proofs.ItemsAgain.{items_again}
-use Rattle.frame_terms.specs.Keywords.{same, text_of, word_of}
+use Rattle.frame_terms.specs.Keywords.{same, word_of}
 use Rattle.frame_terms.specs.Order.{is_strange}
 use Rattle.frame_terms.specs.Sections.{row_of}
 use Rattle.frame_terms.specs.declared.keyword.Keyword.{Keyword}
 use Rattle.frame_terms.specs.declared.keyword.Keyword.TheVariants as the
-use Rattle.frame_terms.specs.declared.row.Row.{Row}
-use Rattle.frame_values.specs.Items.{bare, moment_item, with_object}
-use Rattle.frame_values.specs.Parts.{moment_of}
+use Rattle.frame_values.specs.Items.{bare, with_object}
+use Rattle.frame_values.proofs.ItemsTexts.{sections}
 use Rattle.authority_certs.specs.Reading.{cert_of, max_cert}
-use Rattle.authority_certs.specs.Tables.{cert_rows}
 use Rattle.authority_certs.specs.Texts.{cert_items, cert_text}
 use Rattle.authority_certs.specs.declared.cert.Cert.{Cert}
-use Rattle.authority_certs.specs.declared.frame.CertKind.{CertKind}
-use Rattle.frame_laws.proofs.KnownWords.{known}
 use Rattle.certificate_laws.specs.Again.{IsInRange, SaysInRange, as_written}
+use Rattle.certificate_laws.specs.Given.{IsGiven, IsNoStranger}
 use Rattle.certificate_laws.proofs.CertAgain.{certificates_again}
+use Rattle.certificate_laws.proofs.Holding.{alone_rows}
 use Rattle.vote_frame.specs.Tables.{vote_tables}
 use Rattle.vote_frame.specs.declared.frame.VoteSection.TheVariants as section
-use Rattle.certificate_laws.specs.Given.{IsGiven, IsNoStranger}
+use Rattle.vote_laws.proofs.Digests.{thirty_two, twenty}
 use Rattle.range_laws.proofs.CertItems.{HasBytes, cert_may}
 use Rattle.vote_rehearsal.specs.Authorities.{authority_of}
 use Rattle.vote_rehearsal.specs.Certificates.{certificate_bytes, certificate_expires, certificate_of}
@@ -44,55 +40,29 @@ use Rattle.vote_rehearsal.specs.Certificates.{crosscert_of, holder_items, key_it
 use Rattle.vote_rehearsal.specs.Relays.{seeded_word}
 use Rattle.rehearsal_laws.specs.Types.{Authority}
 use Rattle.rehearsal_laws.proofs.Names.{seeded_bytes, seeded_short}
-use Rattle.rehearsal_laws.proofs.Sizes.{IsShort, all_short, bare_short, object_item_short, short_writable}
-use Rattle.rehearsal_laws.proofs.ThirtyTwo.{thirty_two}
-use Rattle.rehearsal_laws.proofs.Twenty.{twenty}
-
--- ---- its text
-
--- the object of a last item stands behind its line
-object_behind : (items : List NewItem) (keyword : Keyword) (words bytes : List ℕ)
-    → items_text (items ++ bare keyword [] ∷ []) ++ object_text words bytes
-    ≡ items_text (items ++ with_object keyword [] words bytes ∷ [])
-object_behind [] keyword words bytes = one (keyword_text (bare keyword [])) (object_text words bytes)
-  where
-    one : (line object : List ℕ) → ((line ++ 10 ∷ []) ++ []) ++ object ≡ (line ++ 10 ∷ object) ++ []
-    one line object =
-        ap (λ (l : List ℕ). l ++ object) (append-nil (line ++ 10 ∷ [])) ∙ append_assoc line (10 ∷ []) object
-        ∙ sym (append-nil (line ++ 10 ∷ object))
-object_behind (item ∷ items) keyword words bytes =
-    append_assoc (item_text item) (items_text (items ++ bare keyword [] ∷ [])) (object_text words bytes)
-    ∙ ap (λ (l : List ℕ). item_text item ++ l) (object_behind items keyword words bytes)
+use Rattle.rehearsal_laws.proofs.Sizes.{AreAtMost, at_time, each_short, line, short_writable, with_lines, ◌&◌}
 
 -- ---- its items
 
--- the rows of a certificate that stands alone
-abbrev alone_rows : List (Row CertKind)
-alone_rows = cert_rows (λ kind. kind)
+-- whether a keyword has a row in a certificate that stands alone
+abbrev has_row : Option Keyword → Bool
+has_row word = is_some (option_and_then (row_of alone_rows) word)
 
-some_not_none : {A : Type 0} (o : Option A) → is_some o ≡ true → o ≡ None → ⊥
-some_not_none o some none = false≢true (sym (ap is_some none) ∙ some)
+abbrev have_rows : List NewItem → Bool
+have_rows items = list_all (λ (item : NewItem). has_row (word_of item.keyword)) items
 
--- an item whose keyword has a row is no stranger
-known_item : (item : Item) (keyword : Keyword) → item.keyword ≡ text_of keyword
-    → is_some (row_of alone_rows keyword) ≡ true → IsNoStranger vote_tables section.Certificate item
-known_item item keyword is some =
-    subst (λ (word : Option Keyword). IfSome word (λ k. row_of alone_rows k ≡ None
-    → is_strange vote_tables section.Certificate k ≡ false))
-    (sym (ap word_of is ∙ known keyword)) (λ none. absurd (some_not_none (row_of alone_rows keyword) some none))
-
--- the item has a keyword with a row
-abbrev HasRow : NewItem → Type 0
-HasRow item =
-    (keyword : Keyword) × (item.keyword ≡ text_of keyword) × (is_some (row_of alone_rows keyword) ≡ true)
-
-all_known : (place : ℕ) (items : List NewItem) → AllByRecursion HasRow items
+-- items whose keywords have rows are no strangers
+no_strangers : (place : ℕ) (items : List NewItem) → have_rows items ≡ true
     → AllByRecursion (λ (item : Item). IsNoStranger vote_tables section.Certificate item) (all_written place items)
-all_known place [] all = tt
-all_known place (item ∷ items) all = (
-  known_item (written place item) all.0.0 all.0.1 all.0.2,
-  all_known (place + length (item_text item)) items all.1,
-)
+no_strangers place [] are = tt
+no_strangers place (item ∷ items) are =
+    let both = and_parts (has_row (word_of item.keyword)) (have_rows items) are in
+    (known (word_of item.keyword) both.0, no_strangers (place + length (item_text item)) items both.1)
+  where
+    known : (word : Option Keyword) → has_row word ≡ true
+        → IfSome word (λ k. row_of alone_rows k ≡ None → is_strange vote_tables section.Certificate k ≡ false)
+    known None is = tt
+    known (Some k) is = λ none. absurd (false≢true (sym (ap is_some none) ∙ is))
 
 module _ (a : Authority) where
   abbrev cert : Cert
@@ -104,10 +74,19 @@ module _ (a : Authority) where
       holder_items a ++ key_items a
       ++ with_object the.DirKeyCrosscert [] (codes "ID SIGNATURE") (crosscert_of a) ∷ []
 
-  -- the bytes are the canonical text of what it says
-  pub bytes_are : certificate_bytes a ≡ cert_text cert
+  -- the bytes are the canonical text of what it says: the object of the last item stands behind its line
+  bytes_are : certificate_bytes a ≡ cert_text cert
   unfolding certificate_bytes covered_text certificate_of
-  bytes_are = object_behind before_last the.DirKeyCertification (codes "SIGNATURE") (certification_of a)
+  bytes_are =
+      let object = object_text (codes "SIGNATURE") (certification_of a) in
+      ap (λ (l : List ℕ). l ++ object) (sections before_last (bare the.DirKeyCertification [] ∷ []))
+      ∙ behind (items_text before_last) (keyword_text (bare the.DirKeyCertification [])) object
+      ∙ sym (sections before_last
+      (with_object the.DirKeyCertification [] (codes "SIGNATURE") (certification_of a) ∷ []))
+    where
+      behind : (front line object : List ℕ)
+          → (front ++ ((line ++ 10 ∷ []) ++ [])) ++ object ≡ front ++ ((line ++ 10 ∷ object) ++ [])
+      behind front line object = simp (append_assoc, append-nil) refl
 
   -- the digest is that of the covered text
   same_digest : as_written cert ≡ cert
@@ -122,66 +101,31 @@ module _ (a : Authority) where
   unfolding contents_of
   nothing_left limit place = refl
 
-  module _ (range : IsInRange cert) where
-    read : cert_of (certificate_bytes a) ≡ Ok (cert, length (certificate_bytes a))
-    read =
-        ap (λ (l : List ℕ). cert_of l) (bytes_are ∙ sym (append-nil (cert_text cert)))
-        ∙ certificates_again cert [] range
-        ∙ ap (λ (c : Cert). Ok (c, length (cert_text cert))) same_digest
-        ∙ ap (λ (l : List ℕ). Ok (cert, length l)) (sym bytes_are)
+  rows_there : have_rows (cert_items cert) ≡ true
+  unfolding certificate_of same word_of
+  rows_there = refl
 
-    -- its items are those that were written
-    items_are : (items_of max_cert (certificate_bytes a)).items ≡ all_written 0 (cert_items cert)
-    unfolding certificate_of
-    items_are =
-        let items = cert_items cert in
-        let end = 0 + length (items_text items) in
-        ap (λ (l : List ℕ). (items_of max_cert l).items) (bytes_are ∙ sym (append-nil (cert_text cert)))
-        ∙ ap (λ (c : Contents). c.items) (items_again max_cert 0 items [] range.items refl)
-        ∙ ap (λ (c : Contents). all_written 0 items ++ c.items) (nothing_left max_cert end)
-        ∙ append-nil (all_written 0 items)
-
-    -- each has a row of a certificate
-    have_rows : AllByRecursion HasRow (cert_items cert)
-    unfolding certificate_of same
-    have_rows = (
-      (the.DirKeyCertificateVersion, refl, refl),
-      (
-        (the.Fingerprint, refl, refl),
-        (
-          (the.DirIdentityKey, refl, refl),
-          (
-            (the.DirKeyPublished, refl, refl),
-            (
-              (the.DirKeyExpires, refl, refl),
-              (
-                (the.DirSigningKey, refl, refl),
-                (
-                  (the.DirKeyCrosscert, refl, refl),
-                  ((the.DirKeyCertification, refl, refl), tt),
-                ),
-              ),
-            ),
-          ),
-        ),
-      ),
-    )
-
-    abbrev IsKnown : Item → Type 0
-    IsKnown item = IsNoStranger vote_tables section.Certificate item
-
-    is_given : IsGiven vote_tables section.Certificate (certificate_bytes a) cert
-    is_given = record {
-      read = read;
-      first = first_byte;
-      strangers = subst (AllByRecursion IsKnown) (sym items_are) (all_known 0 (cert_items cert) have_rows);
-    }
+  is_given : IsInRange cert → IsGiven vote_tables section.Certificate (certificate_bytes a) cert
+  unfolding certificate_of
+  is_given range =
+      let items = cert_items cert in
+      let text = bytes_are ∙ sym (append-nil (cert_text cert)) in
+      let items_are : (items_of max_cert (certificate_bytes a)).items ≡ all_written 0 items =
+      ap (λ (l : List ℕ). (items_of max_cert l).items) text
+      ∙ ap (λ (c : Contents). c.items) (items_again max_cert 0 items [] range.items refl)
+      ∙ ap (λ (c : Contents). all_written 0 items ++ c.items) (nothing_left max_cert (0 + length (items_text items)))
+      ∙ append-nil (all_written 0 items) in
+      record {
+        read =
+            ap (λ (l : List ℕ). cert_of l) text ∙ certificates_again cert [] range
+            ∙ ap (λ (c : Cert). Ok (c, length (cert_text cert))) same_digest
+            ∙ ap (λ (l : List ℕ). Ok (cert, length l)) (sym bytes_are);
+        first = first_byte;
+        strangers = subst (AllByRecursion (λ (item : Item). IsNoStranger vote_tables section.Certificate item))
+            (sym items_are) (no_strangers 0 items rows_there);
+      }
 
 -- ---- what it says
-
-timed_short : (keyword : Keyword) (moment : ℕ) → IsShort (moment_item keyword moment)
-timed_short keyword moment =
-    bare_short keyword (moment_text (moment_of moment)) (omega (arith, length-moment_text (moment_of moment)))
 
 module _ (seed n : ℕ) (small : seed < 2 ^ 64) (few : n ≤ 33) where
   abbrev one : Authority
@@ -202,69 +146,47 @@ module _ (seed n : ℕ) (small : seed < 2 ^ 64) (few : n ≤ 33) where
   pub cert_bytes : HasBytes its
   unfolding certificate_of
   cert_bytes = record {
-    identity_key = seeded_bytes (codes "authority-") n seed refl few small;
-    signing_key = seeded_bytes (codes "signing-") n seed refl few small;
+    identity_key = seeded_bytes (codes "authority-") n seed few small refl;
+    signing_key = seeded_bytes (codes "signing-") n seed few small refl;
     crosscert = (thirty_two (codes "test-sig" ++ one.signing_key ++ sha1 one.identity_key)).each;
     certification = (thirty_two (codes "test-sig" ++ one.identity_key ++ covered_digest one)).each;
   }
 
   key_short : (keyword : Keyword) (word : List ℕ) → length word ≤ 10
-      → IsShort (with_object keyword [] (codes "RSA PUBLIC KEY") (seeded_word word n seed))
+      → AreAtMost 366 (with_object keyword [] (codes "RSA PUBLIC KEY") (seeded_word word n seed) ∷ [])
   key_short keyword word short =
-      object_item_short keyword [] (codes "RSA PUBLIC KEY") (seeded_word word n seed) (omega arith) (omega arith)
-      (omega (arith, seeded_short word n seed short few small))
+      with_lines 0 keyword [] (codes "RSA PUBLIC KEY") (seeded_word word n seed) (omega arith) (omega arith)
+      (omega (arith, seeded_short word n seed few small short))
 
   signature_short : (keyword : Keyword) (words message : List ℕ) → length words ≤ 20
-      → IsShort (with_object keyword [] words (sha256 message))
+      → AreAtMost 366 (with_object keyword [] words (sha256 message) ∷ [])
   signature_short keyword words message short =
-      object_item_short keyword [] words (sha256 message) (omega arith) short
-      (omega (arith, (thirty_two message).count))
+      with_lines 0 keyword [] words (sha256 message) (omega arith) short (omega (arith, (thirty_two message).count))
 
-  hex_short : IsShort (bare the.Fingerprint (hex_text one.identity.0))
-  hex_short =
-      bare_short the.Fingerprint (hex_text one.identity.0)
+  cert_short : AreAtMost 1807 (cert_items its)
+  unfolding certificate_of
+  cert_short =
+      line 1 the.DirKeyCertificateVersion (codes "3") (omega arith)
+      & line 40 the.Fingerprint (hex_text one.identity.0)
       (omega (arith, length-hex_text one.identity.0, (twenty (seeded_word (codes "authority-") n seed)).count))
+      & key_short the.DirIdentityKey (codes "authority-") (omega arith)
+      & at_time the.DirKeyPublished certificate_published & at_time the.DirKeyExpires certificate_expires
+      & key_short the.DirSigningKey (codes "signing-") (omega arith)
+      & signature_short the.DirKeyCrosscert (codes "ID SIGNATURE")
+      (codes "test-sig" ++ one.signing_key ++ sha1 one.identity_key) (omega arith)
+      & signature_short the.DirKeyCertification (codes "SIGNATURE")
+      (codes "test-sig" ++ one.identity_key ++ covered_digest one) (omega arith)
 
-  all_cert_short : All IsShort (cert_items its)
-  unfolding certificate_of
-  all_cert_short =
-      let a = bare the.DirKeyCertificateVersion (codes "3") in
-      let b = bare the.Fingerprint (hex_text one.identity.0) in
-      let c = with_object the.DirIdentityKey [] (codes "RSA PUBLIC KEY") one.identity_key in
-      let d = moment_item the.DirKeyPublished certificate_published in
-      let e = moment_item the.DirKeyExpires certificate_expires in
-      let f = with_object the.DirSigningKey [] (codes "RSA PUBLIC KEY") one.signing_key in
-      let g = with_object the.DirKeyCrosscert [] (codes "ID SIGNATURE") (crosscert_of one) in
-      let h = with_object the.DirKeyCertification [] (codes "SIGNATURE") (certification_of one) in
-      All-cons IsShort a (b ∷ c ∷ d ∷ e ∷ f ∷ g ∷ h ∷ [])
-      (bare_short the.DirKeyCertificateVersion (codes "3") (omega arith))
-      (All-cons IsShort b (c ∷ d ∷ e ∷ f ∷ g ∷ h ∷ []) hex_short
-      (All-cons IsShort c (d ∷ e ∷ f ∷ g ∷ h ∷ []) (key_short the.DirIdentityKey (codes "authority-") (omega arith))
-      (All-cons IsShort d (e ∷ f ∷ g ∷ h ∷ []) (timed_short the.DirKeyPublished certificate_published)
-      (All-cons IsShort e (f ∷ g ∷ h ∷ []) (timed_short the.DirKeyExpires certificate_expires)
-      (All-cons IsShort f (g ∷ h ∷ []) (key_short the.DirSigningKey (codes "signing-") (omega arith))
-      (All-cons IsShort g (h ∷ [])
-      (signature_short the.DirKeyCrosscert (codes "ID SIGNATURE")
-      (codes "test-sig" ++ one.signing_key ++ sha1 one.identity_key) (omega arith))
-      (All-cons IsShort h []
-      (signature_short the.DirKeyCertification (codes "SIGNATURE")
-      (codes "test-sig" ++ one.identity_key ++ covered_digest one) (omega arith)) (All-nil IsShort))))))))
-
-  cert_size : length (cert_text its) ≤ 16000
-  unfolding certificate_of
-  cert_size =
-      let eight : length (cert_items its) ≡ 8 = refl in
-      omega (arith, all_short (cert_items its) all_cert_short, eight)
-
-  pub bytes_size : length (certificate_bytes one) ≤ 16000
-  bytes_size = omega (arith, cert_size, ap (λ (l : List ℕ). length l) (bytes_are one))
+  pub bytes_size : length (certificate_bytes one) ≤ 1807
+  bytes_size = omega (arith, cert_short.size, ap (λ (l : List ℕ). length l) (bytes_are one))
 
   pub cert_given : IsGiven vote_tables section.Certificate (certificate_bytes one) its
   cert_given =
+      let size = cert_short.size in
       is_given one
       (record {
         says = cert_says;
         items =
-            short_writable max_cert 0 (cert_items its) (cert_may its cert_says cert_bytes) all_cert_short
-            (omega (arith, cert_size));
+            short_writable max_cert 0 (cert_items its) (cert_may its cert_says cert_bytes)
+            (each_short (cert_items its) (omega (arith, size))) (omega (arith, size));
       })

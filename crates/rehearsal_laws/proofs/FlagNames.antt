@@ -10,55 +10,47 @@ use Rattle.flag_rules.specs.Names.{name_table, names_of}
 use Rattle.flag_rules.specs.declared.flags.Flags.{Flags}
 use Rattle.vote_rehearsal.specs.Entries.{flags_drawn}
 
--- the flags of a relay, of which four vary
-abbrev four : Bool → Bool → Bool → Bool → Flags
-four exit guard middle running = record {
-  bad_exit = false;
-  exit = exit;
-  fast = false;
-  guard = guard;
-  hs_dir = false;
-  middle_only = middle;
-  running = running;
-  stable = false;
-  stale_desc = false;
-  sybil = false;
-  v2_dir = false;
-  valid = true;
-}
+-- the flags of a relay are names, and short, where those that vary are these
+abbrev are_right : Bool → Bool → Bool → Bool → Bool
+are_right exit guard middle running =
+    let names = names_of (record (flags_drawn 0) {
+      exit = exit;
+      guard = guard;
+      middle_only = middle;
+      running = running;
+    }) in
+    nat_le (length (set_text names)) 100 && list_all is_name names
 
--- they are names, and short
-abbrev are_right : Flags → Bool
-are_right flags = nat_le (length (set_text (names_of flags))) 132 && list_all is_name (names_of flags)
+-- it holds at both answers of a test, and so at each
+abbrev both : (Bool → Bool) → Bool
+both holds = holds true && holds false
 
-each_right : (exit guard middle running : Bool) → are_right (four exit guard middle running) ≡ true
+each : (holds : Bool → Bool) (t : Bool) → both holds ≡ true → holds t ≡ true
+each holds true is = (and_parts (holds true) (holds false) is).0
+each holds false is = (and_parts (holds true) (holds false) is).1
+
+each_right : (a b c d : Bool) → are_right a b c d ≡ true
 unfolding names_of
-each_right true true true true = refl
-each_right true true true false = refl
-each_right true true false true = refl
-each_right true true false false = refl
-each_right true false true true = refl
-each_right true false true false = refl
-each_right true false false true = refl
-each_right true false false false = refl
-each_right false true true true = refl
-each_right false true true false = refl
-each_right false true false true = refl
-each_right false true false false = refl
-each_right false false true true = refl
-each_right false false true false = refl
-each_right false false false true = refl
-each_right false false false false = refl
+each_right a b c d =
+    each (are_right a b c) d
+    (each (λ z. both (are_right a b z)) c
+    (each (λ y. both (λ z. both (are_right a y z))) b
+    (each (λ x. both (λ y. both (λ z. both (are_right x y z)))) a refl)))
 
-right : (draw : ℕ) → are_right (flags_drawn draw) ≡ true
-right draw =
-    each_right (draw / 512 % 3 == 0) (draw / 256 % 2 == 1) (draw / 4096 % 64 == 0) (not (draw / 16 % 16 == 0))
+module _ (draw : ℕ) where
+  abbrev names : List (List ℕ)
+  names = names_of (flags_drawn draw)
 
-pub names_short : (draw : ℕ) → length (set_text (names_of (flags_drawn draw))) ≤ 132
-names_short draw = leb-true (length (set_text (names_of (flags_drawn draw)))) 132 (and_parts _ _ (right draw)).0
+  right : (nat_le (length (set_text names)) 100 ≡ true) × (list_all is_name names ≡ true)
+  right =
+      and_parts _ _
+      (each_right (draw / 512 % 3 == 0) (draw / 256 % 2 == 1) (draw / 4096 % 64 == 0) (not (draw / 16 % 16 == 0)))
 
-pub names_are : (draw : ℕ) → All (λ flag. is_name flag ≡ true) (names_of (flags_drawn draw))
-names_are draw = AllPass-from_list_all is_name (names_of (flags_drawn draw)) (and_parts _ _ (right draw)).1
+  pub names_short : length (set_text (names_of (flags_drawn draw))) ≤ 100
+  names_short = leb-true (length (set_text names)) 100 right.0
+
+  pub names_are : All (λ flag. is_name flag ≡ true) (names_of (flags_drawn draw))
+  names_are = AllPass-from_list_all is_name names right.1
 
 pub names_ascend : (flags : Flags) → Ascend (names_of flags)
 unfolding names_of

@@ -1,5 +1,4 @@
-mod Twenty
-mod ThirtyTwo
+mod Lists
 mod Names
 mod Sizes
 mod FlagNames
@@ -8,8 +7,6 @@ mod VotersApart
 mod EntrySizes
 mod EntriesSound
 mod CertGiven
-mod MadeSizes
 mod MadeRanges
 mod ReadAgain
-mod AllHeld
 mod HeldLaws

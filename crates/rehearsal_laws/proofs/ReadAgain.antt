@@ -1,33 +1,29 @@
 -- The text of an authority that votes in a rehearsal is read as the vote that it means.
-use Rattle.std.proofs.Common.{◌≡◌, ℕ, ◌+◌, ◌≤◌, ◌<◌, ◌^◌, List, [], ◌++◌, length, Result, Ok, Err, refl, sym, ap, ap₂}
+use Rattle.std.proofs.Common.{◌≡◌, ℕ, ◌+◌, ◌≤◌, ◌<◌, ◌^◌, List, [], ◌++◌, length, Ok, refl, sym, ap, ap₂}
 use Rattle.std.proofs.Common.{subst, ◌∙◌, append-nil, arith}
 use Rattle.std.specs.Prelude.{All, AllPairs, codes}
 use Rattle.std.proofs.lemmas.List.Elements.{All-weaker}
-use Rattle.frame_terms.specs.declared.fault.ReadRefusal.{ReadRefusal}
 use Rattle.vote_terms.specs.Votes.{ReadVote, max_vote}
 use Rattle.vote_terms.specs.declared.facts.VoteFacts.{VoteFacts}
 use Rattle.vote_text.specs.Made.{made_signed, made_text}
-use Rattle.blank_lines.specs.Behind.{behind}
 use Rattle.vote_doc.specs.Reading.{vote_of}
 use Rattle.vote_frame.specs.Tables.{vote_tables}
 use Rattle.vote_frame.specs.declared.frame.VoteSection.TheVariants as section
 use Rattle.certificate_laws.specs.Given.{IsGiven}
 use Rattle.vote_laws.specs.Made.{MadeVotesAreRead}
+use Rattle.vote_laws.proofs.Digests.{thirty_two, twenty}
 use Rattle.vote_laws.proofs.MadeAgain.{made_again}
+use Rattle.vote_laws.proofs.Pairs.{from_start}
 use Rattle.vote_rehearsal.specs.Authorities.{authority_of, voters}
-use Rattle.vote_rehearsal.specs.Certificates.{certificate_bytes, certificate_of}
+use Rattle.vote_rehearsal.specs.Certificates.{certificate_bytes}
 use Rattle.vote_rehearsal.specs.Relays.{ascending_relays, relay_of, seeded_word}
 use Rattle.vote_rehearsal.specs.Votes.{facts_of, signed_text, vote_text}
-use Rattle.rehearsal_laws.specs.Rehearsed.{IsRead, RehearsedVotesAreRead, meant_vote}
-use Rattle.rehearsal_laws.specs.Rehearsed.{signed_facts}
+use Rattle.rehearsal_laws.specs.Rehearsed.{IsRead, RehearsedVotesAreRead, meant_vote, signed_facts}
 use Rattle.rehearsal_laws.specs.Types.{Authority, Relay}
 use Rattle.rehearsal_laws.proofs.CertGiven.{cert_given}
 use Rattle.rehearsal_laws.proofs.EntrySizes.{IsSound}
 use Rattle.rehearsal_laws.proofs.Listed.{IsBefore, IsRelay, listed}
 use Rattle.rehearsal_laws.proofs.MadeRanges.{made_in_range}
-use Rattle.rehearsal_laws.proofs.MadeSizes.{whole_size}
-use Rattle.rehearsal_laws.proofs.ThirtyTwo.{thirty_two}
-use Rattle.rehearsal_laws.proofs.Twenty.{twenty}
 use Rattle.rehearsal_laws.proofs.VotersApart.{IsVoter, all_voters}
 
 -- ---- relays
@@ -76,18 +72,6 @@ signed_is : (relays : List Relay) (a : Authority)
 unfolding signed_text
 signed_is relays a = refl
 
-certificate_is : (relays : List Relay) (a : Authority) → (signed_facts relays a).certificate ≡ certificate_of a
-unfolding facts_of
-certificate_is relays a = refl
-
--- what stands behind nothing is what stands alone
-from_start : (read : Result (ReadVote × ℕ) ReadRefusal) (vote : ReadVote) (end : ℕ) → behind 0 read ≡ Ok (vote, end)
-    → read ≡ Ok (vote, end)
-from_start (Ok (found, used)) vote end is =
-    let zero : 0 + used ≡ used = omega arith in
-    ap (λ (n : ℕ). Ok (found, n)) (sym zero) ∙ is
-from_start (Err why) vote end is = absurd cc
-
 -- votes that have the same parts are one
 abbrev vote_of_parts : List ℕ → List ℕ → List ℕ → VoteFacts → ReadVote
 vote_of_parts w s c f = record { whole = w; signed = s; certificate_bytes = c; says = f }
@@ -98,55 +82,46 @@ same_vote a b whole signed bytes says =
     ap₂ (λ (w s : List ℕ). vote_of_parts w s a.certificate_bytes a.says) whole signed
     ∙ ap₂ (λ (c : List ℕ) (f : VoteFacts). vote_of_parts b.whole b.signed c f) bytes says
 
-module _ (seed n : ℕ) (relays : List Relay) (small : seed < 2 ^ 64) (few : n ≤ 33) (sound : AreSound relays) where
-  abbrev one : Authority
-  one = authority_of seed n
+-- the text of an authority is read as the vote that it means, and fits
+pub record IsReadable (relays : List Relay) (a : Authority) : Type 0 where
+  pub read : IsRead relays a
+  pub fits : length (vote_text relays a) ≤ max_vote
 
-  pub text_fits : length (vote_text relays (authority_of seed n)) ≤ max_vote
-  text_fits =
-      omega (
-        arith,
-        ap (λ (l : List ℕ). length l) (text_is relays one),
-        whole_size seed n relays small few sound.each sound.few,
-      )
+one_readable : (seed n : ℕ) (relays : List Relay) → seed < 2 ^ 64 → n ≤ 33 → AreSound relays
+    → IsReadable relays (authority_of seed n)
+unfolding facts_of
+one_readable seed n relays small few sound =
+    let one = authority_of seed n in
+    let facts = signed_facts relays one in
+    let bytes = certificate_bytes one in
+    let text = made_text facts bytes in
+    let same = text_is relays one in
+    let are = made_in_range seed n relays small few sound.each sound.before sound.few in
+    let given : IsGiven vote_tables section.Certificate bytes facts.certificate = cert_given seed n small few in
+    let law : MadeVotesAreRead = made_again in
+    let made = law [] facts bytes [] (omega arith) given are in
+    let read = from_start (vote_of (text ++ [])) made.0 (0 + length text) made.1 in
+    let ends : 0 + length text ≡ length text = omega arith in
+    let vote : made.0 ≡ meant_vote relays one =
+    same_vote made.0 (meant_vote relays one) (made.2.whole ∙ sym same) (made.2.signed ∙ sym (signed_is relays one))
+    made.2.certificate_bytes made.2.says in
+    record {
+      read =
+          ap (λ (l : List ℕ). vote_of l) (same ∙ sym (append-nil text)) ∙ read
+          ∙ ap₂ (λ (v : ReadVote) (k : ℕ). Ok (v, k)) vote (ends ∙ ap (λ (l : List ℕ). length l) (sym same));
+      fits = omega (arith, ap (λ (l : List ℕ). length l) same, are.fits);
+    }
 
-  given : IsGiven vote_tables section.Certificate (certificate_bytes one) (signed_facts relays one).certificate
-  given =
-      subst (IsGiven vote_tables section.Certificate (certificate_bytes one)) (sym (certificate_is relays one))
-      (cert_given seed n small few)
-
-  pub is_read : IsRead relays (authority_of seed n)
-  is_read =
-      let facts = signed_facts relays one in
-      let bytes = certificate_bytes one in
-      let text = made_text facts bytes in
-      let law : MadeVotesAreRead = made_again in
-      let made =
-      law [] facts bytes [] (omega arith) given
-      (made_in_range seed n relays small few sound.each sound.before sound.few) in
-      let read = from_start (vote_of (text ++ [])) made.0 (0 + length text) made.1 in
-      let ends : 0 + length text ≡ length text = omega arith in
-      let vote : made.0 ≡ meant_vote relays one =
-      same_vote made.0 (meant_vote relays one) (made.2.whole ∙ sym (text_is relays one))
-      (made.2.signed ∙ sym (signed_is relays one)) made.2.certificate_bytes made.2.says in
-      ap (λ (l : List ℕ). vote_of l) (text_is relays one ∙ sym (append-nil text)) ∙ read
-      ∙ ap₂ (λ (v : ReadVote) (k : ℕ). Ok (v, k)) vote
-      (ends ∙ ap (λ (l : List ℕ). length l) (sym (text_is relays one)))
-
-pub voter_read : (seed count : ℕ) (relays : List Relay) (a : Authority) → seed < 2 ^ 64 → count ≤ 32 → AreSound relays
-    → IsVoter seed (1 + count) a → IsRead relays a
-voter_read seed count relays a small few sound is =
-    subst (IsRead relays) (sym is.is) (is_read seed is.number relays small (omega (arith, few, is.small)) sound)
-
-pub voter_fits : (seed count : ℕ) (relays : List Relay) (a : Authority) → seed < 2 ^ 64 → count ≤ 32 → AreSound relays
-    → IsVoter seed (1 + count) a → length (vote_text relays a) ≤ max_vote
-voter_fits seed count relays a small few sound is =
-    subst (λ (x : Authority). length (vote_text relays x) ≤ max_vote) (sym is.is)
-    (text_fits seed is.number relays small (omega (arith, few, is.small)) sound)
+pub all_readable : (seed count : ℕ) (relays : List Relay) → seed < 2 ^ 64 → count ≤ 32 → AreSound relays
+    → All (IsReadable relays) (voters seed count)
+all_readable seed count relays small few sound =
+    All-weaker (IsVoter seed count) (IsReadable relays)
+    (λ a is. subst (IsReadable relays) (sym is.is)
+    (one_readable seed is.number relays small (omega (arith, few, is.small)) sound)) (voters seed count)
+    (all_voters seed count)
 
 pub rehearsed_are_read : RehearsedVotesAreRead
 rehearsed_are_read seed relays authorities asked =
-    let listed_ = ascending_relays seed authorities relays in
-    All-weaker (IsVoter seed (1 + authorities)) (IsRead listed_)
-    (λ a is. voter_read seed authorities listed_ a asked.seed_fits asked.few
-    (listed_sound seed authorities relays asked.few_relays) is) (voters seed authorities) (all_voters seed authorities)
+    let all = ascending_relays seed authorities relays in
+    All-weaker (IsReadable all) (IsRead all) (λ a is. is.read) (voters seed authorities)
+    (all_readable seed authorities all asked.seed_fits asked.few (listed_sound seed authorities relays asked.few_relays))
