@@ -62,13 +62,6 @@ module _ {X : Type 0} (lt : X → X → Bool) where
     rises_far rest (λ i j d le in_list. far (suc i) (suc j) d (omega (arith, le)) (omega (arith, in_list))),
   )
 
-  tie_forth : (z x : X) → ties lt z x ≡ true → lt z x ≡ false
-  tie_forth z x tie = by (lt z x) (lt x z) refl tie
-    where
-      by : (a b : Bool) → lt z x ≡ a → (not a && not b) ≡ true → lt z x ≡ false
-      by true b is t = absurd cc
-      by false b is t = is
-
   tie_back : (z x : X) → ties lt z x ≡ true → lt x z ≡ false
   tie_back z x tie = by (lt z x) (lt x z) refl tie
     where

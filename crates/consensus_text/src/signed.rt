@@ -5,7 +5,7 @@ ghost use Rattle.consensus_terms.specs.Signed as signed;
 ghost use Rattle.consensus_text.specs.Private as own;
 
 use consensus_terms::{Digests, SignatureLine};
-use dir_bytes::{Memory, Text, push_hex_upper};
+use dir_bytes::{Memory, push_hex_upper};
 use dir_values::{Digest1, Digest2};
 use dirdoc_grammar::{push_line, push_object};
 use sha1::Sha1;
@@ -30,18 +30,6 @@ pub fn digests(text: &[u8]) -> Digests
     }
 }
 
-/// A copy of a line.
-fn copy_of(alloc: Global, line: &SignatureLine) -> Result<SignatureLine, Memory>
-    ensures { IfOk result (λ copy. copy ≡ line.now) }
-{
-    Ok(SignatureLine {
-        algorithm: Text::copy_of(alloc, line.algorithm.as_bytes())?,
-        identity: line.identity,
-        key_digest: line.key_digest,
-        signature: Text::copy_of(alloc, line.signature.as_bytes())?,
-    })
-}
-
 /// Copies of lines.
 ///
 /// # Errors
@@ -51,7 +39,7 @@ fn copies_of(alloc: Global, lines: &[SignatureLine]) -> Result<Vec<SignatureLine
 {
     let mut copies = Vec::with_capacity(alloc, lines.len())?;
     'lines: for line in lines {
-        copies.push(copy_of(alloc, line)?)?;
+        copies.push(line.copy(alloc)?)?;
     }
     Ok(copies)
 }

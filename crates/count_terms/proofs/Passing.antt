@@ -10,14 +10,14 @@ pub count-permutation : {X : Type 0} (p : X → Bool) (xs ys : List X) → IsPer
     → count_by p ys ≡ count_by p xs
 count-permutation p xs ys same = sum_by-IsPermutation (λ x. cond (p x) 1 0) xs ys same
 
-abbrev one_if : Bool → ℕ
+abbrev pub one_if : Bool → ℕ
 one_if b = cond b 1 0
 
 -- one more item
-more : {X : Type 0} (p : X → Bool) (x : X) (xs : List X) → count_by p (x ∷ xs) ≡ one_if (p x) + count_by p xs
+pub more : {X : Type 0} (p : X → Bool) (x : X) (xs : List X) → count_by p (x ∷ xs) ≡ one_if (p x) + count_by p xs
 more p x xs = sum_by-cons (λ y. cond (p y) 1 0) x xs
 
-one_at_most : (b : Bool) → one_if b ≤ 1
+pub one_at_most : (b : Bool) → one_if b ≤ 1
 one_at_most true = omega arith
 one_at_most false = omega arith
 

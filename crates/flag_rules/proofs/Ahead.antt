@@ -17,7 +17,8 @@ use Rattle.flag_rules.specs.declared.relay.RuledRelay.{RuledRelay}
 use Rattle.flag_rules.specs.Relays.{bandwidth_of}
 use Rattle.flag_rules.specs.Standings.{is_ahead}
 use Rattle.flag_rules.specs.Private.{order_of, is_before, AreInOrder}
-use Rattle.flag_rules.proofs.Counts.{count_low, count_both, count_one}
+use Rattle.count_terms.proofs.Passing.{count_low}
+use Rattle.flag_rules.proofs.Counts.{count_both, count_one}
 
 -- the order is one
 pub order_total : IsTotalOrder order_of

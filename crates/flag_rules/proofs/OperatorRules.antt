@@ -22,7 +22,8 @@ use Rattle.flag_rules.specs.declared.operator.OperatorRule.{OperatorRule}
 use Rattle.flag_rules.specs.Rules.{ruling_for, AreApart, Ascend}
 use Rattle.flag_rules.specs.Private.{is_rule_before}
 use Rattle.flag_rules.proofs.Ahead.{less_is_lt}
-use Rattle.flag_rules.proofs.Counts.{count-permutation, count_apart, count_both}
+use Rattle.count_terms.proofs.Passing.{count-permutation}
+use Rattle.flag_rules.proofs.Counts.{count_apart, count_both}
 
 -- whether a rule is for an identity
 abbrev is_for : Fingerprint → OperatorRule → Bool

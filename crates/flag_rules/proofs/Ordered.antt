@@ -9,7 +9,7 @@ use Rattle.std.proofs.lemmas.List.Folds.{list_any_at}
 use Rattle.std.proofs.lemmas.List.Sums.{count_by-le-length}
 use Rattle.std.proofs.lemmas.List.Sorted.{list_any-IsPermutation, length_permutation}
 use Rattle.count_terms.specs.Counts.{stands_at, member_at}
-use Rattle.flag_rules.proofs.Counts.{count-permutation, count_low, count_high}
+use Rattle.count_terms.proofs.Passing.{count-permutation, count_low, count_high}
 
 -- the member of a sorted list at a place stands there
 stands : (ys : List ℕ) (place : ℕ) → IsNonDecreasingBy (λ y. y) ys → place < length ys
