@@ -50,14 +50,6 @@ over_input given command left P is reads told c names =
     let same : reads_input c ≡ true = subst (λ (k : Command). reads_input k ≡ true) one reads in
     subst (λ (b : Bool). Told (if b then left else Some []) (P c)) (sym same) (told c names)
 
--- and need not come to an end of one
-pub none_read : (given : Option Command) (command c : Command) (P : Type 0) → Some command ≡ given → given ≡ Some c
-    → reads_input command ≡ false → OnTrue (reads_input c) P
-none_read given command c P is names reads =
-    let one : command ≡ c = cc (is, names) in
-    let same : reads_input c ≡ false = subst (λ (k : Command). reads_input k ≡ false) one reads in
-    subst (λ (b : Bool). OnTrue b P) (sym same) tt
-
 -- it refused the input
 pub refused : (answers : Command → List ℕ → Result (List ℕ) Refusal → Type 0) (given : Option Command)
     (command : Command) (left after : Option (List ℕ)) (limit : ℕ)

@@ -1,25 +1,19 @@
 -- What is answered, told as the program's.
-use Rattle.std.proofs.Common.{◌≡◌, refl, ap}
+use Rattle.std.proofs.Common.{◌≡◌, refl}
 use Rattle.daemon_words.specs.declared.command.Command.TheVariants as command
-use Rattle.daemon_words.specs.declared.report.Report.{Report}
 use Rattle.daemon_words.specs.declared.stop.Stop.TheVariants as stop
-use Rattle.document_commands.specs.declared.refusal.SubjectRefusal.{SubjectRefusal}
 use Rattle.document_commands.specs.declared.refusal.SubjectRefusal.TheVariants as subject
 use Rattle.report_command.specs.Answers as documents
 use Rattle.report_command.specs.declared.refusal.NoReport.TheVariants as none
-use Rattle.report_command.specs.declared.refusal.ReportRefusal.{ReportRefusal}
 use Rattle.report_command.specs.declared.refusal.ReportRefusal.TheVariants as report
 use Rattle.station_commands.specs.Voting as station
-use Rattle.station_commands.specs.declared.refusal.MakeVoteRefusal.{MakeVoteRefusal}
 use Rattle.station_commands.specs.declared.refusal.MakeVoteRefusal.TheVariants as vote
 use Rattle.station_commands.specs.WithFile as behind
-use Rattle.station_commands.specs.declared.file_refusal.FileVoteRefusal.{FileVoteRefusal}
 use Rattle.station_commands.specs.declared.file_refusal.FileVoteRefusal.TheVariants as file
 use Rattle.serve_command.specs.declared.refusal.ServeRefusal.{ServeRefusal}
 use Rattle.serve_command.specs.declared.refusal.ServeRefusal.TheVariants as serve
-use Rattle.exit_status.specs.Told.{by_file_vote, by_make_vote, by_report, by_serve, by_subject}
+use Rattle.exit_status.specs.Told.{by_serve}
 use Rattle.exit_status.specs.declared.status.Refusal.TheVariants as refusal
-use Rattle.authority_daemon.specs.Commands.{IsBeforeSigner, IsEarly, IsOfStation}
 
 -- ---- whose fault is told
 
@@ -37,12 +31,3 @@ pub serve_no_signer : (own : ServeRefusal) → by_serve own ≡ refusal.Signer �
 serve_no_signer (serve.File why) told = cc told
 serve_no_signer (serve.Station why) told = cc told
 serve_no_signer serve.Verifier told = cc told
-
--- ---- what is asked before
-
-pub unsigned_vote : (own : MakeVoteRefusal) → IsBeforeSigner (by_make_vote own)
-    → station.IsBeforeSigner (stop.Refused own)
-unsigned_vote (vote.Station why) before = tt
-unsigned_vote vote.MadeVote before = before
-unsigned_vote vote.Verifier before = tt
-unsigned_vote vote.Signer before = before

@@ -2,7 +2,6 @@ pub mod Gathering
 pub mod Sections
 pub mod Rows
 pub mod Steps
-pub mod LastValues
 pub mod FirstLines
 pub mod Lineage
 pub mod Passing

@@ -23,15 +23,6 @@ told bytes fault is = ap (λ (f : Option BandFault). option_or f (Some (goes_on 
 untold : (bytes : List ℕ) → slice_get (faults_of (lines bytes)) 0 ≡ None → open_fault bytes ≡ Some (goes_on bytes)
 untold bytes is = ap (λ (f : Option BandFault). option_or f (Some (goes_on bytes))) is
 
--- a file without a fault goes on
-pub sound_on : (bytes : List ℕ) → first_fault (lines bytes) ≡ None → open_fault bytes ≡ Some (goes_on bytes)
-sound_on bytes sound = by (slice_get (faults_of (lines bytes)) 0) refl sound
-  where
-    by : (first : Option BandFault) → slice_get (faults_of (lines bytes)) 0 ≡ first
-        → option_or first (end_fault (lines bytes)) ≡ None → open_fault bytes ≡ Some (goes_on bytes)
-    by (Some fault) is e = absurd (cc e)
-    by None is e = untold bytes is
-
 -- so does one that lacks its time where it ends
 pub timeless_on : (bytes : List ℕ) → first_fault (lines bytes) ≡ Some (at (length bytes) Timestamp)
     → open_fault bytes ≡ Some (goes_on bytes)

@@ -24,7 +24,7 @@ use Rattle.compute_command.specs.declared.checking.Checking.{Checking}
 use Rattle.compute_command.specs.declared.rest.Turn.{Turn}
 use Rattle.compute_command.specs.declared.rest.Turn.TheVariants as turn
 use Rattle.compute_command.specs.Arriving.{BeginsBehind, EndsSo, HasArrived, IsArriving, TurnsTo, WithMore}
-use Rattle.compute_command.specs.Checked.{CheckedSo, HasRoom, IsChecked, OneMoreChecked, end_by}
+use Rattle.compute_command.specs.Checked.{CheckedSo, IsChecked, OneMoreChecked, end_by}
 use Rattle.compute_command.specs.Rests.{AnswersEnd, HasRest, IsRest, Takes, Turns, room_behind}
 use Rattle.compute_command.specs.Votes.{most_votes, votes_of}
 use Rattle.compute_command.proofs.NextVotes.{no_more, none_yet, one_vote_more, then_fault}
@@ -109,9 +109,6 @@ module _ (rules : Rules) (wanted : Compute) where
         let ended = turns (room_behind is.votes) is.behind is.rest
         (behind_short arrived.0 old (length piece) is arrived.2) in
         omega (arith, is.checked.count, ended.2)
-
-    pub has_room : HasRoom old.votes.count old.votes.kept
-    has_room = arrived.1.checked.room
 
     pub ends_short : old.start + count < 2 ^ 61
     ends_short =

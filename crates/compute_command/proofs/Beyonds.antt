@@ -5,16 +5,16 @@ use Rattle.std.proofs.Common.{◌<◌, ◌≤◌, ◌^◌, append-nil, length-ap
 use Rattle.std.specs.Option.{option_map}
 use Rattle.std.specs.Prelude.{IfSome, unwrap_or}
 use Rattle.item_terms.specs.Items as model
-use Rattle.item_terms.specs.Items.{Contents, contents, no_limit, nothing}
+use Rattle.item_terms.specs.Items.{Contents, contents, nothing}
 use Rattle.item_terms.specs.declared.fault.DocFault.{DocFault}
 use Rattle.item_feeder.proofs.FaultPlaces.{fault_within}
 use Rattle.dirdoc_grammar.specs.declared.cursor.Cursor.{Cursor}
 use Rattle.dirdoc_grammar.specs.declared.take.Take.{Take}
 use Rattle.dirdoc_grammar.specs.declared.take.Take.TheVariants as taken
-use Rattle.dirdoc_grammar.specs.Cursors.{IsAt, behind, fed_by}
-use Rattle.dirdoc_grammar.specs.Feeding.{Fed, IfItem, MayFollow, Takes, left_with}
+use Rattle.dirdoc_grammar.specs.Cursors.{IsAt, fed_by}
+use Rattle.dirdoc_grammar.specs.Feeding.{IfItem, MayFollow, Takes, left_with}
 use Rattle.dirdoc_grammar.specs.Seen.{LiesInOrder, seen_item}
-use Rattle.dirdoc_grammar.proofs.Cursors.{at_behind, at_more}
+use Rattle.dirdoc_grammar.proofs.Cursors.{at_more}
 use Rattle.frame_terms.specs.Decisions.{beginning_reason}
 use Rattle.frame_terms.specs.Keywords.{word_of}
 use Rattle.frame_terms.specs.declared.fault.FrameFault.{FrameFault}
@@ -25,8 +25,7 @@ use Rattle.frame_terms.specs.declared.fault.ReadRefusal.{ReadRefusal}
 use Rattle.frame_terms.specs.declared.fault.ReadRefusal.TheVariants.{Frame}
 use Rattle.blank_lines.specs.Behind.{fault_behind}
 use Rattle.vote_frame.specs.Tables.{vote_tables}
-use Rattle.compute_command.specs.Beyonds.{EndsBeyond, HasTooMany, ReadsFront, fault_of}
-use Rattle.compute_command.specs.Furthers.{IsFurther}
+use Rattle.compute_command.specs.Beyonds.{EndsBeyond, ReadsFront, fault_of}
 use Rattle.compute_command.specs.Votes.{by_first, item_too_many, one_more_of}
 
 -- why there is one more, by what the bytes hold
@@ -41,34 +40,6 @@ sees bytes more cursor finished_ is =
     ∙ ap (λ (k : ℕ). by_contents (contents cursor.limit k nothing (drop k bytes ++ more))) (sym is.place)
 
 -- ---- what it gives
-
--- what it gives where more may follow is so whatever follows
-too_many : (bytes : List ℕ) (cursor new : Cursor) (given : Take) (own : FrameFault) → ReadsFront bytes cursor
-    → Takes (fed_by cursor bytes false) given (fed_by new bytes false) → fault_of given ≡ Some own
-    → HasTooMany bytes own
-too_many bytes cursor new (taken.Item item) own is takes known more =
-    sees bytes more cursor false is
-    ∙ ap (λ (c : Contents). by_contents c) (takes.0 more tt)
-    ∙ ap (λ (o : Option FrameFault). option_map (λ f. Frame f) o) known
-too_many bytes cursor new (taken.Fault found) own is takes known more =
-    sees bytes more cursor false is
-    ∙ ap (λ (c : Contents). by_contents c) (takes.0 more tt)
-    ∙ ap (λ (o : Option FrameFault). option_map (λ f. Frame f) o) known
-too_many bytes cursor new taken.NotYet own is takes known more = absurd (cc known)
-too_many bytes cursor new taken.End own is takes known more = absurd (cc known)
-
-pub always : (start : ℕ) (bytes : List ℕ) (cursor new : Cursor) (given : Take) (told : Option FrameFault)
-    → ReadsFront bytes cursor → Takes (fed_by cursor bytes false) given (fed_by new bytes false)
-    → told ≡ option_map (fault_behind start) (fault_of given)
-    → IfSome told (λ fault. IsFurther start (λ own. HasTooMany bytes own) fault)
-always start bytes cursor new given told is takes same =
-    subst (λ (o : Option FrameFault). IfSome o (λ fault. IsFurther start (λ own. HasTooMany bytes own) fault)) (sym same)
-    (by (fault_of given) refl)
-  where
-    by : (known : Option FrameFault) → fault_of given ≡ known
-        → IfSome (option_map (fault_behind start) known) (λ fault. IsFurther start (λ own. HasTooMany bytes own) fault)
-    by None e = tt
-    by (Some own) e = (own, refl, too_many bytes cursor new given own is takes e)
 
 -- what it gives where none follows is so of these bytes
 alone : (bytes : List ℕ) (cursor new : Cursor) (given : Take) → ReadsFront bytes cursor
@@ -162,10 +133,6 @@ short_view start all bytes view is same short =
     omega (arith, size, short)
 
 -- ---- a reader
-
--- a reader of no bytes
-pub at_front : ReadsFront [] (behind no_limit 0)
-at_front = record { reads = at_behind no_limit 0 [] (omega arith); limit = refl; place = refl }
 
 -- and of more bytes
 pub front_more : (bytes piece all : List ℕ) (cursor : Cursor) → all ≡ bytes ++ piece → ReadsFront bytes cursor

@@ -1,9 +1,9 @@
 -- The command over a source: what was read of it, and what it answers then.
 use Rattle.std.proofs.Common.{◌≡◌, ◌∙◌, ℕ, ◌+◌, ◌<◌, ◌≤◌, ◌^◌, List, [], ◌++◌, length, Option, Some, None}
 use Rattle.std.proofs.Common.{Result, Ok, Err}
-use Rattle.std.proofs.Common.{refl, sym, ap, subst, inl, inr, arith, length-append, append-nil}
+use Rattle.std.proofs.Common.{refl, sym, ap, subst, inl, inr, arith, length-append}
 use Rattle.std.specs.Global.{Vec}
-use Rattle.std.specs.Io.KnownBytes.{Consumes, IsAtEnd, Keeps}
+use Rattle.std.specs.Io.KnownBytes.{Consumes, Keeps}
 use Rattle.dir_bytes.specs.Causes.{Rose}
 use Rattle.dir_bytes.specs.Streams.{TakesAtMost}
 use Rattle.dir_bytes.proofs.Appending.{consumes_more}
@@ -22,7 +22,6 @@ use Rattle.compute_command.specs.declared.refusal.EndRefusal.{EndRefusal}
 use Rattle.compute_command.specs.declared.refusal.EndRefusal.TheVariants as end
 use Rattle.compute_command.specs.declared.refusal.VoteListRefusal.TheVariants as list
 use Rattle.compute_command.specs.declared.arriving.Arriving.{Arriving}
-use Rattle.compute_command.specs.declared.halt.Halt.{Halt}
 use Rattle.compute_command.specs.declared.halt.Halt.TheVariants as halt
 use Rattle.compute_command.specs.Answers.{ComputeAnswers}
 use Rattle.compute_command.specs.Arriving.{ComputesFrom, EndsAll, EndsSo, HasReadVotes, HasWhole}
@@ -149,15 +148,6 @@ tells_none count None none = record {
   told = λ lt. absurd (omega (arith, lt));
 }
 tells_none count (Some why) none = absurd (cc none)
-
--- no vote is refused where votes are held
-pub held_untold : (before now : ℕ) (first : Option AcceptRefusal) (accepted : Holding) (A : Type 0) → TellsFirst before now first
-    → TellsEnd first (Ok accepted) → before < now → A
-held_untold before now first accepted A tells none lt = absurd (by first none (tells.told lt))
-  where
-    by : (o : Option AcceptRefusal) → o ≡ None → o ≡ Some accept.Verifier → ⊥
-    by None e is = cc is
-    by (Some why) e is = cc e
 
 -- the verifier's fault is told only where it failed
 pub end_told : (before now : ℕ) (first : Option AcceptRefusal) (why : Stop EndRefusal) → TellsFirst before now first

@@ -94,12 +94,6 @@ same_items d = simp (append-nil, digest_items, over_items, signed_items) refl
 abbrev said_at : Keyword → DetachedKind → List Saying → List (Spoken Saying)
 said_at keyword k values = map (λ (s : Saying). spoken keyword (as_said k s)) values
 
-abbrev in_three : List AdditionalDigest → List DetachedLine → List (Spoken Saying)
-in_three digests lines =
-    said_at the.AdditionalDigest kind.AdditionalDigest (map other digests)
-    ++ (said_at the.AdditionalSignature kind.AdditionalSignature (filter_map over_if lines)
-    ++ (said_at the.DirectorySignature kind.Signature (filter_map signed_if_plain lines) ++ []))
-
 digests_first : (l : List AdditionalDigest) → others_of (said_at the.AdditionalDigest kind.AdditionalDigest
     (map other l)) ≡ l
 digests_first [] = refl

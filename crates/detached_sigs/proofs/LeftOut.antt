@@ -1,10 +1,10 @@
 -- The signers among the keys so far, where the others are left out.
-use Rattle.std.proofs.Common.{◌≡◌, ℕ, ◌+◌, ◌<◌, ◌≤◌, List, [], ◌∷◌, ◌++◌, length, get_or, take, drop, true, sym, ap, subst, ◌∙◌, arith}
+use Rattle.std.proofs.Common.{◌≡◌, ℕ, ◌+◌, ◌<◌, List, [], ◌∷◌, ◌++◌, length, get_or, take, drop, true, sym, ap, subst, ◌∙◌, arith}
 use Rattle.std.proofs.lemmas.Grind.{common_steps}
-use Rattle.std.proofs.lemmas.List.{append_assoc, drop_all, drop_more, take_all, take_more}
+use Rattle.std.proofs.lemmas.List.{append_assoc, drop_more, take_more}
 use Rattle.std.proofs.lemmas.List.Elements.{All-nil, All-cons, All-head, All-tail}
-use Rattle.std.specs.Prelude.{All, AllPairs, Contains, ◌⊎◌, remove}
-use Rattle.dir_values.proofs.Orders.{AllPairs-head, AllPairs-tail, AllPairs-nil}
+use Rattle.std.specs.Prelude.{All, AllPairs, remove}
+use Rattle.dir_values.proofs.Orders.{AllPairs-head, AllPairs-tail}
 use Rattle.key_port.specs.Answers.{Rules}
 use Rattle.consensus_terms.specs.declared.signature.SignatureLine.{SignatureLine}
 use Rattle.detached_sigs.specs.declared.key.SignerKey.{SignerKey}
@@ -29,20 +29,6 @@ apart_from_one (first ∷ asked) key rest apart =
     All-cons (λ other. AreApart other key) first asked
     (in_between (AreApart first) asked key rest (AllPairs-head AreApart first (asked ++ key ∷ rest) apart))
     (apart_from_one asked key rest (AllPairs-tail AreApart first (asked ++ key ∷ rest) apart))
-
--- none was asked of yet
-pub none_yet : (rules : Rules) (digest : List ℕ) (lines : List SignatureLine) (all keys : List SignerKey) → keys ≡ all
-    → AreSoFar rules digest lines all keys 0
-none_yet rules digest lines all keys is = record {
-  asked = [];
-  all_is = sym is;
-  are = record {
-    members = All-nil (Contains []);
-    once = AllPairs-nil AreApart;
-    signed = All-nil (λ key. has_good_line rules digest lines key ≡ true);
-    others = All-nil (λ key. Contains [] key ⊎ (has_bad_lines rules digest lines key ≡ true));
-  };
-}
 
 one_asked : (asked : List SignerKey) (key : SignerKey) (rest all left : List SignerKey) → all ≡ asked ++ left → left ≡ key ∷ rest
     → all ≡ (asked ++ key ∷ []) ++ rest
@@ -93,6 +79,3 @@ one_signs_not rules digest lines all keys new place d lt is so bad =
           (sym (front_stays keys place lt))
           (other_more rules digest so.asked key lines (take place keys) so.are bad);
     })
-
-no_more : (asked all : List SignerKey) → all ≡ asked ++ [] → asked ≡ all
-no_more asked all is = grind (arith, common_steps, is)

@@ -85,17 +85,6 @@ at_more bytes more cursor is =
       no_nl = omega (arith, is.no_nl, grows (drop line bytes) more, ap first_line_len (drop-append-le line bytes more (omega (arith, is.later, within))));
     }
 
-pub at_end : (bytes : List ℕ) (cursor : Cursor) → IsAt bytes cursor → NoNl bytes cursor.stop.line (length bytes) → IsAt bytes (record cursor { scanned = length bytes })
-at_end bytes cursor is none = record {
-  item = is.item;
-  stands = is.stands;
-  taken = is.taken;
-  order = is.order;
-  later = omega (arith, is.later, is.within);
-  within = omega arith;
-  no_nl = none;
-}
-
 -- past some lines of an object
 pub at_line : (bytes : List ℕ) (cursor : Cursor) (begin line : ℕ) → IsAt bytes cursor → cursor.stop.phase ≡ Object begin → Past cursor.limit begin bytes cursor.stop.line line → cursor.stop.line ≤ line → line ≤ length bytes
     → IsAt bytes (record cursor { stop = record { item = cursor.stop.item; line = line; phase = cursor.stop.phase }; scanned = line })

@@ -103,9 +103,6 @@ record Later (n : ℕ) (found : Option DocFault) : Type 0 where
   is : found ≡ Some fault
   later : IsLater n fault
 
-place_of : DocFault → ℕ
-place_of fault = fault.place
-
 far_by : (near : Bool) (a b n : ℕ) → IsLater n (cond near (at a DocumentTooLong) (at b LineTooLong))
 far_by true a b n e = let h : DocumentTooLong ≡ Unterminated = ap (λ (f : DocFault). f.reason) e in absurd cc
 far_by false a b n e = let h : LineTooLong ≡ Unterminated = ap (λ (f : DocFault). f.reason) e in absurd cc

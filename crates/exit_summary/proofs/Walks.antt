@@ -4,7 +4,7 @@ use Rattle.std.proofs.Common.{refl, ap, ◌∙◌}
 use Rattle.std.proofs.Common.{arith, map, Some, drop-cons}
 use Rattle.std.specs.Prelude.{nat_le, ◌&&◌, filter, slice_get, if◌then◌else◌}
 use Rattle.std.specs.Option.{option_map}
-use Rattle.std.proofs.lemmas.Bool.{lt-leb, le-leb, and_from, and_left, and_right}
+use Rattle.std.proofs.lemmas.Bool.{lt-leb, le-leb, and_from}
 use Rattle.std.proofs.lemmas.List.{drop_all}
 use Rattle.std.proofs.lemmas.Option.{slice_get-map, slice_get-get_or}
 use Rattle.dir_values.specs.declared.policy.PolicyItem.{PolicyItem}
@@ -34,15 +34,6 @@ walk_at rejected items i port lt =
     let rest = λ (n : ℕ). filter (covers port) (drop n items) in
     ap (λ (l : List PolicyItem). accepts_after rejected (filter (covers port) l)) (drop-cons items i none lt)
     ∙ ap (λ (n : ℕ). first_if (covers port item) rejected item (rest n)) one
-
--- an item that does not speak of the port is passed over
-passed_over : (rejected : ℕ) (items : List PolicyItem) (i port : ℕ) → i < length items
-    → covers port (get_or items i none) ≡ false
-    → accepted_from rejected items i port ≡ accepted_from rejected items (i + 1) port
-passed_over rejected items i port lt other =
-    let item = get_or items i none in
-    walk_at rejected items i port lt
-    ∙ ap (λ (b : Bool). first_if b rejected item (filter (covers port) (drop (i + 1) items))) other
 
 -- What an item has of a port, in a list of items at a place.
 pub record Covers (items : List PolicyItem) (i port : ℕ) : Type 0 where

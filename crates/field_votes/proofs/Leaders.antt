@@ -1,6 +1,6 @@
 -- The value that leads of all is the chosen one.
 use Rattle.std.proofs.Common.{◌≡◌, ℕ, ◌<◌, ◌⊎◌, Bool, true, false, not, ◌&&◌, ltb, eqb, List, [], ◌∷◌, Option, Some, None, refl, sym, ap, ◌∙◌, inl, inr, ⊎_elim, arith}
-use Rattle.std.specs.Prelude.{count_by, filter, length, take, ◌+◌, ◌++◌, get_or, slice_get, option_and_then, if◌then◌else◌}
+use Rattle.std.specs.Prelude.{length, take, ◌+◌, ◌++◌, get_or, slice_get, option_and_then, if◌then◌else◌}
 use Rattle.std.proofs.lemmas.Option.{same_Some, slice_get_read, slice_get_cases}
 use Rattle.std.proofs.lemmas.List.{take_more}
 use Rattle.std.proofs.lemmas.List.Sums.{fold-append}
@@ -8,10 +8,9 @@ use Rattle.std.specs.List.{find, fold, list_all}
 use Rattle.std.specs.declared.cmp.Ordering.{Ordering}
 use Rattle.std.specs.declared.cmp.Ordering.TheVariants.{Less, Equal, Greater}
 use Rattle.std.specs.Cmp.{IsTotalOrder}
-use Rattle.std.specs.Ordering.{is_eq, is_gt, ordering_reverse}
+use Rattle.std.specs.Ordering.{is_gt, ordering_reverse}
 use Rattle.std.proofs.lemmas.Cmp.{tied_itself}
 use Rattle.std.proofs.lemmas.Bool.{false≢true}
-use Rattle.std.proofs.lemmas.List.Sums.{length-filter}
 use Rattle.std.proofs.lemmas.Bool.Decides.{nat_tests}
 use Rattle.count_terms.specs.Choosing.{times, outdoes, chosen}
 use Rattle.field_votes.specs.Leading.{after, leader}
@@ -35,13 +34,6 @@ module _ {A : Type 0} where
   all_in : (p : A → Bool) (xs : List A) (x : A) → list_all p xs ≡ true → In x xs → p x ≡ true
   all_in p [] x h i = absurd i
   all_in p (y ∷ ys) x h i = ⊎_elim (λ (e : x ≡ y). ap p e ∙ first_true (p y) (list_all p ys) h) (λ t. all_in p ys x (last_true (p y) (list_all p ys) h) t) i
-
-  filter_same : (p q : A → Bool) → ((x : A) → p x ≡ q x) → (xs : List A) → filter p xs ≡ filter q xs
-  filter_same p q same [] = refl
-  filter_same p q same (x ∷ xs) = rw (same x, filter_same p q same xs) refl
-
-  count_same : (p q : A → Bool) → ((x : A) → p x ≡ q x) → (xs : List A) → count_by p xs ≡ count_by q xs
-  count_same p q same xs = sym (length-filter p xs) ∙ ap (λ (l : List A). length l) (filter_same p q same xs) ∙ length-filter q xs
 
   -- the only member that passes is what is found
   found_by : (b : Bool) (p : A → Bool) (y : A) (ys : List A) (r : A) → p y ≡ b → In r (y ∷ ys) → p r ≡ true

@@ -1,11 +1,11 @@
 -- Rows that say a text, a moment, an identity or an object, and what is read of them.
-use Rattle.std.proofs.Common.{◌≡◌, ℕ, ◌≤◌, true, false, List, [], ◌∷◌, Option, Some, None, refl, ap, ◌∙◌, arith}
+use Rattle.std.proofs.Common.{◌≡◌, ℕ, ◌≤◌, false, List, [], ◌∷◌, Option, Some, None, refl, ap, ◌∙◌, arith}
 use Rattle.std.specs.Prelude.{IfSome, map, option_map}
 use Rattle.std.proofs.lemmas.Bool.{both_ways}
 use Rattle.dir_bytes.specs.Causes.{last_moment}
 use Rattle.dir_bytes.specs.FieldTexts.{hex_text, moment_text}
 use Rattle.dir_values.specs.declared.digest.Fingerprint.{Fingerprint}
-use Rattle.frame_terms.specs.Rows.{is_many, is_one}
+use Rattle.frame_terms.specs.Rows.{is_one}
 use Rattle.frame_terms.specs.Tables.{Tables}
 use Rattle.frame_terms.specs.declared.document.Taken.{Taken}
 use Rattle.frame_terms.specs.declared.keyword.Keyword.{Keyword}
@@ -16,9 +16,9 @@ use Rattle.frame_values.specs.Values.{fingerprint_in, item_at, number_in, object
 use Rattle.frame_values.specs.declared.values.Value.{Value}
 use Rattle.frame_values.specs.declared.values.Value.TheVariants as value
 use Rattle.frame_laws.proofs.Both.{both_hold}
-use Rattle.frame_laws.proofs.Entries.{AlwaysSuits, Entry, after_one, all_taken, item_of}
-use Rattle.frame_laws.proofs.ReadRows.{IsRead, Stand, item_of_row}
-use Rattle.frame_laws.proofs.SaidRows.{EachSuits, IsSaid, RowSays, items_at, row_once}
+use Rattle.frame_laws.proofs.Entries.{AlwaysSuits, Entry, item_of}
+use Rattle.frame_laws.proofs.ReadRows.{IsRead, item_of_row}
+use Rattle.frame_laws.proofs.SaidRows.{IsSaid, RowSays, row_once}
 use Rattle.frame_laws.proofs.StandingParts.{once, rest_part, spelled}
 use Rattle.frame_laws.proofs.WrittenItems.{lines_at, rest_at}
 
@@ -107,12 +107,6 @@ module _ {S K W X : Type 0} where
   said_any_if tables row None optional suits = said_if tables row None (λ t. Unit {0}) optional tt (λ t is. suits t)
   said_any_if tables row (Some text) optional suits =
       said_if tables row (Some text) (λ t. Unit {0}) optional tt (λ t is. suits t)
-
-  each_text : (tables : Tables S K (Value W) X) (row : Row K) (texts : List (List ℕ))
-      → ((t : List ℕ) → AlwaysSuits tables row (text_entry row.keyword t))
-      → EachSuits tables row (map (text_entry row.keyword) texts)
-  each_text tables row [] suits = tt
-  each_text tables row (text ∷ texts) suits = both_hold (suits text) (each_text tables row texts suits)
 
 -- ---- what is read of them
 

@@ -1,7 +1,7 @@
 -- How a document goes on whose bytes arrive.
-use Rattle.std.proofs.Common.{◌≡◌, ◌∙◌, ℕ, ◌≤◌, List, [], ◌∷◌, ◌++◌, length, drop, append_assoc, Some, None, Result, Ok, Err, sym, ap, subst}
+use Rattle.std.proofs.Common.{◌≡◌, ◌∙◌, ℕ, ◌≤◌, List, ◌++◌, length, drop, append_assoc, Result, Ok, Err, sym, ap, subst}
 use Rattle.std.proofs.lemmas.List.{drop-append-le}
-use Rattle.item_terms.specs.Items.{Item, Contents, contents, nothing, also, failed_contents}
+use Rattle.item_terms.specs.Items.{Contents, contents, nothing, failed_contents}
 use Rattle.dirdoc_grammar.specs.declared.cursor.Cursor.{Cursor}
 use Rattle.dirdoc_grammar.specs.Cursors.{fed_by}
 use Rattle.frame_reader.specs.declared.arriving.Reached.{Reached}
@@ -16,26 +16,11 @@ use Rattle.frame_terms.specs.Documents.{read_items, finish}
 use Rattle.frame_terms.specs.Refusals.{of_doc, Fails}
 use Rattle.frame_terms.specs.Tables.{Tables}
 use Rattle.frame_reader.specs.Arriving.{goes_on, whole_of, ReadsOn, Follows, Feeds}
-use Rattle.frame_reader.specs.Turning.{Turns}
-
--- how what is left of a document is told apart
-abbrev Left : Fed → Fed → Item → Type 0
-Left old new item = (more : List ℕ) → MayFollow false more → left_with old more ≡ also (Some item) (left_with new more)
 
 -- how the document has gone on so far
 abbrev pub SoFar : {S K V X F : Type 0} → (F → S → List (Taken V) → F) → Tables S K V X → Fed → X → Open S V → F → Fed → X → Open S V → F → Type 0
 SoFar with_ tables old across open_ facts new remembered next kept =
     (length : ℕ) (more : List ℕ) → goes_on with_ tables old across open_ facts length more ≡ goes_on with_ tables new remembered next kept length more
-
-at_item : {S K V X F : Type 0} (with_ : F → S → List (Taken V) → F) (tables : Tables S K V X) (mid new : Fed) (item : Item) (across : X) (open_ : Open S V) (facts : F) → Left mid new item → (length : ℕ) (more : List ℕ)
-    → goes_on with_ tables mid across open_ facts length more ≡ finish with_ facts (read_items tables length across open_ (left_with new more).fault (item ∷ (left_with new more).items))
-at_item with_ tables mid new item across open_ facts left length more =
-    ap (λ (c : Contents). finish with_ facts (read_items tables length across open_ c.fault c.items)) (left more tt)
-
-pub item_taken : {S K V X F : Type 0} (with_ : F → S → List (Taken V) → F) (tables : Tables S K V X) (old mid new : Fed) (item : Item) (x0 x1 x2 : X) (o0 o1 o2 : Open S V) (f0 f1 f2 : F)
-    → SoFar with_ tables old x0 o0 f0 mid x1 o1 f1 → Left mid new item → Turns with_ tables item x1 o1 f1 x2 o2 f2 (Ok None) → SoFar with_ tables old x0 o0 f0 new x2 o2 f2
-item_taken with_ tables old mid new item x0 x1 x2 o0 o1 o2 f0 f1 f2 so left turns length more =
-    so length more ∙ at_item with_ tables mid new item x1 o1 f1 left length more ∙ turns length (left_with new more).fault (left_with new more).items
 
 pub fault_met : {S K V X F : Type 0} (with_ : F → S → List (Taken V) → F) (tables : Tables S K V X) (old mid : Fed) (fault : DocFault) (x0 x1 : X) (o0 o1 : Open S V) (f0 f1 : F)
     → SoFar with_ tables old x0 o0 f0 mid x1 o1 f1 → ((more : List ℕ) → MayFollow false more → left_with mid more ≡ failed_contents fault)

@@ -82,10 +82,6 @@ has_end limit place line is =
     by true is = refl
     by false is = absurd (cc is)
 
-some_size : (text : List ℕ) (t : Bool) → t ≡ true → 1 ≤ length text + (if t then 1 else 0)
-some_size text true e = omega arith
-some_size text false e = absurd (cc e)
-
 pub ends_all : (limit place : ℕ) (open_ : Open) (ls : List Line) (items : List Item) (last : Open)
     → Reads limit place open_ ls items last → AllEnded ls
 ends_all limit place open_ [] items last is = tt

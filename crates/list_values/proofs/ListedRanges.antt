@@ -1,27 +1,17 @@
 -- The numbers of ranges, one range after the other.
-use Rattle.std.proofs.Common.{◌≡◌, ℕ, ◌<◌, Bool, true, false, List, [], ◌∷◌, Some, None, Option, refl, sym, ap, ◌∙◌}
+use Rattle.std.proofs.Common.{◌≡◌, ℕ, ◌<◌, Bool, true, false, List, ◌∷◌, Some, None, Option, refl, sym, ap, ◌∙◌}
 use Rattle.std.specs.Prelude.{◌||◌, bit_or}
 use Rattle.std.specs.Option.{option_map}
 use Rattle.list_values.specs.declared.number_range.NumberRange.{NumberRange}
-use Rattle.list_values.specs.Lending.{numbers_if}
-use Rattle.list_values.specs.Masks.{is_set, numbers_of}
+use Rattle.list_values.specs.Masks.{is_set}
 use Rattle.list_values.specs.NumberSets.{in_range, in_ranges, numbers_that}
 use Rattle.list_values.specs.Protocols.{all_of}
-use Rattle.list_values.proofs.Bits.{set_either, set_none}
+use Rattle.list_values.proofs.Bits.{set_either}
 use Rattle.list_values.proofs.NumberLists.{same_numbers}
 
 -- the numbers of a mask, and of ranges that are left
 abbrev pub numbers_after : ℕ → List (Option NumberRange) → Option (List ℕ)
 numbers_after mask left = option_map (λ ranges. numbers_that (λ n. is_set mask n || in_ranges ranges n)) (all_of left)
-
--- at first
-pub after_first : (left : List (Option NumberRange)) → numbers_after 0 left ≡ numbers_if (all_of left)
-after_first left = by (all_of left)
-  where
-    by : (o : Option (List NumberRange)) → option_map (λ ranges. numbers_that (λ n. is_set 0 n || in_ranges ranges n)) o ≡ numbers_if o
-    by None = refl
-    by (Some ranges) = ap Some (same_numbers (λ n. is_set 0 n || in_ranges ranges n) (in_ranges ranges)
-        (λ n lt. ap (λ (b : Bool). b || in_ranges ranges n) (set_none n)))
 
 or_assoc : (a b c : Bool) → (a || (b || c)) ≡ ((a || b) || c)
 or_assoc true b c = refl
@@ -42,11 +32,3 @@ after_more mask more range left its = by (all_of left)
         (λ n lt. or_assoc (is_set mask n) (in_range range n) (in_ranges ranges n)
         ∙ ap (λ (b : Bool). (is_set mask n || b) || in_ranges ranges n) (sym (its n lt))
         ∙ ap (λ (b : Bool). b || in_ranges ranges n) (sym (set_either mask more n))))
-
-or_false : (a : Bool) → (a || false) ≡ a
-or_false true = refl
-or_false false = refl
-
--- where none is left
-pub after_last : (mask : ℕ) → numbers_after mask [] ≡ Some (numbers_of mask)
-after_last mask = ap Some (same_numbers (λ n. is_set mask n || false) (is_set mask) (λ n lt. or_false (is_set mask n)))

@@ -9,7 +9,7 @@ use Rattle.std.proofs.lemmas.List.{drop_all}
 use Rattle.item_terms.specs.Lines.{lines}
 use Rattle.blank_lines.specs.Blanks.{after_blanks, first_other}
 use Rattle.mirror_core.specs.Inputs.{Stand, StandsAt}
-use Rattle.mirror_core.specs.Reads.{FaultAt, IsThere, RefusesAll}
+use Rattle.mirror_core.specs.Reads.{IsThere}
 
 -- where a line that is not blank follows, bytes are left
 pub some_left : (bytes : List ℕ) (place begin : ℕ) → Some begin ≡ after_blanks place bytes → place < length bytes
@@ -50,16 +50,3 @@ module _ {X : Type 0} (document_of : List ℕ → Result (X × ℕ) ReadRefusal)
     next_is = there.next_is;
     text_is = is;
   }
-
-  -- a fault behind some
-  pub fails_behind : (bytes : List ℕ) (documents : List (X × List ℕ)) (place : ℕ) (refusal : ReadRefusal)
-      → Stand document_of bytes 0 documents place → FaultAt document_of bytes place refusal → RefusesAll document_of bytes refusal
-  fails_behind bytes documents place (read.Frame fault) stand fails = record {
-    documents = documents;
-    last = place;
-    found = fails.0;
-    stand = stand;
-    fails = fails.1;
-    fault_is = fails.2;
-  }
-  fails_behind bytes documents place read.Memory stand fails = tt

@@ -1,6 +1,5 @@
 pub mod Apps
 pub mod Options
-pub mod PeerLists
 pub mod Comings
 pub mod Rows
 pub mod Batches

@@ -1,8 +1,8 @@
 -- An authority stands so after each change.
-use Rattle.std.proofs.Common.{◌≡◌, ℕ, ◌+◌, ◌*◌, ◌^◌, ◌<◌, ◌≤◌, true, false, Option, Some, None, List, [], ◌∷◌}
+use Rattle.std.proofs.Common.{◌≡◌, ℕ, ◌+◌, ◌<◌, ◌≤◌, true, false, Option, Some, None, List, [], ◌∷◌}
 use Rattle.std.proofs.Common.{◌++◌, length, refl, sym, ap, ◌∙◌, subst, arith}
 use Rattle.std.specs.List.{filter}
-use Rattle.std.specs.Prelude.{not, ◌&&◌, ◌||◌}
+use Rattle.std.specs.Prelude.{not}
 use Rattle.std.proofs.lemmas.List.{length_push}
 use Rattle.dir_bytes.specs.Causes.{last_moment}
 use Rattle.dir_values.specs.declared.digest.Fingerprint.{Fingerprint}
@@ -42,10 +42,6 @@ stage_few Frozen = omega arith
 stage_few Computed = omega arith
 stage_few Signed = omega arith
 stage_few Ended = omega arith
-
--- the number of changes is small
-pub small : (s : State) → IsStanding s → s.front < 2 ^ 63
-small s i = omega (arith, i.agrees.front, i.base, i.moment, room s i, stage_few s.stage, i.few)
 
 -- so many signatures are held at most
 pub few_ns : (s : State) → IsStanding s → length s.ns_lines ≤ 32

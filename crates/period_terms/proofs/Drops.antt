@@ -1,40 +1,21 @@
 -- Signatures of which an authority's are dropped, one by one.
-use Rattle.std.proofs.Common.{◌≡◌, ◌≤◌, ◌<◌, ◌+◌, ℕ, suc, true, false, List, [], ◌∷◌, ◌++◌, length}
+use Rattle.std.proofs.Common.{◌≡◌, ◌<◌, ◌+◌, ℕ, suc, true, List, ◌∷◌, ◌++◌, length}
 use Rattle.std.proofs.Common.{take, drop}
 use Rattle.std.proofs.Common.{get_or, refl, sym, ap, ◌∙◌, arith}
 use Rattle.std.specs.List.{remove}
-use Rattle.std.proofs.lemmas.List.{take_more, drop_more, append_assoc, take_all, drop_all, take_at, drop_at}
-use Rattle.std.proofs.lemmas.List.{length-take-le, append-nil}
+use Rattle.std.proofs.lemmas.List.{drop_more, take_at, drop_at}
+use Rattle.std.proofs.lemmas.List.{length-take-le}
 use Rattle.std.proofs.lemmas.List.Edits.{length-remove}
 use Rattle.dir_values.specs.declared.digest.Fingerprint.{Fingerprint}
 use Rattle.dir_values.specs.Digests.{same_identity}
 use Rattle.consensus_terms.specs.declared.signature.SignatureLine.{SignatureLine}
 use Rattle.period_terms.specs.Dropping.{DropsAt, dropped_from, lines_but}
 
--- the line at a place stays
-but_other : (lines : List SignatureLine) (line : SignatureLine) (rest : List SignatureLine) (identity : Fingerprint)
-    → lines ≡ line ∷ rest → same_identity line.identity identity ≡ false → lines_but lines identity ≡ line ∷ lines_but
-    rest identity
-but_other lines line rest identity e n = rw (e, n) refl
-
 -- or goes
 but_own : (lines : List SignatureLine) (line : SignatureLine) (rest : List SignatureLine) (identity : Fingerprint)
     → lines ≡ line ∷ rest → same_identity line.identity identity ≡ true → lines_but lines identity ≡ lines_but rest
     identity
 but_own lines line rest identity e n = rw (e, n) refl
-
-pub stays_at : (old : List SignatureLine) (at : ℕ) (line : SignatureLine) (identity : Fingerprint) → at < length old
-    → line ≡ get_or old at line → same_identity line.identity identity ≡ false → DropsAt identity old at old (at + 1)
-stays_at old at line identity lt is n = record {
-  same = ap (λ l. l ++ lines_but (drop (at + 1) old) identity) (take_more old at line lt
-      ∙ ap (λ y. take at old ++ y ∷ []) (sym is))
-      ∙ append_assoc (take at old) (line ∷ []) (lines_but (drop (at + 1) old) identity)
-      ∙ ap (λ l. take at old ++ l) (sym (but_other (drop at old) line (drop (at + 1) old) identity
-      (drop_more old at line lt ∙ ap (λ y. y ∷ drop (at + 1) old) (sym is)) n));
-  within = omega (arith, lt);
-  few = omega arith;
-  fewer = omega arith;
-}
 
 -- what is left where one is taken away
 gone : (old : List SignatureLine) (at : ℕ) (line : SignatureLine) (identity : Fingerprint) → at < length old

@@ -49,9 +49,6 @@ pub record IsOneSection {S K V X : Type 0} (tables : Tables S K V X) (first : Ro
   pub ends : must_open tables (following_sections tables tables.first) ≡ None
   pub forgets : Forgets tables
 
-no_items : Contents
-no_items = record { items = []; fault = None }
-
 nothing_left : (limit place : ℕ) → contents limit place nothing [] ≡ record { items = []; fault = None }
 unfolding contents_of
 nothing_left limit place = refl

@@ -1,34 +1,32 @@
 -- Kinds of items, each with its facts as one record: lines of columns, with an object or without, moments, rests of
 -- lines,
 -- objects alone, and words that are wanted.
-use Rattle.std.proofs.Common.{◌≡◌, ℕ, ◌/◌, ◌*◌, ◌≤◌, Bool, true, false, List, [], ◌∷◌, Option, Some, None, Result, Ok}
+use Rattle.std.proofs.Common.{◌≡◌, ℕ, ◌/◌, ◌*◌, ◌≤◌, true, List, [], ◌∷◌, Option, Some, None, Result, Ok}
 use Rattle.std.proofs.Common.{Err, refl, sym, ap, subst, ◌∙◌, arith, ◌+◌, ◌%◌}
-use Rattle.std.specs.Prelude.{IfSome, unwrap_or, if◌then◌else◌}
+use Rattle.std.specs.Prelude.{IfSome, unwrap_or}
 use Rattle.std.specs.List.{join_with_byte}
 use Rattle.std.specs.Option.{option_and_then, option_map}
-use Rattle.std.proofs.lemmas.List.Elements.{All-cons, All-nil}
-use Rattle.std.specs.Str.{bytes_eq}
 use Rattle.dir_bytes.specs.Fields.{date, time_of_day}
 use Rattle.dir_bytes.specs.FieldTexts.{clock_text, date_text, moment_text}
 use Rattle.dir_bytes.proofs.ReadAgain.{date-date_text, time_of_day-clock_text}
 use Rattle.dir_bytes.specs.Causes.{last_moment}
-use Rattle.item_terms.specs.Items.{Item, Object}
+use Rattle.item_terms.specs.Items.{Item}
 use Rattle.item_terms.specs.Words.{words_of}
 use Rattle.dirdoc_grammar.specs.Bodies.{body_text}
 use Rattle.dirdoc_grammar.specs.Writing.{IsLineRest, IsWritableObject}
 use Rattle.grammar_laws.proofs.WrittenBytes.{decoded-body_text}
-use Rattle.frame_values.specs.Arguments.{arguments_of, front, next}
+use Rattle.frame_values.specs.Arguments.{arguments_of, next}
 use Rattle.frame_values.specs.Faults.{at_place}
-use Rattle.frame_values.specs.Lines.{literal, rest_of, time_of}
+use Rattle.frame_values.specs.Lines.{rest_of, time_of}
 use Rattle.frame_values.specs.Parts.{bytes_in, moment_of, part}
 use Rattle.frame_values.specs.Signatures.{object_of}
 use Rattle.frame_values.specs.declared.found.Span.{Span}
-use Rattle.frame_laws.proofs.Words.{IsWord, two_words, word_of_clock, word_of_date, words_of-join}
+use Rattle.frame_laws.proofs.Words.{two_words, word_of_clock, word_of_date, words_of-join}
 use Rattle.frame_laws.proofs.StandingParts.{rest_part}
-use Rattle.row_laws.proofs.Ties.{plain, any_gives, Gives, Tied, and_gives, and_next, and_said, behind_it, first_text}
+use Rattle.row_laws.proofs.Ties.{plain, any_gives, Gives, Tied, and_gives, and_next, and_said, behind_it}
 use Rattle.row_laws.proofs.Ties.{each_is, head_word, in_item, object_means, object_tied, tail_words}
 use Rattle.row_laws.proofs.ItemArguments.{IsSound}
-use Rattle.row_laws.proofs.Spoken.{Rest, Words, new_words, object_words, words_in}
+use Rattle.row_laws.proofs.Spoken.{Rest, Words, new_words, words_in}
 use Rattle.row_laws.proofs.Columns.{Line, LineLaws}
 
 -- ---- an item
@@ -213,64 +211,3 @@ four_with (Ok x) (Ok y) (Err e) d s make of = refl
 four_with (Ok x) (Ok y) (Ok z) (Err e) s make of = refl
 four_with (Ok x) (Ok y) (Ok z) (Ok u) (Err e) make of = refl
 four_with (Ok x) (Ok y) (Ok z) (Ok u) (Ok v) make of = refl
-
--- ---- an object alone, whose words pass a test
-
--- an object whose words pass a test, which is written with these
-abbrev pub an_object : (Option Object → Bool) → List ℕ → Kind Span (List ℕ)
-an_object test named = record {
-  read = λ (item : Item). object_of (test item.object) item;
-  said = λ bytes. bytes_in bytes;
-  means = λ (words : Words). object_means (test words.object) words.object;
-  write = λ b. record { rest = []; object = Some (record { words = named; bytes = b }) };
-}
-
-pub object_laws : (test : Option Object → Bool) (named : List ℕ) →
-    ((o : Option Object) → test (object_words o) ≡ test o)
-    → ((t : List ℕ) → test (Some (record { words = named; start = 0; text = t })) ≡ true)
-    → KindLaws (an_object test named) (λ b. Unit {0}) (λ b. Unit {0})
-object_laws test named alike passes = record {
-  tied = λ bytes item sound.
-      subst (λ (t : Bool). Tied (bytes_in bytes) (object_of (test item.object) item)
-      (object_means t (object_words item.object)))
-      (sym (alike item.object)) (object_tied (test item.object) bytes item sound.in_place);
-  again = λ b is object.
-      ap (λ (t : Bool). object_means t (Some (record { words = named; start = 0; text = body_text b })))
-      (passes (body_text b))
-      ∙ ap (λ (o : Option (List ℕ)). Some (unwrap_or o [])) (decoded-body_text b object.bytes);
-  fits = λ words rest. any_gives (object_means (test words.object) words.object);
-}
-
--- ---- one word that is wanted
-
--- this word
-abbrev pub a_literal : List ℕ → Kind (Unit {0}) (Unit {0})
-a_literal word = record {
-  read = literal word;
-  said = λ bytes u. u;
-  means = λ (words : Words). if bytes_eq (head_word (words_of words.arguments)) word then Some tt else None;
-  write = λ u. record { rest = word; object = None };
-}
-
-pub literal_laws : (word : List ℕ) → IsWord word → bytes_eq word word ≡ true
-    → KindLaws (a_literal word) (λ u. Unit {0}) (λ u. Unit {0})
-literal_laws word is same_ = record {
-  tied = λ bytes item sound.
-      subst (λ (t : List ℕ). Tied {A = Unit {0}} {F = Unit {0}} (λ u. u) (literal word item)
-      (if bytes_eq t word then Some tt else None))
-      (first_text item.place (in_item sound))
-      (by (bytes_eq (front item.place (arguments_of item)).text word) (front item.place (arguments_of item)).place);
-  again = λ u may object.
-      ap (λ (ws : List (List ℕ)). wanted (head_word ws)) (words_of-join (word ∷ [])
-      (All-cons IsWord word [] is (All-nil IsWord)))
-      ∙ ap (λ (t : Bool). if t then Some tt else None) same_;
-  fits = λ words rest. any_gives (wanted (head_word (words_of words.arguments)));
-}
-  where
-    wanted : List ℕ → Option (Unit {0})
-    wanted t = if bytes_eq t word then Some tt else None
-
-    by : (t : Bool) (place : ℕ) → Tied {A = Unit {0}} {F = Unit {0}} (λ u. u) (if t then Ok tt else Err place)
-        (if t then Some tt else None)
-    by true place = refl
-    by false place = tt

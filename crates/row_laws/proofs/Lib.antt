@@ -12,7 +12,6 @@ pub mod Written
 pub mod Sayings
 pub mod Again
 pub mod InRange
-pub mod Moved
 pub mod Columns
 pub mod ItemKinds
 pub mod Signatures

@@ -62,23 +62,6 @@ module _ {V F : Type 0} (said : V → F) where
       by None = refl
       by (Some a) = refl
 
--- ---- of what was written
-
--- no value of a list gives something
-pub none_given : {A F B : Type 0} (h : F → Option B) (g : A → F) (values : List A) → ((a : A) → h (g a) ≡ None)
-    → filter_map h (map g values) ≡ []
-none_given h g [] none = refl
-none_given {B = B} h g (a ∷ values) none =
-    ap (λ (o : Option B). cons_option o (filter_map h (map g values))) (none a) ∙ none_given h g values none
-
--- each does
-pub all_given : {A F B : Type 0} (h : F → Option B) (g : A → F) (b : A → B) (values : List A)
-    → ((a : A) → h (g a) ≡ Some (b a)) → filter_map h (map g values) ≡ map b values
-all_given h g b [] each = refl
-all_given {B = B} h g b (a ∷ values) each =
-    ap (λ (o : Option B). cons_option o (filter_map h (map g values))) (each a)
-    ∙ ap (λ (l : List B). b a ∷ l) (all_given h g b values each)
-
 -- ---- section by section
 
 -- what holds of nothing, and of what is kept with one more section, holds of what is kept of all

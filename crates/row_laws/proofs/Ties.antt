@@ -62,13 +62,6 @@ pub same_told : {A : Type 0} (o : Option A) → Told (λ (a : A). a) o o
 same_told None = tt
 same_told (Some a) = refl
 
--- at a place of the input
-pub at_fault : {A F : Type 0} (s : A → F) (r : Result A ℕ) (o : Option F) → Tied s r o → Tied s (at_place r) o
-at_fault s (Ok a) (Some f) is = is
-at_fault s (Ok a) None is = absurd is
-at_fault s (Err e) (Some f) is = absurd is
-at_fault s (Err e) None is = tt
-
 -- ---- arguments
 
 -- the first word, and an empty one where there is none

@@ -3,7 +3,7 @@ use Rattle.std.proofs.Common.{◌≡◌, ℕ, List, ◌++◌, None, Option, sym,
 use mathlib.Core.List.{IsPrefix}
 use Rattle.period_lock.specs.Turns.{Lock, Knowledge, OwnsItsPart, TakesTurn, entries, entry_by}
 use Rattle.period_lock.proofs.Entries.{entries-entry_by}
-use Rattle.serve_board.specs.Turns.{Stands, TakesEvent, TakesReading, AnswersThere, FindsThere}
+use Rattle.serve_board.specs.Turns.{TakesEvent, TakesReading, AnswersThere, FindsThere}
 
 module _ {S X : Type 0} (after : S → List X → S) (IsStory : S → List X → Type 0) where
   module _ {A R E : Type 0} (lock : Lock S) (before then : Knowledge S X) (answers : S → List X → R → E → Type 0)
@@ -51,9 +51,3 @@ module _ {S X : Type 0} (after : S → List X → S) (IsStory : S → List X →
               number = turn.number;
               of = turn.of;
             }
-
-  -- a value that is left stands for the list without one more entry
-  pub stands_same : (value start : S) (story : List X) → Stands after IsStory value start story
-      → Stands after IsStory value start (story ++ option_to_list None)
-  stands_same value start story stands =
-      subst (λ (l : List X). Stands after IsStory value start l) (sym (append-nil story)) stands

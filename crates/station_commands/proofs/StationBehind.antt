@@ -6,12 +6,12 @@ use Rattle.frame_terms.specs.declared.fault.ReadRefusal.{ReadRefusal}
 use Rattle.frame_terms.specs.declared.fault.ReadRefusal.TheVariants as read
 use Rattle.flag_rules.specs.Rules.{AreApart}
 use Rattle.bandwidth_file.specs.declared.file.BandFile.{BandFile}
-use Rattle.station_input.specs.Reading.{ReadsStation, station_of}
+use Rattle.station_input.specs.Reading.{ReadsStation}
 use Rattle.station_input.specs.declared.facts.StationFacts.{StationFacts}
 use Rattle.station_laws.specs.Once.{RelaysAreNamedOnce}
 use Rattle.blank_lines.specs.Behind.{FitsBehind}
 use Rattle.station_laws.proofs.InputFaults.{station_within}
-use Rattle.station_commands.specs.Private.{GivesStationBehind, fault_behind}
+use Rattle.station_commands.specs.Private.{GivesStationBehind}
 use Rattle.station_commands.specs.WithFile.{told_from, told_station}
 
 -- what was read from a place on stands there
@@ -27,15 +27,6 @@ stands_behind newest file start bytes rest given told used same within once read
       omega (arith, here.1, long, within),
       subst (λ (t : StationFacts). AreApart t.rules) (sym is) (once newest (drop start bytes) given used here.0).rules,
     )
-
--- or it is refused for its first fault
-pub faulty_behind : (newest : Newest) (file : BandFile) (start : ℕ) (bytes rest : List ℕ) (refused : ReadRefusal)
-    → rest ≡ drop start bytes → ReadsStation newest rest (Err refused)
-    → GivesStationBehind newest file start bytes (Err (fault_behind start refused))
-faulty_behind newest file start bytes rest read.Memory same is = tt
-faulty_behind newest file start bytes rest (read.Frame fault) same is =
-    ap (told_from file start)
-    (subst (λ (r : List ℕ). station_of newest r ≡ Err (read.Frame fault)) same is)
 
 -- its place in the input is a number of 64 bits
 pub fits_behind : (newest : Newest) (start : ℕ) (bytes rest : List ℕ) (refused : ReadRefusal) → rest ≡ drop start bytes

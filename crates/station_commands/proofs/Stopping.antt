@@ -97,15 +97,6 @@ makes_pool rules newest start bytes place number pool full have ended found = re
   pool_is = have.pool_is;
 }
 
--- but it may be the verifier's
-pub verifier_is : (why : Stop PoolRefusal) → of_pool why ≡ stop.Refused refusal.Verifier
-    → why ≡ stop.Refused descriptors.Verifier
-verifier_is stop.Memory is = absurd (cc is)
-verifier_is (stop.Refused (descriptors.Fault fault)) is = absurd (cc is)
-verifier_is (stop.Refused (descriptors.Descriptor number why)) is = absurd (cc is)
-verifier_is (stop.Refused descriptors.Full) is = absurd (cc is)
-verifier_is (stop.Refused descriptors.Verifier) is = refl
-
 -- ---- what is answered for a station, call by call
 
 module _ {N : Type 0} (rules : Rules) (gives : Relation) (steps : SignerSteps N) (now : ℕ) (given : StationFacts) (used : ℕ)

@@ -1,7 +1,7 @@
 -- What a feeder knows of the bytes that it takes.
 use Rattle.std.proofs.Common.{◌≡◌, ◌∙◌, ℕ, ◌+◌, ◌-◌, ◌≤◌, ◌⊎◌, List, [], ◌++◌, length, take, drop}
 use Rattle.std.proofs.Common.{Option, Some, None, Ok, Err, refl, sym, ap, subst, inl, inr, arith}
-use Rattle.std.specs.Prelude.{min, option_to_list}
+use Rattle.std.specs.Prelude.{min}
 use Rattle.std.proofs.lemmas.List.{append-nil, length-append, length-take, take_all, take-append-drop, take-append-le}
 use Rattle.dirdoc_grammar.specs.declared.cursor.Cursor.{Cursor}
 use Rattle.item_feeder.specs.Feeders.{KeepsWithin}
@@ -48,12 +48,6 @@ all_kept bytes beside none = ap (λ (b : Option ℕ). taken_of bytes b) none ∙
 pub kept_within : (bytes : List ℕ) (beside : Option ℕ) → KeepsWithin max_vote bytes beside → length bytes ≤ max_vote
 kept_within bytes None h = h
 kept_within bytes (Some b) h = omega (arith, h)
-
--- how many are kept
-pub held_is : (bytes : List ℕ) (beside : Option ℕ) → KeepsWithin max_vote bytes beside
-    → length bytes ≡ min (length (taken_of bytes beside)) max_vote
-held_is bytes None h = omega (arith, h, length-append bytes [])
-held_is bytes (Some b) h = omega (arith, h, length-append bytes (option_to_list (Some b)))
 
 -- what is known already
 pub known_by : (now : State) (bytes : List ℕ) (beside : Option ℕ) (cursor : Cursor) (across : Across) (open_ : Begun)
@@ -119,12 +113,6 @@ knows_then (intake.Whole taken) old part all bytes beside cursor across open_ ke
     subst (λ (l : List ℕ). IsKeptOf l kept) (sym same) takes.2
 knows_then (intake.Fault taken fault) old part all bytes beside cursor across open_ kept takes same few =
     subst (λ (l : List ℕ). EndsSo l (Err (Frame fault))) (sym same) takes.2
-
-pub counted : (given : Intake) (old part all : List ℕ) (cursor : Cursor) (across : Across) (open_ : Begun) (kept : Kept)
-    → TakesIn old part all cursor across open_ kept given → count_of (length part) given ≤ length part
-counted intake.All old part all cursor across open_ kept takes = omega arith
-counted (intake.Whole taken) old part all cursor across open_ kept takes = takes.0
-counted (intake.Fault taken fault) old part all cursor across open_ kept takes = takes.0
 
 all_then : (given : Intake) (old part all : List ℕ) (cursor : Cursor) (across : Across) (open_ : Begun) (kept : Kept)
     → TakesIn old part all cursor across open_ kept given → all ≡ old ++ take (count_of (length part) given) part
@@ -229,21 +217,6 @@ kept_then given old part all bytes beside before blank now cursor across open_ k
     }
 
 -- ---- what is told again
-
-pub tells : (given : Fed) (bytes piece : List ℕ) → IsKnown bytes (Some given) → Feeds bytes piece bytes given
-tells fed.All bytes piece known = absurd known
-tells (fed.Whole taken) bytes piece known =
-    let zero_ = known.0 in (
-      omega (arith, zero_),
-      sym (append-nil bytes) ∙ ap (λ (n : ℕ). bytes ++ take n piece) (sym zero_),
-      known.1,
-    )
-tells (fed.Fault taken) bytes piece known =
-    let zero_ = known.0 in (
-      omega (arith, zero_),
-      sym (append-nil bytes) ∙ ap (λ (n : ℕ). bytes ++ take n piece) (sym zero_),
-      known.1,
-    )
 
 pub tells_whole : (given : Fed) (bytes : List ℕ) → IsKnown bytes (Some given) → IsWhole bytes → given ≡ fed.Whole 0
 tells_whole fed.All bytes known whole = absurd known
