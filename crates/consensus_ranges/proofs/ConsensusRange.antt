@@ -1,5 +1,5 @@
 -- What is read of a consensus is in range.
-use Rattle.std.proofs.Common.{◌≡◌, ℕ, true, List, [], ◌∷◌, ◌++◌, length, Result, Ok, Err, refl, sym, ap}
+use Rattle.std.proofs.Common.{◌≡◌, ℕ, true, List, [], length, Result, Ok, Err, refl, sym, ap}
 use Rattle.std.proofs.Common.{subst}
 use Rattle.std.specs.Prelude.{All}
 use Rattle.std.proofs.lemmas.List.Elements.{All-filter, All-nil, All-push}
@@ -24,7 +24,7 @@ use Rattle.consensus_doc.specs.Drafts.{no_draft, router_of, source_of, with_sect
 use Rattle.consensus_doc.specs.Reading.{consensus_as, consensus_in, consensus_of, flavour_of, max_consensus}
 use Rattle.consensus_doc.specs.Reading.{with_consensus}
 use Rattle.consensus_laws.specs.Again.{AreFactsInRange, Ascending, IsAuthorityInRange, IsRouterInRange}
-use Rattle.consensus_laws.specs.Again.{IsSignatureInRange, facts_as_read, known_signatures}
+use Rattle.consensus_laws.specs.Again.{facts_as_read, known_signatures}
 use Rattle.consensus_laws.proofs.ConsensusAgain.{same_again}
 use Rattle.document_laws.specs.Counts.{RowsStand}
 use Rattle.row_laws.proofs.KindRanges.{read_is}

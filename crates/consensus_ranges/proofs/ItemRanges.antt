@@ -1,6 +1,6 @@
 -- What the items of a consensus say is in range, by their kinds, and so are its signatures.
-use Rattle.std.proofs.Common.{◌≡◌, ℕ, Bool, true, cond, List, [], ◌∷◌, Option, Some, None, Result, Ok, Err, refl, sym, ap}
-use Rattle.std.proofs.Common.{subst, ◌∙◌}
+use Rattle.std.proofs.Common.{◌≡◌, ℕ, Bool, true, cond, List, [], ◌∷◌, Option, Some, None, Result, Ok, Err, refl, sym}
+use Rattle.std.proofs.Common.{ap, subst, ◌∙◌}
 use Rattle.std.specs.Prelude.{All, IfSome}
 use Rattle.std.specs.List.{filter}
 use Rattle.std.proofs.lemmas.List.Elements.{All-append, All-cons, All-head, All-nil, All-tail}
@@ -152,7 +152,8 @@ IsSignatureRead line = IsSignatureInRange line × (is_known line.algorithm ≡ t
 
 -- the name of an algorithm is a word that spells no identity, and is known
 named : (a : Option Algorithm)
-    → (is_argument (algorithm_name a) ≡ true) × (fingerprint (algorithm_name a) ≡ None) × (is_known (algorithm_name a) ≡ true)
+    → (is_argument (algorithm_name a) ≡ true) × (fingerprint (algorithm_name a) ≡ None)
+    × (is_known (algorithm_name a) ≡ true)
 unfolding hex
 named None = (refl, refl, refl)
 named (Some Sha1) = (refl, refl, refl)

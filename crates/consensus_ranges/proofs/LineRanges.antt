@@ -1,31 +1,26 @@
 -- What is read of the lines that a consensus alone has is in range.
-use Rattle.std.proofs.Common.{◌≡◌, ℕ, ◌+◌, ◌*◌, ◌<◌, ◌≤◌, ◌^◌, Bool, true, false, List, [], ◌∷◌, Option, Some, None}
+use Rattle.std.proofs.Common.{◌≡◌, ℕ, ◌≤◌, Bool, true, false, List, [], ◌∷◌, Option, Some, None}
 use Rattle.std.proofs.Common.{Result, Ok, Err, refl, subst}
 use Rattle.std.specs.Prelude.{IfSome, codes, not, ◌||◌}
 use Rattle.std.specs.Option.{option_map}
 use Rattle.std.specs.Str.{bytes_eq}
 use Rattle.std.proofs.lemmas.Bool.{cond_both}
 use Rattle.base64.specs.GeneralPurpose.{IsBytes}
-use Rattle.dir_bytes.specs.Fields.{address, date, time_of_day}
 use Rattle.item_terms.specs.Items.{Item}
 use Rattle.item_terms.specs.Words.{strip}
 use Rattle.dir_values.specs.Arguments.{Argument}
 use Rattle.dir_values.specs.Digests.{digest2}
-use Rattle.dir_values.specs.Names.{is_nickname}
-use Rattle.dir_values.specs.Numbers.{port_of}
 use Rattle.dir_values.specs.declared.algorithm.Algorithm.{Algorithm}
 use Rattle.dir_values.specs.declared.digest.Digest1.{Digest1}
 use Rattle.dir_values.specs.declared.digest.Digest2.{Digest2}
-use Rattle.dir_values.specs.declared.digest.Fingerprint.{Fingerprint}
-use Rattle.frame_values.specs.Arguments.{arguments_of, field, front, next, others}
-use Rattle.frame_values.specs.Fields.{is_there, span_if}
+use Rattle.frame_values.specs.Arguments.{arguments_of, field, front, others}
+use Rattle.frame_values.specs.Fields.{is_there}
 use Rattle.frame_values.specs.Ranges.{AreTwenty}
 use Rattle.frame_values.specs.Values.{no_digest}
 use Rattle.frame_values.specs.Signatures.{after_algorithm, algorithm_if, known_signature_of, signed_by, signed_if}
 use Rattle.frame_values.specs.Signatures.{space_of}
-use Rattle.frame_values.specs.declared.found.Span.{Span}
 use Rattle.frame_values.specs.declared.found.VoteSignature.{VoteSignature}
-use Rattle.relay_entries.specs.Fields.{identity, with_argument}
+use Rattle.relay_entries.specs.Fields.{with_argument}
 use Rattle.relay_entries.specs.declared.said.Bandwidths.{Bandwidths}
 use Rattle.relay_entries.specs.declared.said.RelayLine.{RelayLine}
 use Rattle.group_laws.specs.Ranges.{AreBandwidthsInRange, AreThirtyTwo}
@@ -41,7 +36,7 @@ use Rattle.row_laws.proofs.ItemArguments.{AreFound, IsSound, are_found, others_f
 use Rattle.row_laws.proofs.ReadSteps.{ReadAs, any_reads, field_reads, front_bytes, if_reads, next_reads}
 use Rattle.range_laws.proofs.EntryReads.{thirty_two, with_either_ranged}
 use Rattle.range_laws.proofs.LineReads.{IsSigned, signed_reads}
-use Rattle.range_laws.proofs.RelayReads.{IsNickname, digest_reads, ip_reads, nickname_reads, port_reads, twenty_reads}
+use Rattle.range_laws.proofs.RelayReads.{IsRelayOf, digest_reads, relay_with_reads}
 
 -- ---- relays
 
@@ -55,13 +50,8 @@ digest_ranged Ns digest is = is
 digest_ranged Microdesc digest is = tt
 
 -- a relay, as its flavour has it
-pub record IsRelayIn (flavour : Flavour) (bytes : List ℕ) (line : RelayLine) : Type 0 where
-  pub nickname : IsNickname bytes line.nickname
-  pub identity : AreTwenty line.identity.0
-  pub digest : IsDigestOf flavour line.digest
-  pub ip : line.ip < 2 ^ 32
-  pub or_port : line.or_port ≤ 65535
-  pub dir_port : line.dir_port ≤ 65535
+abbrev pub IsRelayIn : Flavour → List ℕ → RelayLine → Type 0
+IsRelayIn flavour = IsRelayOf (IsDigestOf flavour)
 
 -- the digest of a descriptor, where the flavour has it
 digest_here_reads : (flavour : Flavour) (bytes : List ℕ) (item : ℕ) (arguments : List Argument) → IsBytes bytes
@@ -74,45 +64,12 @@ digest_here_reads Microdesc bytes item arguments are found = refl
 pub relay_reads : (flavour : Flavour) (bytes : List ℕ) (item : Item) → IsBytes bytes → IsSound bytes item
     → ReadAs (IsRelayIn flavour bytes) (relay_of flavour item)
 relay_reads flavour bytes item are sound =
-    let a0 = arguments_of item in
-    let a1 = others a0 in
-    let a2 = others a1 in
-    let a3 = after_digest flavour a2 in
-    let a4 = others a3 in
-    let a5 = others a4 in
-    let a6 = others a5 in
-    let a7 = others a6 in
-    let found0 = are_found sound in
-    let found1 = others_found bytes a0 found0 in
-    let found2 = others_found bytes a1 found1 in
-    let t0 = front item.place a0 in
-    let t1 = front item.place a1 in
-    let t3 = front item.place a3 in
-    let t4 = front item.place a4 in
-    let t5 = front item.place a5 in
-    let t6 = front item.place a6 in
-    let t7 = front item.place a7 in
-    let f0 = field t0 (span_if (is_nickname t0.text) t0) in
-    let f1 = field t1 (identity t1.text) in
-    let f2 = digest_here flavour item.place a2 in
-    let f3 = field t3 (date t3.text) in
-    let f4 = field t4 (time_of_day t4.text) in
-    let f5 = field t5 (address t5.text) in
-    let f6 = field t6 (port_of t6.text) in
-    let f7 = field t7 (port_of t7.text) in
-    let Line : RelayLine → Type 0 = IsRelayIn flavour bytes in
-    let Any : ℕ → Type 0 = λ n. Unit {0} in
-    next_reads (IsNickname bytes) Line f0 _ (nickname_reads bytes item.place a0 found0) (λ n is_n.
-    next_reads (λ (key : Fingerprint). AreTwenty key.0) Line f1 _
-    (twenty_reads t1 t1.text (front_bytes bytes item.place a1 are found1)) (λ k is_k.
-    next_reads (λ (digest : Digest1). IsDigestOf flavour digest) Line f2 _
-    (digest_here_reads flavour bytes item.place a2 are found2) (λ g is_g.
-    next_reads Any Line f3 _ (any_reads f3) (λ x is_x.
-    next_reads Any Line f4 _ (any_reads f4) (λ y is_y.
-    next_reads (λ (i : ℕ). i < 2 ^ 32) Line f5 _ (ip_reads t5) (λ i is_i.
-    next_reads (λ (o : ℕ). o ≤ 65535) Line f6 _ (port_reads t6) (λ o is_o.
-    next_reads (λ (d : ℕ). d ≤ 65535) Line f7 _ (port_reads t7) (λ d is_d.
-    record { nickname = is_n; identity = is_k; digest = is_g; ip = is_i; or_port = is_o; dir_port = is_d }))))))))
+    let from_key = others (arguments_of item) in
+    let from_digest = others from_key in
+    let found = others_found bytes from_key (others_found bytes (arguments_of item) (are_found sound)) in
+    relay_with_reads (IsDigestOf flavour) bytes item (digest_here flavour item.place from_digest)
+    (after_digest flavour from_digest) are sound
+    (digest_here_reads flavour bytes item.place from_digest are found)
 
 -- ---- the digest of a microdescriptor
 

@@ -1,4 +1,4 @@
--- The relays of a consensus ascend by identity, each once: the first item of each relay comes behind what is remembered,
+-- The relays of a consensus ascend by identity, each once: the first item of each comes behind what is remembered,
 -- and what is remembered never goes back, whatever an item says.
 use Rattle.std.proofs.Common.{◌≡◌, ℕ, Bool, true, false, List, [], ◌∷◌, ◌++◌, Option, Some, None, Result, Ok, Err}
 use Rattle.std.proofs.Common.{refl, sym, ap, subst, ◌∙◌}
@@ -129,8 +129,8 @@ first_noted flavour before after item one t note opens =
     let says =
     by_own_row (consensus_tables flavour) [] section.Router before item one the.R (row the.R One kind.Relay) t opens
     refl in
-    said_of_any SaysNext (relay_of flavour item) (λ (line : RelayLine). value.Own (own.Entry (said.Relay line))) one.value
-    (placed (value_at flavour before kind.Relay item) one.value says)
+    said_of_any SaysNext (relay_of flavour item) (λ (line : RelayLine). value.Own (own.Entry (said.Relay line)))
+    one.value (placed (value_at flavour before kind.Relay item) one.value says)
     (λ line a b place is. relay_noted a b place line is) before after one.place note
 
 -- ---- relays that ascend
@@ -230,7 +230,8 @@ module _ (flavour : Flavour) (bytes : List ℕ) where
 
   ascending : (length : ℕ) (fault : Option DocFault) → Rules (consensus_tables flavour) length fault Rest
   ascending length fault = record {
-    closes = λ across name taken around missing no_fault draft is. (kept_up draft name taken (last_of across) is).ascend;
+    closes = λ across name taken around missing no_fault draft is.
+        (kept_up draft name taken (last_of across) is).ascend;
     passes = λ across open_ item items document may rest draft is. rest draft is;
     starts = λ across next item items document one may note rest draft is. rest draft tt;
     adds = λ across next name first taken around item items document one may note rest draft is.

@@ -258,7 +258,8 @@ router_read flavour bytes are taken each counts =
         or_port = line.or_port;
         dir_port = line.dir_port;
         a = item_is flavour bytes are section.Router taken each the.A _ refl (address_is flavour)
-            (λ o. option_map (part bytes) (text_if o)) (λ o. IfSome o IsAddressInRange) (λ none. tt) (λ one span is. is);
+            (λ o. option_map (part bytes) (text_if o)) (λ o. IfSome o IsAddressInRange) (λ none. tt)
+            (λ one span is. is);
         m = micro_ranged flavour bytes are taken each;
         flags = names_are flavour bytes are section.Router taken each the.S _ refl (flags_are flavour);
         w = item_is flavour bytes are section.Router taken each the.W _ refl (bandwidth_is flavour) bandwidth_in

@@ -6,23 +6,16 @@ use Rattle.std.proofs.lemmas.Bool.{leb-true}
 use Rattle.item_terms.specs.Bytes.{line_feed, space}
 use Rattle.item_terms.specs.Faults.{max_line}
 use Rattle.item_terms.specs.Items.{Item}
-use Rattle.dir_bytes.specs.Fields.{address}
 use Rattle.dir_bytes.specs.FieldTexts.{address_text, hex_text}
-use Rattle.dir_values.specs.Digests.{fingerprint}
-use Rattle.dir_values.specs.Names.{is_nickname}
-use Rattle.dir_values.specs.Numbers.{port_of}
-use Rattle.dir_values.specs.declared.digest.Fingerprint.{Fingerprint}
 use Rattle.dirdoc_grammar.specs.Writing.{tail}
-use Rattle.frame_values.specs.Arguments.{arguments_of, field, front, next, others}
-use Rattle.frame_values.specs.Fields.{is_there, span_if}
+use Rattle.frame_values.specs.Arguments.{arguments_of, front, others}
 use Rattle.frame_values.specs.Lines.{source_of}
 use Rattle.frame_values.specs.Parts.{part}
 use Rattle.frame_values.specs.declared.found.DirSource.{DirSource}
-use Rattle.frame_values.specs.declared.found.Span.{Span}
 use Rattle.frame_values.specs.declared.values.Value.{Value}
 use Rattle.frame_values.specs.declared.values.Value.TheVariants as value
-use Rattle.row_laws.proofs.ItemArguments.{IsSound, are_found, front_found, others_found}
-use Rattle.row_laws.proofs.ReadSteps.{ReadAs, any_reads, next_reads, no_fault, span_reads, was_read}
+use Rattle.row_laws.proofs.ItemArguments.{IsSound}
+use Rattle.row_laws.proofs.ReadSteps.{ReadAs, next_reads, no_fault, was_read}
 use Rattle.station_input.specs.Lines.{own_of}
 use Rattle.station_input.specs.Sources.{fits_line, names_part, ports_part, source_line}
 use Rattle.station_input.specs.Tables.{over_limit, value_at}
@@ -30,8 +23,7 @@ use Rattle.station_input.specs.declared.frame.StationKind.TheVariants as kind
 use Rattle.station_input.specs.declared.frame_said.StationValue.{StationValue}
 use Rattle.station_input.specs.declared.frame_said.StationValue.TheVariants as own
 use Rattle.frame_terms.specs.declared.keyword.Keyword.{Keyword}
-use Rattle.range_laws.proofs.LineReads.{source_made}
-use Rattle.range_laws.proofs.RelayReads.{nickname_there}
+use Rattle.range_laws.proofs.LineReads.{IsNamed, named_reads}
 use Rattle.range_laws.proofs.TextSizes.{tail_short}
 use Rattle.maker_laws.proofs.ItemLines.{FitsLine}
 use Rattle.maker_laws.proofs.StationReads.{own_if}
@@ -76,53 +68,6 @@ line_fits : (nickname host : List ℕ) (source : DirSource) → fits_line nickna
 line_fits nickname host source fits = leb-true (length (source_line nickname host source)) max_line fits
 
 -- ---- what is read
-
--- the nickname and the host name stand in the input as the arguments say
-abbrev IsNamed : List ℕ → List ℕ → List ℕ → DirSource → Type 0
-IsNamed bytes name host source = (part bytes source.nickname ≡ name) × (part bytes source.address ≡ host)
-
-named_reads : (bytes : List ℕ) (item : Item) → IsSound bytes item
-    → ReadAs (IsNamed bytes (front item.place (arguments_of item)).text
-    (front item.place (others (others (arguments_of item)))).text) (source_of item)
-named_reads bytes item sound =
-    let a0 = arguments_of item in
-    let a1 = others a0 in
-    let a2 = others a1 in
-    let a3 = others a2 in
-    let a4 = others a3 in
-    let a5 = others a4 in
-    let found0 = are_found sound in
-    let found2 = others_found bytes a1 (others_found bytes a0 found0) in
-    let t0 = front item.place a0 in
-    let t1 = front item.place a1 in
-    let t2 = front item.place a2 in
-    let t3 = front item.place a3 in
-    let t4 = front item.place a4 in
-    let t5 = front item.place a5 in
-    let f0 = field t0 (span_if (is_nickname t0.text) t0) in
-    let f1 = field t1 (fingerprint t1.text) in
-    let f2 = field t2 (span_if (is_there t2.text) t2) in
-    let f3 = field t3 (address t3.text) in
-    let f4 = field t4 (port_of t4.text) in
-    let f5 = field t5 (port_of t5.text) in
-    let m5 = λ (n : Span) (k : Fingerprint) (h : Span) (i d o : ℕ). source_made n k h i d o in
-    let m4 = λ (n : Span) (k : Fingerprint) (h : Span) (i d : ℕ). next f5 (m5 n k h i d) in
-    let m3 = λ (n : Span) (k : Fingerprint) (h : Span) (i : ℕ). next f4 (m4 n k h i) in
-    let m2 = λ (n : Span) (k : Fingerprint) (h : Span). next f3 (m3 n k h) in
-    let m1 = λ (n : Span) (k : Fingerprint). next f2 (m2 n k) in
-    let m0 = λ (n : Span). next f1 (m1 n) in
-    let Named : DirSource → Type 0 = IsNamed bytes t0.text t2.text in
-    let Any : ℕ → Type 0 = λ n. Unit {0} in
-    next_reads (λ (n : Span). part bytes n ≡ t0.text) Named f0 m0
-    (span_reads (λ (n : Span). part bytes n ≡ t0.text) t0 (is_nickname t0.text)
-    (λ is. (front_found bytes item.place a0 found0 (nickname_there t0.text is)).part)) (λ n is_n.
-    next_reads (λ (k : Fingerprint). Unit {0}) Named f1 (m1 n) (any_reads f1) (λ k is_k.
-    next_reads (λ (h : Span). part bytes h ≡ t2.text) Named f2 (m2 n k)
-    (span_reads (λ (h : Span). part bytes h ≡ t2.text) t2 (is_there t2.text)
-    (λ some. (front_found bytes item.place a2 found2 some).part)) (λ h is_h.
-    next_reads Any Named f3 (m3 n k h) (any_reads f3) (λ i is_i.
-    next_reads Any Named f4 (m4 n k h i) (any_reads f4) (λ d is_d.
-    next_reads Any Named f5 (m5 n k h i d) (any_reads f5) (λ o is_o. (is_n, is_h)))))))
 
 -- an authority whose line is short
 abbrev pub IsShortSource : List ℕ → DirSource → Type 0

@@ -36,7 +36,7 @@ use Rattle.row_laws.proofs.ReadSteps.{ReadAs, any_reads, field_reads, fingerprin
 use Rattle.row_laws.proofs.ReadSteps.{next_reads, number_within, rest_reads, span_reads}
 use Rattle.range_laws.proofs.ValueTexts.{TextIs}
 use Rattle.range_laws.proofs.ReadNames.{count_words}
-use Rattle.range_laws.proofs.RelayReads.{IsNickname, ip_reads, nickname_reads, port_reads}
+use Rattle.range_laws.proofs.RelayReads.{ip_reads, nickname_there, port_reads, weaker_reads}
 
 -- ---- values
 
@@ -77,28 +77,31 @@ delays_read item =
     next_reads (λ (n : ℕ). n ≤ 4294967295) AreDelays f0 m0 (seconds_read first) (λ a is_a.
     next_reads (λ (n : ℕ). n ≤ 4294967295) AreDelays f1 (m1 a) (seconds_read second) (λ b is_b. (is_a, is_b)))
 
--- an authority of these fields
-abbrev pub source_made : Span → Fingerprint → Span → ℕ → ℕ → ℕ → Result DirSource ℕ
-source_made nickname digest host ip dir_port or_port = Ok (record {
-  nickname = nickname;
-  identity = digest;
-  address = host;
-  ip = ip;
-  dir_port = dir_port;
-  or_port = or_port;
-})
+-- what a span holds passes a test, and is this text
+abbrev IsTested : (List ℕ → Bool) → List ℕ → List ℕ → Span → Type 0
+IsTested test bytes text span = (test (part bytes span) ≡ true) × (part bytes span ≡ text)
 
-abbrev IsHost : List ℕ → Span → Type 0
-IsHost bytes span = is_argument (part bytes span) ≡ true
+-- an authority of this nickname and this host name
+abbrev pub IsNamed : List ℕ → List ℕ → List ℕ → DirSource → Type 0
+IsNamed bytes name host source = (part bytes source.nickname ≡ name) × (part bytes source.address ≡ host)
 
-pub source_reads : (bytes : List ℕ) (item : Item) → IsSound bytes item → ReadAs (IsSourceIn bytes) (source_of item)
-source_reads bytes item sound =
+-- an authority that has the names of a line's first argument and its third
+abbrev pub IsNamedBy : List ℕ → Item → DirSource → Type 0
+IsNamedBy bytes item =
+    let from_name = arguments_of item in
+    IsNamed bytes (front item.place from_name).text (front item.place (others (others from_name))).text
+
+-- such an authority in range
+abbrev IsNamedIn : List ℕ → Item → DirSource → Type 0
+IsNamedIn bytes item source = IsSourceIn bytes source × IsNamedBy bytes item source
+
+named_in_reads : (bytes : List ℕ) (item : Item) → IsSound bytes item → ReadAs (IsNamedIn bytes item) (source_of item)
+named_in_reads bytes item sound =
     let a0 = arguments_of item in
     let a1 = others a0 in
     let a2 = others a1 in
     let a3 = others a2 in
     let a4 = others a3 in
-    let a5 = others a4 in
     let found0 = are_found sound in
     let found2 = others_found bytes a1 (others_found bytes a0 found0) in
     let t0 = front item.place a0 in
@@ -106,30 +109,46 @@ source_reads bytes item sound =
     let t2 = front item.place a2 in
     let t3 = front item.place a3 in
     let t4 = front item.place a4 in
-    let t5 = front item.place a5 in
+    let t5 = front item.place (others a4) in
     let f0 = field t0 (span_if (is_nickname t0.text) t0) in
     let f1 = field t1 (fingerprint t1.text) in
     let f2 = field t2 (span_if (is_there t2.text) t2) in
     let f3 = field t3 (address t3.text) in
     let f4 = field t4 (port_of t4.text) in
     let f5 = field t5 (port_of t5.text) in
-    let m5 = λ (n : Span) (k : Fingerprint) (h : Span) (i d o : ℕ). source_made n k h i d o in
-    let m4 = λ (n : Span) (k : Fingerprint) (h : Span) (i d : ℕ). next f5 (m5 n k h i d) in
-    let m3 = λ (n : Span) (k : Fingerprint) (h : Span) (i : ℕ). next f4 (m4 n k h i) in
-    let m2 = λ (n : Span) (k : Fingerprint) (h : Span). next f3 (m3 n k h) in
-    let m1 = λ (n : Span) (k : Fingerprint). next f2 (m2 n k) in
-    let m0 = λ (n : Span). next f1 (m1 n) in
-    let Source : DirSource → Type 0 = IsSourceIn bytes in
-    next_reads (IsNickname bytes) Source f0 m0 (nickname_reads bytes item.place a0 found0) (λ n is_n.
-    next_reads (λ (key : Fingerprint). AreTwenty key.0) Source f1 (m1 n) (fingerprint_reads t1 t1.text) (λ k is_k.
-    next_reads (IsHost bytes) Source f2 (m2 n k)
-    (span_reads (IsHost bytes) t2 (is_there t2.text) (λ some.
+    let Source : DirSource → Type 0 = IsNamedIn bytes item in
+    next_reads (IsTested is_nickname bytes t0.text) Source f0 _
+    (span_reads (IsTested is_nickname bytes t0.text) t0 (is_nickname t0.text) (λ is.
+    let stands = (front_found bytes item.place a0 found0 (nickname_there t0.text is)).part in
+    (ap is_nickname stands ∙ is, stands))) (λ n is_n.
+    next_reads (λ (key : Fingerprint). AreTwenty key.0) Source f1 _ (fingerprint_reads t1 t1.text) (λ k is_k.
+    next_reads (IsTested is_argument bytes t2.text) Source f2 _
+    (span_reads (IsTested is_argument bytes t2.text) t2 (is_there t2.text) (λ some.
     let found = front_found bytes item.place a2 found2 some in
-    ap is_argument found.part ∙ found_word t2.text some found.word)) (λ h is_h.
-    next_reads (λ (i : ℕ). i < 2 ^ 32) Source f3 (m3 n k h) (ip_reads t3) (λ i is_i.
-    next_reads (λ (d : ℕ). d ≤ 65535) Source f4 (m4 n k h i) (port_reads t4) (λ d is_d.
-    next_reads (λ (o : ℕ). o ≤ 65535) Source f5 (m5 n k h i d) (port_reads t5) (λ o is_o.
-    record { nickname = is_n; identity = is_k; address = is_h; ip = is_i; dir_port = is_d; or_port = is_o }))))))
+    (ap is_argument found.part ∙ found_word t2.text some found.word, found.part))) (λ h is_h.
+    next_reads (λ (i : ℕ). i < 2 ^ 32) Source f3 _ (ip_reads t3) (λ i is_i.
+    next_reads (λ (d : ℕ). d ≤ 65535) Source f4 _ (port_reads t4) (λ d is_d.
+    next_reads (λ (o : ℕ). o ≤ 65535) Source f5 _ (port_reads t5) (λ o is_o. (
+      record {
+        nickname = is_n.0;
+        identity = is_k;
+        address = is_h.0;
+        ip = is_i;
+        dir_port = is_d;
+        or_port = is_o;
+      },
+      (is_n.1, is_h.1),
+    )))))))
+
+pub source_reads : (bytes : List ℕ) (item : Item) → IsSound bytes item → ReadAs (IsSourceIn bytes) (source_of item)
+source_reads bytes item sound =
+    weaker_reads (IsNamedIn bytes item) (IsSourceIn bytes) (source_of item) (λ source is. is.0)
+    (named_in_reads bytes item sound)
+
+pub named_reads : (bytes : List ℕ) (item : Item) → IsSound bytes item → ReadAs (IsNamedBy bytes item) (source_of item)
+named_reads bytes item sound =
+    weaker_reads (IsNamedIn bytes item) (IsNamedBy bytes item) (source_of item) (λ source is. is.1)
+    (named_in_reads bytes item sound)
 
 abbrev signature_made : Option Algorithm → Fingerprint → Digest1 → Span → Result VoteSignature ℕ
 signature_made name signer digest lines =

@@ -7,7 +7,6 @@ use Rattle.item_terms.specs.Items.{Item}
 use Rattle.dir_values.specs.Numbers.{number_of}
 use Rattle.dir_values.specs.declared.digest.Digest2.{Digest2}
 use Rattle.frame_values.specs.Arguments.{arguments_of, field, front, next, others}
-use Rattle.frame_values.specs.declared.values.Value.TheVariants as value
 use Rattle.value_groups.specs.Lines.{random_of}
 use Rattle.value_groups.specs.Values.{padded_digest, without_padding}
 use Rattle.value_groups.specs.declared.line.RandomLine.{RandomLine}

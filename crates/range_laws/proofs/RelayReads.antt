@@ -1,6 +1,6 @@
 -- What the line of a relay, of an address and of flags says is in range.
-use Rattle.std.proofs.Common.{◌≡◌, ℕ, ◌+◌, ◌*◌, ◌<◌, ◌≤◌, ◌^◌, true, List, [], ◌∷◌, Result, Ok, refl, sym, ap, subst}
-use Rattle.std.proofs.Common.{◌∙◌}
+use Rattle.std.proofs.Common.{◌≡◌, ℕ, ◌+◌, ◌*◌, ◌<◌, ◌≤◌, ◌^◌, true, List, [], ◌∷◌, Result, Ok, Err, refl, sym, ap}
+use Rattle.std.proofs.Common.{subst, ◌∙◌}
 use Rattle.std.specs.Prelude.{All}
 use Rattle.std.proofs.lemmas.Bool.{false≢true}
 use Rattle.base64.specs.GeneralPurpose.{IsBytes}
@@ -80,74 +80,97 @@ ip_reads argument =
     field_reads (λ (n : ℕ). n < 2 ^ 32) argument (address argument.text)
     (λ n is. address_within argument.text n is)
 
-abbrev line_made : Span → Fingerprint → Digest1 → ℕ → ℕ → ℕ → ℕ → ℕ → Result RelayLine ℕ
-line_made nickname key digest days seconds ip or_port dir_port = Ok (record {
-  nickname = nickname;
-  identity = key;
-  digest = digest;
-  published = 86400 * days + seconds;
-  ip = ip;
-  or_port = or_port;
-  dir_port = dir_port;
-})
+-- what is read is such as follows from what it is
+pub weaker_reads : {X : Type 0} (P Q : X → Type 0) (read : Result X ℕ) → ((x : X) → P x → Q x) → ReadAs P read
+    → ReadAs Q read
+weaker_reads P Q (Ok x) follows is = follows x is
+weaker_reads P Q (Err place) follows is = tt
+
+-- a relay whose digest is such
+pub record IsRelayOf (IsDigest : Digest1 → Type 0) (bytes : List ℕ) (line : RelayLine) : Type 0 where
+  pub nickname : IsNickname bytes line.nickname
+  pub identity : AreTwenty line.identity.0
+  pub digest : IsDigest line.digest
+  pub ip : line.ip < 2 ^ 32
+  pub or_port : line.or_port ≤ 65535
+  pub dir_port : line.dir_port ≤ 65535
+
+-- the relay that an item says, where its digest is read so, and the date from these arguments
+abbrev pub relay_with : Item → Result Digest1 ℕ → List Argument → Result RelayLine ℕ
+relay_with item digest from_date =
+    let name = front item.place (arguments_of item) in
+    let key = front item.place (others (arguments_of item)) in
+    let day = front item.place from_date in
+    let time = front item.place (others from_date) in
+    let host = front item.place (others (others from_date)) in
+    let or_text = front item.place (others (others (others from_date))) in
+    let dir_text = front item.place (others (others (others (others from_date)))) in
+    next (field name (span_if (is_nickname name.text) name)) (λ n.
+    next (field key (identity key.text)) (λ k.
+    next digest (λ g.
+    next (field day (date day.text)) (λ days.
+    next (field time (time_of_day time.text)) (λ seconds.
+    next (field host (address host.text)) (λ i.
+    next (field or_text (port_of or_text.text)) (λ o.
+    next (field dir_text (port_of dir_text.text)) (λ d. Ok (record {
+      nickname = n;
+      identity = k;
+      digest = g;
+      published = 86400 * days + seconds;
+      ip = i;
+      or_port = o;
+      dir_port = d;
+    })))))))))
+
+pub relay_with_reads : (IsDigest : Digest1 → Type 0) (bytes : List ℕ) (item : Item) (digest : Result Digest1 ℕ)
+    (from_date : List Argument) → IsBytes bytes → IsSound bytes item → ReadAs IsDigest digest
+    → ReadAs (IsRelayOf IsDigest bytes) (relay_with item digest from_date)
+relay_with_reads IsDigest bytes item digest from_date are sound digest_read =
+    let from_key = others (arguments_of item) in
+    let from_ip = others (others from_date) in
+    let found0 = are_found sound in
+    let found1 = others_found bytes (arguments_of item) found0 in
+    let name = front item.place (arguments_of item) in
+    let key = front item.place from_key in
+    let day = front item.place from_date in
+    let time = front item.place (others from_date) in
+    let host = front item.place from_ip in
+    let or_text = front item.place (others from_ip) in
+    let dir_text = front item.place (others (others from_ip)) in
+    let days = field day (date day.text) in
+    let seconds = field time (time_of_day time.text) in
+    let Line : RelayLine → Type 0 = IsRelayOf IsDigest bytes in
+    let Any : ℕ → Type 0 = λ n. Unit {0} in
+    let IsPort : ℕ → Type 0 = λ n. n ≤ 65535 in
+    next_reads (IsNickname bytes) Line (field name (span_if (is_nickname name.text) name)) _
+    (nickname_reads bytes item.place (arguments_of item) found0) (λ n is_n.
+    next_reads (λ (key : Fingerprint). AreTwenty key.0) Line (field key (identity key.text)) _
+    (twenty_reads key key.text (front_bytes bytes item.place from_key are found1)) (λ k is_k.
+    next_reads IsDigest Line digest _ digest_read (λ g is_g.
+    next_reads Any Line days _ (any_reads days) (λ x is_x.
+    next_reads Any Line seconds _ (any_reads seconds) (λ y is_y.
+    next_reads (λ (i : ℕ). i < 2 ^ 32) Line (field host (address host.text)) _ (ip_reads host) (λ i is_i.
+    next_reads IsPort Line (field or_text (port_of or_text.text)) _ (port_reads or_text) (λ o is_o.
+    next_reads IsPort Line (field dir_text (port_of dir_text.text)) _ (port_reads dir_text) (λ d is_d.
+    record { nickname = is_n; identity = is_k; digest = is_g; ip = is_i; or_port = is_o; dir_port = is_d }))))))))
 
 pub relay_reads : (bytes : List ℕ) (item : Item) → IsBytes bytes → IsSound bytes item → ReadAs (IsLine bytes) (relay_of item)
 relay_reads bytes item are sound =
-    let a0 = arguments_of item in
-    let a1 = others a0 in
-    let a2 = others a1 in
-    let a3 = others a2 in
-    let a4 = others a3 in
-    let a5 = others a4 in
-    let a6 = others a5 in
-    let a7 = others a6 in
-    let found0 = are_found sound in
-    let found1 = others_found bytes a0 found0 in
-    let found2 = others_found bytes a1 found1 in
-    let t0 = front item.place a0 in
-    let t1 = front item.place a1 in
-    let t2 = front item.place a2 in
-    let t3 = front item.place a3 in
-    let t4 = front item.place a4 in
-    let t5 = front item.place a5 in
-    let t6 = front item.place a6 in
-    let t7 = front item.place a7 in
-    let f0 = field t0 (span_if (is_nickname t0.text) t0) in
-    let f1 = field t1 (identity t1.text) in
-    let f2 = field t2 (digest1 t2.text) in
-    let f3 = field t3 (date t3.text) in
-    let f4 = field t4 (time_of_day t4.text) in
-    let f5 = field t5 (address t5.text) in
-    let f6 = field t6 (port_of t6.text) in
-    let f7 = field t7 (port_of t7.text) in
-    let m7 = λ (n : Span) (k : Fingerprint) (g : Digest1) (x y i o d : ℕ). line_made n k g x y i o d in
-    let m6 = λ (n : Span) (k : Fingerprint) (g : Digest1) (x y i o : ℕ). next f7 (m7 n k g x y i o) in
-    let m5 = λ (n : Span) (k : Fingerprint) (g : Digest1) (x y i : ℕ). next f6 (m6 n k g x y i) in
-    let m4 = λ (n : Span) (k : Fingerprint) (g : Digest1) (x y : ℕ). next f5 (m5 n k g x y) in
-    let m3 = λ (n : Span) (k : Fingerprint) (g : Digest1) (x : ℕ). next f4 (m4 n k g x) in
-    let m2 = λ (n : Span) (k : Fingerprint) (g : Digest1). next f3 (m3 n k g) in
-    let m1 = λ (n : Span) (k : Fingerprint). next f2 (m2 n k) in
-    let m0 = λ (n : Span). next f1 (m1 n) in
-    let Line : RelayLine → Type 0 = IsLine bytes in
-    let Any : ℕ → Type 0 = λ n. Unit {0} in
-    next_reads (IsNickname bytes) Line f0 m0 (nickname_reads bytes item.place a0 found0) (λ n is_n.
-    next_reads (λ (key : Fingerprint). AreTwenty key.0) Line f1 (m1 n)
-    (twenty_reads t1 t1.text (front_bytes bytes item.place a1 are found1)) (λ k is_k.
-    next_reads (λ (digest : Digest1). AreTwenty digest.0) Line f2 (m2 n k)
-    (digest_reads t2 t2.text (front_bytes bytes item.place a2 are found2)) (λ g is_g.
-    next_reads Any Line f3 (m3 n k g) (any_reads f3) (λ x is_x.
-    next_reads Any Line f4 (m4 n k g x) (any_reads f4) (λ y is_y.
-    next_reads (λ (i : ℕ). i < 2 ^ 32) Line f5 (m5 n k g x y) (ip_reads t5) (λ i is_i.
-    next_reads (λ (o : ℕ). o ≤ 65535) Line f6 (m6 n k g x y i) (port_reads t6) (λ o is_o.
-    next_reads (λ (d : ℕ). d ≤ 65535) Line f7 (m7 n k g x y i o) (port_reads t7) (λ d is_d.
-    record {
-      nickname_is = is_n;
-      identity_is = is_k;
-      digest_is = is_g;
-      ip_is = is_i;
-      or_port_is = is_o;
-      dir_port_is = is_d;
-    }))))))))
+    let from_key = others (arguments_of item) in
+    let from_digest = others from_key in
+    let digest = front item.place from_digest in
+    let found = others_found bytes from_key (others_found bytes (arguments_of item) (are_found sound)) in
+    let IsDigest : Digest1 → Type 0 = λ digest. AreTwenty digest.0 in
+    weaker_reads (IsRelayOf IsDigest bytes) (IsLine bytes) (relay_of item) (λ line is. record {
+      nickname_is = is.nickname;
+      identity_is = is.identity;
+      digest_is = is.digest;
+      ip_is = is.ip;
+      or_port_is = is.or_port;
+      dir_port_is = is.dir_port;
+    })
+    (relay_with_reads IsDigest bytes item (field digest (digest1 digest.text)) (others from_digest) are sound
+    (digest_reads digest digest.text (front_bytes bytes item.place from_digest are found)))
 
 -- ---- further addresses and flags
 

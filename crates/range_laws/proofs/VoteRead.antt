@@ -1,7 +1,7 @@
 -- What is read of a vote is in range, but for the limits.
 use Rattle.std.proofs.Common.{◌≡◌, ◌⊎◌, ℕ, true, List, [], ◌∷◌, ◌++◌, drop, length, map, take, refl, sym, subst, arith}
 use Rattle.std.proofs.Common.{inl, inr}
-use Rattle.std.specs.Prelude.{All, AllPairs, replicate}
+use Rattle.std.specs.Prelude.{All, replicate}
 use Rattle.std.specs.List.{fold}
 use Rattle.std.proofs.lemmas.List.Elements.{All-head, All-map, All-tail, All-weaker}
 use Rattle.base64.specs.GeneralPurpose.{IsBytes}
