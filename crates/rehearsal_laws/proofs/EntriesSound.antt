@@ -10,7 +10,6 @@ use Rattle.dir_values.specs.Digests.{identity_below}
 use Rattle.dir_values.proofs.Orders.{AllPairs-cons, AllPairs-head, AllPairs-nil, AllPairs-tail}
 use Rattle.dirdoc_grammar.specs.Writing.{IsLineRest}
 use Rattle.group_laws.specs.Ranges.{IsAddressInRange, IsOpinionInRange}
-use Rattle.relay_entries.specs.declared.said.EdOpinion.{EdOpinion}
 use Rattle.relay_entries.specs.declared.said.EdOpinion.TheVariants as opinion
 use Rattle.vote_terms.specs.declared.entry.EntryFacts.{EntryFacts}
 use Rattle.vote_text.specs.Entries.{entries_items, entry_items}

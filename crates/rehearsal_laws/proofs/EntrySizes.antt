@@ -1,7 +1,7 @@
--- The entry of a relay of a rehearsal has at most 800 bytes.
-use Rattle.std.proofs.Common.{◌≡◌, ℕ, ◌+◌, ◌/◌, ◌%◌, ◌≤◌, ◌<◌, ◌^◌, Bool, true, false, List, [], ◌∷◌, ◌++◌}
+-- The entry of a relay of a rehearsal has at most 761 bytes.
+use Rattle.std.proofs.Common.{ℕ, ◌+◌, ◌/◌, ◌%◌, ◌≤◌, Bool, true, false, List, ◌++◌}
 use Rattle.std.proofs.Common.{length, length-append, Some, None, refl, arith}
-use Rattle.std.specs.Prelude.{◌==◌, codes, decimal, if◌then◌else◌}
+use Rattle.std.specs.Prelude.{◌==◌, codes, if◌then◌else◌}
 use Rattle.std.specs.List.{join_with_byte}
 use Rattle.std.proofs.lemmas.Bool.{cond_both, leb-true}
 use Rattle.item_terms.specs.Bytes.{space}
@@ -26,7 +26,7 @@ use Rattle.vote_rehearsal.specs.Entries.{opinion_drawn, policy_of}
 use Rattle.vote_rehearsal.specs.Relays.{numbered_word}
 use Rattle.rehearsal_laws.specs.Types.{Relay}
 use Rattle.rehearsal_laws.proofs.FlagNames.{names_short}
-use Rattle.rehearsal_laws.proofs.Names.{number_short, numbered_short}
+use Rattle.rehearsal_laws.proofs.Names.{number_short}
 use Rattle.rehearsal_laws.proofs.Sizes.{AreAtMost, line, ◌&◌}
 
 -- the relay has a small number, and its digests have their lengths
@@ -88,7 +88,8 @@ micro_short relay is =
 -- ---- its items
 
 -- the last item, where there is one
-last_short : (relay : Relay) (draw : ℕ) → IsSound relay → AreAtMost 117 (item_if the.Id (ed_text (opinion_drawn draw relay.ed)))
+last_short : (relay : Relay) (draw : ℕ) → IsSound relay
+    → AreAtMost 117 (item_if the.Id (ed_text (opinion_drawn draw relay.ed)))
 last_short relay draw is =
     cond_both (draw / 262144 % 32 == 0) opinion.Absent (opinion.Key relay.ed)
     (λ (said : EdOpinion). AreAtMost 117 (item_if the.Id (ed_text said)))

@@ -1,6 +1,6 @@
 -- The relays that votes list ascend by identity, no two have one Ed25519 identity key, and they are relays of the
 -- rehearsal.
-use Rattle.std.proofs.Common.{◌≡◌, ℕ, suc, ◌+◌, ◌≤◌, ◌<◌, true, false, List, [], ◌∷◌, length, map, filter, get_or, refl}
+use Rattle.std.proofs.Common.{◌≡◌, ℕ, ◌+◌, ◌≤◌, ◌<◌, true, false, List, [], ◌∷◌, length, filter, get_or, refl}
 use Rattle.std.proofs.Common.{sym, ap, ap₂, ◌∙◌, ⊎_elim, arith}
 use Rattle.std.specs.Prelude.{All, AllPairs, not}
 use Rattle.std.specs.List.{fold}
@@ -194,8 +194,8 @@ module _ (seed authorities : ℕ) where
       record {
         each = All-map (IsRelay count) (λ (e : Entry). e.1) es (λ k d lt. (stand k d lt).holds.of);
         before = AllPairs-map IsBefore (λ (e : Entry). e.1) es (λ i j d lt within.
-            entries_before count (get_or es i d) (get_or es j d) (up i j d lt within) (stand i d (omega (arith, lt, within)))
-            (stand j d within));
+            entries_before count (get_or es i d) (get_or es j d) (up i j d lt within)
+            (stand i d (omega (arith, lt, within))) (stand j d within));
         few =
             omega (
               arith,

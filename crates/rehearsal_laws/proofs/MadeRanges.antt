@@ -1,5 +1,5 @@
 -- What an authority of a rehearsal means may be written, and passes no limit.
-use Rattle.std.proofs.Common.{◌≡◌, ℕ, ◌+◌, ◌≤◌, ◌<◌, ◌^◌, List, [], ◌∷◌, ◌++◌, length, length-append, refl, ap, arith}
+use Rattle.std.proofs.Common.{ℕ, ◌+◌, ◌≤◌, ◌<◌, ◌^◌, List, [], ◌∷◌, ◌++◌, length, length-append, refl, ap, arith}
 use Rattle.std.specs.Prelude.{All, AllPairs, codes, decimal}
 use Rattle.std.proofs.lemmas.Bool.{leb-true}
 use Rattle.std.proofs.lemmas.List.Elements.{All-append, All-cons, All-nil, All-weaker}
@@ -17,7 +17,6 @@ use Rattle.authority_certs.specs.Texts.{cert_items}
 use Rattle.vote_terms.specs.Votes.{max_vote}
 use Rattle.vote_terms.specs.declared.facts.VoteFacts.{VoteFacts}
 use Rattle.vote_text.specs.Entries.{entries_items}
-use Rattle.vote_text.specs.Made.{made_text}
 use Rattle.vote_text.specs.Texts.{authority_items, footer_items, preamble_items, signer_text, source_text}
 use Rattle.vote_laws.specs.Again.{AreFlags, AreListsInRange, AreMethods, HasValuesInRange, IsSignatureInRange}
 use Rattle.vote_laws.specs.Made.{IsMadeInRange}

@@ -124,4 +124,5 @@ pub rehearsed_are_read : RehearsedVotesAreRead
 rehearsed_are_read seed relays authorities asked =
     let all = ascending_relays seed authorities relays in
     All-weaker (IsReadable all) (IsRead all) (λ a is. is.read) (voters seed authorities)
-    (all_readable seed authorities all asked.seed_fits asked.few (listed_sound seed authorities relays asked.few_relays))
+    (all_readable seed authorities all asked.seed_fits asked.few
+    (listed_sound seed authorities relays asked.few_relays))
