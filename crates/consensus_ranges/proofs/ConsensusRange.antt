@@ -32,7 +32,8 @@ use Rattle.row_laws.proofs.ReadBytes.{bytes_by_test}
 use Rattle.row_laws.proofs.Saying.{EachStands}
 use Rattle.consensus_ranges.specs.Read.{ConsensusesReadAreInRange, ReadConsensusesAreReadAgain, SaysInRange}
 use Rattle.consensus_ranges.proofs.RelayOrder.{relays_ascend}
-use Rattle.consensus_ranges.proofs.SectionRanges.{ConsensusTaken, Draft, IsRouterRead, facts_whole}
+use Rattle.consensus_laws.proofs.ConsensusSays.{ConsensusTaken}
+use Rattle.consensus_ranges.proofs.SectionRanges.{Draft, IsRouterRead, facts_whole}
 use Rattle.consensus_ranges.proofs.SectionRanges.{preamble_ranged, router_read, source_ranged}
 use Rattle.consensus_ranges.proofs.ItemRanges.{IsSignatureRead, signatures_read, signatures_whole}
 

@@ -50,7 +50,8 @@ use Rattle.document_laws.specs.Items.{IsItemOf}
 use Rattle.row_laws.proofs.ReadSteps.{placed}
 use Rattle.row_laws.proofs.SaidByKinds.{said_of_any}
 use Rattle.row_laws.proofs.Saying.{by_own_row}
-use Rattle.consensus_ranges.proofs.SectionRanges.{ConsensusTaken, Draft, none_ascend, nothing_inside}
+use Rattle.consensus_laws.proofs.ConsensusSays.{ConsensusTaken}
+use Rattle.consensus_ranges.proofs.SectionRanges.{Draft, none_ascend, nothing_inside}
 
 -- ---- what is remembered
 

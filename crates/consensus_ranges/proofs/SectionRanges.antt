@@ -15,7 +15,6 @@ use Rattle.dir_values.proofs.Orders.{AllPairs-nil}
 use Rattle.frame_terms.specs.Keywords.{same}
 use Rattle.frame_terms.specs.Order.{inner}
 use Rattle.frame_terms.specs.Sections.{row_of}
-use Rattle.frame_terms.specs.declared.document.Taken.{Taken}
 use Rattle.frame_terms.specs.declared.keyword.Keyword.{Keyword}
 use Rattle.frame_terms.specs.declared.keyword.Keyword.TheVariants as the
 use Rattle.frame_terms.specs.declared.row.Row.{Row}
@@ -47,6 +46,7 @@ use Rattle.consensus_frame.specs.declared.value.ConsensusValue.TheVariants as ow
 use Rattle.consensus_doc.specs.Drafts.{lists_of, no_draft, preamble_facts, router_of, source_of, text_or_none}
 use Rattle.consensus_doc.specs.Saying.{bandwidth_in, delays_in, micro_digest_in, random_in, relay_in, source_in}
 use Rattle.consensus_doc.specs.Saying.{vote_digest_in}
+use Rattle.consensus_laws.proofs.ConsensusSays.{ConsensusTaken}
 use Rattle.consensus_laws.specs.Again.{AreFactsInRange, AreListsInRange, Ascending, IsAuthorityInRange, IsMicroInRange}
 use Rattle.consensus_laws.specs.Again.{IsRouterInRange, facts_as_read, router_as_read}
 use Rattle.document_laws.specs.Counts.{RowsStand}
@@ -70,10 +70,6 @@ pub nothing_inside : (flavour : Flavour) (around name : ConsensusSection) (keywo
     → inner (consensus_tables flavour) around keyword ≡ Some name → ⊥
 nothing_inside flavour section.Preamble name keyword begins = absurd (cc begins)
 nothing_inside flavour _ name keyword begins = absurd (cc begins)
-
--- what was taken of a section
-abbrev pub ConsensusTaken : Type 0
-ConsensusTaken = Taken (Value ConsensusValue)
 
 -- what is kept, whose type `consensus_doc` does not export
 abbrev type_of : {A : Type 0} → A → Type 0
