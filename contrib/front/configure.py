@@ -1,10 +1,14 @@
 #!/usr/bin/env python3
-"""Writes the configuration of nginx in front of an authority, from nginx.conf.in.
+"""Writes the configuration of nginx in front of an authority, from nginx.conf.in and what goes into it.
 
     configure.py --listen 192.0.2.1:80 --daemon 127.0.0.1:9131 --front 127.0.0.1:9132 --station STATION > nginx.conf
+    configure.py --listen 192.0.2.1:80 --mirror 127.0.0.1:9030 --authority 192.0.2.7:80 --station STATION > nginx.conf
 
 The addresses of STATION's `authority` lines are free of the limits, and those given by --free. With --measuring each
 descriptor that a relay posts goes to the C tor authority at that address too (contrib/measure).
+
+With --mirror what `dirmirror` at that address has is asked of it. All else, and what it has not, goes to the front, or to
+the authority that --authority names, which may be of any kind.
 """
 import argparse
 import ipaddress
@@ -52,36 +56,74 @@ def authorities(path):
     return [an_ip(each.strip("[]")) for each in found]
 
 
-def configuration(template, listen, daemon, front, free, measuring=None):
+# What is left to an authority of any kind.
+ALL_ELSE = """        # All else is the authority's.
+        location / {
+            client_max_body_size 16m;
+            proxy_pass http://rest;
+        }
+"""
+
+
+def two_parts(name):
+    """What a file has for the upstreams and for the locations."""
+    upstreams, _, locations = pathlib.Path(__file__).with_name(name).read_text("ascii").partition("@@\n")
+    return upstreams, locations
+
+
+def configuration(listen, free, daemon=None, front=None, mirror=None, authority=None, measuring=None):
     """The configuration for these addresses."""
+    upstreams, locations = "", ""
+    if mirror:
+        upstreams, locations = two_parts("mirror.conf.in")
+    if daemon:
+        more_upstreams, more_locations = two_parts("authority.conf.in")
+        upstreams, locations = upstreams + more_upstreams, locations + more_locations
+    else:
+        locations += ALL_ELSE
     values = {
         "LISTEN": "".join(f"        listen {each} backlog=1024;\n" for each in listen),
         "DAEMON": daemon,
         "FRONT": front,
+        "MIRROR": mirror,
+        "REST": authority or front,
         "FREE": "\n".join(f"        {each} 1;" for each in dict.fromkeys(free)),
-        "MIRROR": "            mirror /measuring;\n" if measuring else "",
+        "COPY": "            mirror /measuring;\n" if measuring else "",
         "MEASURING": MEASURING % measuring if measuring else "",
     }
-    return re.sub(r"@([A-Z]+)@", lambda found: values[found.group(1)], template)
+    template = pathlib.Path(__file__).with_name("nginx.conf.in").read_text("ascii")
+    whole = template.replace("@UPSTREAMS@", upstreams).replace("@LOCATIONS@", locations)
+    return re.sub(r"@([A-Z]+)@", lambda found: values[found.group(1)], whole)
+
+
+def look_at_words(given):
+    """Looks whether there is somebody who answers."""
+    if bool(given.daemon) != bool(given.front):
+        raise SystemExit("configure: --daemon and --front go together")
+    if bool(given.daemon) == bool(given.authority) or given.authority and not given.mirror:
+        raise SystemExit("configure: say --daemon and --front, or --mirror and --authority")
+    if given.authority and given.measuring:
+        raise SystemExit("configure: --measuring wants --daemon and --front")
 
 
 def main():
     """Writes the configuration."""
     parser = argparse.ArgumentParser(description=__doc__, formatter_class=argparse.RawDescriptionHelpFormatter)
     parser.add_argument("--listen", required=True, action="append", metavar="IP:PORT", help="the public DirPort; or several")
-    parser.add_argument("--daemon", required=True, metavar="IP:PORT", help="where `dirauth serve` listens")
-    parser.add_argument("--front", required=True, metavar="IP:PORT", help="where front.py listens")
+    parser.add_argument("--daemon", metavar="IP:PORT", help="where `dirauth serve` listens")
+    parser.add_argument("--front", metavar="IP:PORT", help="where front.py listens")
+    parser.add_argument("--mirror", metavar="IP:PORT", help="where `dirmirror` listens")
+    parser.add_argument("--authority", metavar="IP:PORT", help="the DirPort of an authority that has no front.py")
     parser.add_argument("--station", type=pathlib.Path, metavar="FILE", help="the station input of the daemon")
     parser.add_argument("--free", action="append", default=[], metavar="IP", help="an address or net without limits")
     parser.add_argument("--measuring", metavar="IP:PORT", help="the DirPort of the authority that measures")
     given = parser.parse_args()
+    look_at_words(given)
     free = [an_ip(each) for each in given.free] + (authorities(given.station) if given.station else [])
-    template = pathlib.Path(__file__).with_name("nginx.conf.in").read_text("ascii")
     listen = [an_address(each) for each in given.listen]
-    measuring = an_address(given.measuring) if given.measuring else None
-    sys.stdout.write(
-        configuration(template, listen, an_address(given.daemon), an_address(given.front), free, measuring)
-    )
+    names = ("daemon", "front", "mirror", "authority", "measuring")
+    more = {name: an_address(getattr(given, name)) for name in names if getattr(given, name)}
+    sys.stdout.write(configuration(listen, free, **more))
 
 
 if __name__ == "__main__":

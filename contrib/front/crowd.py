@@ -103,12 +103,14 @@ def main():
     parser.add_argument("--beside", metavar="IP", help="where the other client comes from")
     given = parser.parse_args()
     host, _, port = given.address.rpartition(":")
+    if not host or not port.isdecimal():
+        raise SystemExit(f"crowd: {given.address} is no IP:PORT")
     try:
         address = (host.strip("[]"), int(port))
         right = beside(address, given)
         right = at_once(address, given) and right
-    except (OSError, ValueError) as error:
-        raise SystemExit(f"crowd: {given.address}: {error}") from None
+    except OSError as error:
+        raise SystemExit(f"crowd: {given.address}: {error.strerror or error}") from None
     sys.exit(0 if right else 1)
 
 

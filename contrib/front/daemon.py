@@ -11,8 +11,8 @@ ANSWERS_WITHIN = 30
 AWAY = 20
 
 # How long signatures are brought again that come before the daemon has computed: others compute at the very same
-# second, and bring their signatures once.
-NOT_COMPUTED = 3
+# second, and bring their signatures once. And how long what met a fault of the key service is.
+NOT_COMPUTED = FAILED = 3
 
 # How long is waited between two tries.
 PAUSE = 0.25
@@ -68,10 +68,15 @@ class Daemon:
         begun = time.monotonic()
         while True:
             answer = self.exchange("POST", path, body)
-            if answer is None:
-                longest = AWAY
-            else:
-                longest = NOT_COMPUTED if answer.body == b"not-computed\n" else 0
-            if time.monotonic() - begun >= longest:
+            if time.monotonic() - begun >= longest_for(answer):
                 return answer or GAVE_NONE
             time.sleep(PAUSE)
+
+
+def longest_for(answer):
+    """For how long a post that was answered so is tried again."""
+    if answer is None:
+        return AWAY
+    if answer.code == 503:
+        return FAILED
+    return NOT_COMPUTED if answer.body == b"not-computed\n" else 0

@@ -16,6 +16,9 @@ FLAVOURS = ("consensus", "consensus-microdesc")
 # The last item of a server descriptor, of which its digest is taken up to the line's end.
 ROUTER_SIGNATURE = b"\nrouter-signature\n"
 
+# The line that ends it.
+OBJECT_END = b"-----END SIGNATURE-----\n"
+
 
 def parts(text, keyword):
     """The documents of a text, each of which begins with a line of this keyword."""
@@ -32,6 +35,40 @@ def server_descriptors(text):
             covered = descriptor[: end + len(ROUTER_SIGNATURE)]
             found[hashlib.sha1(covered).hexdigest().upper()] = descriptor
     return found
+
+
+@dataclasses.dataclass(frozen=True)
+class Descriptor:
+    """The server descriptor of a relay."""
+
+    text: bytes
+    fingerprint: str
+    published: int
+
+
+def descriptor_of(text):
+    """A server descriptor that was read, without what stands behind it; a text that is none is refused."""
+    begin = text.find(ROUTER_SIGNATURE)
+    end = text.find(OBJECT_END, begin)
+    key = re.search(rb"(?m)^signing-key\n-----BEGIN RSA PUBLIC KEY-----\n([A-Za-z0-9+/=\n]+)-----END ", text)
+    if begin < 0 or end < 0 or key is None:
+        raise ValueError("no signature, or no signing-key")
+    fingerprint = hashlib.sha1(base64.b64decode(key.group(1))).hexdigest().upper()
+    return Descriptor(text[: end + len(OBJECT_END)], fingerprint, seconds(item(text, b"published")))
+
+
+def newest_descriptors(text):
+    """The descriptor of each relay that was published last, by its fingerprint; what is none is left out."""
+    newest = {}
+    for each in parts(text, b"router"):
+        try:
+            found = descriptor_of(each)
+        except (ValueError, binascii.Error):
+            continue
+        held = newest.get(found.fingerprint)
+        if held is None or held.published < found.published:
+            newest[found.fingerprint] = found
+    return newest
 
 
 def microdescriptors(text):
@@ -64,6 +101,7 @@ class Certificate:
     key_digest: str
     published: int
     expires: int
+    signing_key: bytes
 
 
 def certificate_of(text):
@@ -77,6 +115,7 @@ def certificate_of(text):
         hashlib.sha1(base64.b64decode(key.group(1))).hexdigest().upper(),
         seconds(item(text, b"dir-key-published")),
         seconds(item(text, b"dir-key-expires")),
+        base64.b64decode(key.group(1)),
     )
 
 
@@ -118,6 +157,12 @@ def consensus_of(text):
         seconds(item(text, b"valid-until")),
         sum(int(word) for word in item(text, b"voting-delay").split()),
     )
+
+
+def signed_digest(text):
+    """The SHA-1 of what the signatures of a vote or a consensus cover, 40 hex digits: consensuses name votes by it."""
+    front, word, _ = text.partition(b"\ndirectory-signature ")
+    return hashlib.sha1(front + word).hexdigest().upper()
 
 
 def named_servers(text):

@@ -1,4 +1,4 @@
-"""What the front holds: consensuses, certificates, and the descriptors that the last consensuses name.
+"""What the front holds: consensuses and their votes, certificates, the descriptors that they name, and the newest of each relay.
 
 All of it may be stored in a folder, so that it outlives the front.
 """
@@ -14,6 +14,11 @@ from directory_documents import (
     named_servers,
     server_descriptors,
 )
+from period_votes import PeriodVotes
+from relays import Relays
+
+# How many seconds are between two writes of a file that changes often and is large.
+WRITTEN_EVERY = {"relays": 30, "votes": 10}
 
 
 class Shelf:
@@ -51,9 +56,13 @@ class Holdings:
         self.certificates = {}
         self.servers = Shelf(keep)
         self.micros = Shelf(keep)
+        self.relays = Relays()
+        self.votes = PeriodVotes()
         self.generation = 0
         self.own = None
         self.changed = set()
+        self.written = {}
+        self.storing = threading.Lock()
 
     def take_consensus(self, flavour, text):
         """Takes what the daemon published, and says whether it is new; an older one than is held is left."""
@@ -75,6 +84,34 @@ class Holdings:
             return None
         signed = sum(any(signer.startswith(name) for signer in held.signers) for name in names)
         return held if not names or 2 * signed > len(names) else None
+
+    def voting_begins(self):
+        """The moment from which votes for the next consensus are made, or None where no consensus is held."""
+        return min((each.voting_begins() for each in list(self.consensuses.values())), default=None)
+
+    def take_relays(self, text, now):
+        """Takes the newest descriptor of each relay of a text."""
+        if self.relays.take(text, now):
+            with self.lock:
+                self.changed.add("relays")
+
+    def take_vote(self, text, now):
+        """Takes a vote of the period that goes on."""
+        if self.votes.take(text, now):
+            with self.lock:
+                self.changed.add("votes")
+
+    def take_own(self, fingerprint):
+        """Takes which authority is the own one."""
+        if self.own != fingerprint:
+            with self.lock:
+                self.own = fingerprint
+                self.changed.add("own")
+
+    def current_votes(self, now):
+        """The votes of the last period, by authority, until the consensus of the next one is held."""
+        published = max((each.valid_after for each in list(self.consensuses.values())), default=0)
+        return self.votes.current(now, published)
 
     def take_certificates(self, text, now):
         """Takes certificates, and lets go of those that have expired."""
@@ -122,18 +159,31 @@ class Holdings:
             self.micros.seen = {}
             self.changed |= {"servers", "micros"}
 
-    def store(self, folder):
-        """Writes what has changed; each file is the new one or the old one, and whole."""
-        with self.lock:
-            changed, self.changed = self.changed, set()
-            texts = {flavour: held.text for flavour, held in self.consensuses.items()}
-            texts["certificates"] = b"".join(each.text for each in self.certificates.values())
-            texts["servers"] = self.servers.text()
-            texts["micros"] = self.micros.text()
-        for name in changed:
-            with open(folder / f"{name}.new", "wb") as file:
-                file.write(texts[name])
-            os.replace(folder / f"{name}.new", folder / name)
+    def text_of(self, name):
+        """What is stored in a file of this name."""
+        if name in self.consensuses:
+            return self.consensuses[name].text
+        if name == "certificates":
+            return b"".join(each.text for each in self.certificates.values())
+        if name == "own":
+            return self.own.encode("ascii")
+        shelves = {"servers": self.servers, "micros": self.micros, "relays": self.relays, "votes": self.votes}
+        return shelves[name].text()
+
+    def store(self, folder, now):
+        """Writes what has changed; each file is the new one or the old one, and whole. One that fails is written again."""
+        with self.storing:
+            with self.lock:
+                due = [name for name in self.changed if self.written.get(name, 0) + WRITTEN_EVERY.get(name, 0) <= now]
+                texts = {name: self.text_of(name) for name in due}
+                self.changed -= set(due)
+            try:
+                while due:
+                    write_whole(folder / due[-1], texts[due[-1]])
+                    self.written[due.pop()] = now
+            finally:
+                with self.lock:
+                    self.changed |= set(due)
 
     def load(self, folder, now):
         """Takes what was stored; a file that is not there, or no such document, is passed over."""
@@ -143,12 +193,29 @@ class Holdings:
             (self.micros, microdescriptors(stored(folder, "micros"))),
         ):
             shelf.named = {digest: (text, 0) for digest, text in texts.items()}
+        self.take_relays(stored(folder, "relays"), now)
+        self.votes.load(stored(folder, "votes"))
+        self.own = stored(folder, "own").decode("ascii", "replace") or None
         for flavour in FLAVOURS:
             try:
                 self.take_consensus(flavour, stored(folder, flavour))
             except ValueError:
                 continue
         self.changed = set()
+
+
+def write_whole(path, text):
+    """Puts a file in place of another one; where that fails the old one stays, and nothing is left of the new one."""
+    new = path.with_name(f"{path.name}.new")
+    try:
+        with open(new, "wb") as file:
+            file.write(text)
+            file.flush()
+            os.fsync(file.fileno())
+        os.replace(new, path)
+    except OSError as error:
+        new.unlink(missing_ok=True)
+        raise OSError(error.errno, f"{path}: {error.strerror}") from None
 
 
 def stored(folder, name):

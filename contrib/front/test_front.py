@@ -3,14 +3,13 @@
 
 `stored/` has what three authorities held and published in one period of a network of real relays (contrib/network), and
 in `requests` what tors ask their fronts: a line for each, with the code that must come, the documents that the answer must
-have, and the request. Where nginx is installed, the same requests go through it too.
+have, and the request. test_nginx.py lets the same requests go through nginx.
 """
 import contextlib
 import http.client
 import http.server
 import io
 import pathlib
-import shutil
 import socket
 import subprocess
 import sys
@@ -23,7 +22,6 @@ HERE = pathlib.Path(__file__).resolve().parent
 sys.path.insert(0, str(HERE))
 
 # pylint: disable=wrong-import-position
-import configure
 import daemon
 import directory_documents
 import front
@@ -117,7 +115,7 @@ def address_of(server):
 
 def ask(address, method, path, body=None, fields=None):
     """The answer to a tor's request: code, fields, body."""
-    connection = http.client.HTTPConnection(address, timeout=20)
+    connection = http.client.HTTPConnection(address, timeout=120)
     try:
         connection.request(method, path, body, {**TOR_FIELDS, **(fields or {})})
         response = connection.getresponse()
@@ -240,7 +238,7 @@ class Held(FrontCase):
     def test_what_is_stored_outlives_the_front(self):
         self.watcher.look(CONSENSUS.voting_begins())
         with tempfile.TemporaryDirectory() as folder:
-            self.holdings.store(pathlib.Path(folder))
+            self.holdings.store(pathlib.Path(folder), 0)
             again = Holdings(keep=2)
             again.load(pathlib.Path(folder), NOW)
         self.assertEqual(again.consensus("consensus", [], NOW).text, stored("consensus"))
@@ -285,6 +283,30 @@ class Posts(FrontCase):
         answer = self.code_and_body("/tor/post/consensus-signature", "POST", b"x")
         self.assertEqual((answer, len(self.daemon.posted)), ((200, b"taken 2 of 2\n"), 2))
 
+    def test_what_meets_a_fault_of_the_key_service_is_brought_again(self):
+        self.daemon.post_answers[:] = [(503, b"")]
+        answer = self.code_and_body("/tor/post/vote", "POST", b"x")
+        self.assertEqual((answer, len(self.daemon.posted)), ((200, b"kept\n"), 2))
+        self.replace(daemon, "FAILED", 0.4)
+        self.daemon.post_answers[:] = [(503, b"")] * 9
+        self.assertEqual(self.code_and_body("/tor/post/vote", "POST", b"x"), (503, b""))
+
+    def test_the_word_of_a_refusal_stands_behind_the_code(self):
+        for code, body, reason in ((400, b"late\n", "late"), (400, b"x y\n", "Bad Request"), (200, b"kept\n", "OK")):
+            self.daemon.post_answers[:] = [(code, body)]
+            connection = http.client.HTTPConnection(self.address, timeout=20)
+            self.addCleanup(connection.close)
+            connection.request("POST", "/tor/post/vote", b"x")
+            answer = connection.getresponse()
+            self.assertEqual((answer.status, answer.reason, answer.read()), (code, reason, body))
+
+    def test_no_signature_is_no_document(self):
+        path = "/tor/status-vote/next/consensus-signatures"
+        self.daemon.documents[path] = stored("signatures").partition(b"additional-signature")[0]
+        self.assertEqual(self.code_and_body(path), (404, b""))
+        self.daemon.documents[path] = stored("signatures")
+        self.assertEqual(self.code_and_body(path), (200, stored("signatures")))
+
     def test_signatures_that_come_too_early_for_long_are_refused(self):
         self.replace(daemon, "NOT_COMPUTED", 0.4)
         self.daemon.post_answers[:] = [(400, b"not-computed\n")] * 9
@@ -325,7 +347,7 @@ class Posts(FrontCase):
 
 
 # What nginx asks the daemon for.
-BY_NGINX = ("/tor/status-vote/next/consensus-signatures", "/tor/server/all")
+BY_NGINX = ("/tor/server/all",)
 
 # What a real tor posts at each path.
 POSTED = {"/tor/": "upload", "/tor/post/vote": "auth2.vote", "/tor/post/consensus-signature": "signatures"}
@@ -354,89 +376,31 @@ class Words(unittest.TestCase):
     def told(self, program, *words):
         """The status and the lines that a program tells."""
         words = [sys.executable, str(HERE / program), *words]
-        done = subprocess.run(words, capture_output=True, check=False, timeout=30)
+        done = subprocess.run(words, capture_output=True, check=False, timeout=300)
         return done.returncode, done.stderr.decode("utf-8")
 
     def test_what_is_wrong_is_told_in_a_line(self):
         front_words = ["--listen", "127.0.0.1:0", "--daemon", "127.0.0.1:1"]
         wanted = ["--listen", "127.0.0.1:80", "--daemon", "127.0.0.1:1", "--front", "127.0.0.1:2"]
         no_folder = "front: /none is no folder that it may write to\n"
+        no_pair = "front: --authorities and --verifier go together\n"
+        both, no_file = ["--verifier", "x", "--authorities"], "front: /none: No such file or directory\n"
         no_line = "configure: /dev/null: no authority line with an address\n"
         for program, words, line in (
             ("front.py", front_words, "front: 127.0.0.1:0 is no IP:PORT\n"),
             ("front.py", ["--listen", "127.0.0.1:1", "--daemon", "x"], "front: x is no IP:PORT\n"),
             ("front.py", ["--listen", "127.0.0.1:9", "--daemon", "x:1", "--store", "/none"], no_folder),
+            ("front.py", [*front_words[2:], "--listen", "127.0.0.1:9", "--verifier", "x"], no_pair),
+            ("front.py", ["--listen", "127.0.0.1:9", "--daemon", "x:1", *both, "/none"], no_file),
             ("configure.py", [*wanted, "--station", "/none"], "configure: /none: No such file or directory\n"),
             ("configure.py", [*wanted, "--station", "/dev/null"], no_line),
             ("configure.py", [*wanted, "--free", "host"], "configure: host is no IP address\n"),
+            ("configure.py", wanted[:4], "configure: --daemon and --front go together\n"),
+            ("configure.py", wanted[:2], "configure: say --daemon and --front, or --mirror and --authority\n"),
             ("configure.py", [*wanted, "--measuring", "127.0.0.1"], "configure: 127.0.0.1 is no IP:PORT\n"),
         ):
             with self.subTest(line=line):
                 self.assertEqual(self.told(program, *words), (1, line))
-
-
-@unittest.skipIf(shutil.which("nginx") is None, "nginx is not installed")
-class Nginx(FrontCase):
-    """The same through nginx."""
-
-    def setUp(self):
-        super().setUp()
-        folder = tempfile.TemporaryDirectory()
-        self.addCleanup(folder.cleanup)
-        with socket.create_server(("127.0.0.1", 0)) as free:
-            self.address = "127.0.0.1:%d" % free.getsockname()[1]
-        template = (HERE / "nginx.conf.in").read_text("ascii")
-        text = configure.configuration(
-            template, [self.address], address_of(self.daemon), address_of(self.server), ["127.0.0.0/8"], "127.0.0.1:1"
-        )
-        (pathlib.Path(folder.name) / "nginx.conf").write_text(text, "ascii")
-        words = ["nginx", "-p", folder.name, "-c", f"{folder.name}/nginx.conf", "-e", f"{folder.name}/error.log"]
-        words += ["-g", "user root;"] if front.pathlib.os.geteuid() == 0 else []
-        subprocess.run([*words, "-t", "-q"], check=True)
-        process = subprocess.Popen(words, stderr=subprocess.DEVNULL)
-        self.addCleanup(process.wait)
-        self.addCleanup(process.terminate)
-        self.wait()
-
-    def wait(self):
-        """Waits until nginx answers."""
-        for _ in range(100):
-            with contextlib.suppress(OSError):
-                if ask(self.address, "GET", "/")[0] == 404:
-                    return
-            time.sleep(0.05)
-        self.fail("nginx does not answer")
-
-    def test_each_stored_request_has_its_answer(self):
-        self.watcher.look(CONSENSUS.voting_begins())
-        for code, wanted, method, path in stored_requests():
-            with self.subTest(path=path):
-                body = stored(POSTED[path]) if method == "POST" else None
-                answer, fields, text = ask(self.address, method, path, body, {"Accept-Encoding": "identity"})
-                self.assertEqual((answer, text if code == 200 else b""), (code, wanted))
-                self.assertEqual(fields["X-Your-Address-Is"], "127.0.0.1")
-
-    def test_who_has_the_consensus_is_told_so(self):
-        self.watcher.look(NOW)
-        date = front.email.utils.formatdate(CONSENSUS.valid_after, usegmt=True)
-        path = "/tor/status-vote/current/consensus-microdesc.z"
-        self.assertEqual(ask(self.address, "GET", path, None, {"If-Modified-Since": date})[0], 304)
-        before = front.email.utils.formatdate(CONSENSUS.valid_after - 1, usegmt=True)
-        self.assertEqual(ask(self.address, "GET", path, None, {"If-Modified-Since": before})[0], 200)
-
-    def test_a_tor_is_answered_compressed(self):
-        self.watcher.look(NOW)
-        _, fields, body = ask(self.address, "GET", "/tor/status-vote/current/consensus.z")
-        self.assertEqual(fields["Content-Encoding"], "gzip")
-        self.assertLess(len(body), len(stored("consensus")))
-
-    def test_a_vote_goes_by_the_front_where_the_daemon_is_away(self):
-        self.daemon.shutdown()
-        self.daemon.server_close()
-        self.replace(daemon, "AWAY", 0.4)
-        with contextlib.redirect_stderr(io.StringIO()):
-            self.assertEqual(ask(self.address, "POST", "/tor/post/vote", stored("auth2.vote"))[0], 502)
-        self.assertFalse(self.behind.is_there)
 
 
 if __name__ == "__main__":

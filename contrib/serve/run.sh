@@ -26,6 +26,13 @@ dirauth=$1
 folder=$2
 shift 2
 
+for program in "$dirauth" ${MIRROR:+"$MIRROR"}; do
+    if [ ! -x "$program" ] || [ -d "$program" ]; then
+        echo "run.sh: $program is no program" >&2
+        exit 1
+    fi
+done
+
 pids=()
 command_pid=
 clean_up() {

@@ -34,6 +34,9 @@ FIRST_PORT = 18081
 # How many authorities a network may have.
 MOST_AUTHORITIES = 32
 
+# The versions of tor that are recommended. Over a consensus that names none C tors end.
+VERSIONS = ("client-versions 0.4.8.21,0.4.9.11", "server-versions 0.4.8.21,0.4.9.11")
+
 # What an Ed25519 signature of a descriptor covers begins with this.
 ED25519_PREFIX = b"Tor router descriptor signature v1"
 
@@ -102,6 +105,7 @@ class Authority:
             "schedule %d %d %d" % schedule,
         ]
         lines += [f"authority {each.fingerprint} 127.0.0.1:{each.port}" for each in authorities]
+        lines += VERSIONS
         lines += [f"measured {relay.fingerprint} {reached} 864000 990000 864000 {relay.measured}" for relay in relays]
         return "\n".join([*lines, "end-station", ""])
 
@@ -249,7 +253,10 @@ def main():
     checking.add_argument("folder", metavar="FOLDER", type=pathlib.Path)
     checking.set_defaults(do=check)
     given = parser.parse_args()
-    sys.exit(0 if given.do(given) else 1)
+    try:
+        sys.exit(0 if given.do(given) else 1)
+    except OSError as error:
+        raise SystemExit(f"test_network: {error.filename}: {error.strerror}") from None
 
 
 if __name__ == "__main__":

@@ -110,6 +110,17 @@ def silent(address, descriptor, lines):
     lines.append((told(got) == "" and WAITS - 2 <= seconds <= WAITS + 10, f"silent, a byte less than said: '{told(got)}' after {seconds:.1f} s"))
 
 
+def answering(text):
+    """The address that a word names, at which somebody must answer."""
+    host, _, port = text.rpartition(":")
+    try:
+        address = (host.strip("[]"), int(port))
+        socket.create_connection(address, timeout=20).close()
+    except (OSError, ValueError) as error:
+        raise SystemExit(f"broken: {text}: {getattr(error, 'strerror', None) or error}") from None
+    return address
+
+
 def main():
     """Sends all."""
     parser = argparse.ArgumentParser(description=__doc__, formatter_class=argparse.RawDescriptionHelpFormatter)
@@ -117,9 +128,11 @@ def main():
     parser.add_argument("address")
     parser.add_argument("others", nargs="*")
     given = parser.parse_args()
-    host, _, port = given.address.rpartition(":")
-    address = (host.strip("[]"), int(port))
-    descriptor = given.descriptor.read_bytes()
+    address = answering(given.address)
+    try:
+        descriptor = given.descriptor.read_bytes()
+    except OSError as error:
+        raise SystemExit(f"broken: {given.descriptor}: {error.strerror}") from None
     lines = []
     waiting = threading.Thread(target=silent, args=(address, descriptor, lines))
     waiting.start()

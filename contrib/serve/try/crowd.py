@@ -180,7 +180,12 @@ def main():
     parser.add_argument("others", nargs="*")
     given = parser.parse_args()
     host, _, port = given.address.rpartition(":")
-    crowd = Crowd((host.strip("[]"), int(port)), given.seconds)
+    try:
+        address = (host.strip("[]"), int(port))
+        socket.create_connection(address, timeout=20).close()
+    except (OSError, ValueError) as error:
+        raise SystemExit(f"crowd: {given.address}: {getattr(error, 'strerror', None) or error}") from None
+    crowd = Crowd(address, given.seconds)
     sys.exit(0 if crowd.run(given.each) else 1)
 
 

@@ -104,14 +104,26 @@ def held(name, address, process, texts, room, most, longest):
     return right
 
 
+def answering(text):
+    """The address that a word names, at which somebody must answer."""
+    host, _, port = text.rpartition(":")
+    try:
+        address = (host.strip("[]"), int(port))
+        socket.create_connection(address, timeout=20).close()
+    except (OSError, ValueError) as error:
+        raise SystemExit(f"hold: {text}: {getattr(error, 'strerror', None) or error}") from None
+    return address
+
+
 def main():
     """Holds both."""
     parser = argparse.ArgumentParser(description=__doc__, formatter_class=argparse.RawDescriptionHelpFormatter)
     parser.add_argument("address")
     parser.add_argument("process", type=int)
     given = parser.parse_args()
-    host, _, port = given.address.rpartition(":")
-    address = (host.strip("[]"), int(port))
+    if not pathlib.Path("/proc", str(given.process)).is_dir():
+        raise SystemExit(f"hold: there is no process {given.process}")
+    address = answering(given.address)
     front = b"POST /tor/post/vote HTTP/1.0\r\nContent-Length: 16000000\r\n\r\n"
     sends = held("senders", address, given.process, [front + bytes(SENT)] * MANY, None, MOST_OF_REQUESTS, 5)
     ask = b"GET /tor/server/all HTTP/1.0\r\n\r\n"

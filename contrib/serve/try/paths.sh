@@ -8,6 +8,10 @@
 # status 0 only where each is ok.
 set -u
 
+if [ $# -lt 3 ] || [ ! -f "$1" ]; then
+    echo "usage: paths.sh DESCRIPTOR IP:PORT IP:PORT: a file, and two authorities" >&2
+    exit 2
+fi
 descriptor=$1
 first=$2
 second=$3

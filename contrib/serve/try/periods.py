@@ -19,6 +19,7 @@ import hashlib
 import os
 import pathlib
 import re
+import shutil
 import subprocess
 import sys
 import time
@@ -174,6 +175,16 @@ def look_at_mirror(authorities, moment):
     return why is None
 
 
+def authority_of(path):
+    """The authority of a station input."""
+    try:
+        return Authority(path)
+    except OSError as error:
+        raise SystemExit(f"periods: {path}: {error.strerror}") from None
+    except (AttributeError, ValueError):
+        raise SystemExit(f"periods: {path}: it is no station input") from None
+
+
 def main():
     """Starts, looks, and ends."""
     parser = argparse.ArgumentParser(description=__doc__, formatter_class=argparse.RawDescriptionHelpFormatter)
@@ -182,7 +193,12 @@ def main():
     parser.add_argument("--periods", type=int, default=5, metavar="N", help="how many (default: %(default)s)")
     parser.add_argument("--mirror", metavar="DIRMIRROR", help="a mirror beside them")
     given = parser.parse_args()
-    authorities = [Authority(path) for path in sorted(given.folder.glob("auth*.station"))]
+    authorities = [authority_of(path) for path in sorted(given.folder.glob("auth*.station"))]
+    if not authorities:
+        raise SystemExit(f"periods: {given.folder}: it has no auth*.station")
+    for program in filter(None, (given.dirauth, given.mirror)):
+        if shutil.which(program) is None:
+            raise SystemExit(f"periods: {program} is no program")
     programs = list(authorities)
     interval, vote, dist = authorities[0].schedule
     holds = True
