@@ -298,7 +298,10 @@ def main():
         return 2
     try:
         reports = sorted((read(name) for name in names), key=lambda report: report.time)
-    except (SystemExit, OSError, UnicodeDecodeError) as error:
+    except OSError as error:
+        print(f"{error.filename}: {error.strerror}", file=sys.stderr)
+        return 2
+    except (SystemExit, UnicodeDecodeError) as error:
         print(error, file=sys.stderr)
         return 2
     sys.stdout.reconfigure(encoding="utf-8")

@@ -8,17 +8,23 @@ vote of the C tor authority that measures, and the descriptors behind them, whic
 kilobytes of an old `measured` line stay. With --bandwidth that bandwidth file stands in front. The daemon is to be started
 anew then.
 
-It is done between a valid-after and the next voting alone; at another moment, and where anything is not there, the old
+Where the measuring authority is away, has no vote, or an old one, or one that does not tell yet which relays run, what it
+measured last is held: the relays that were reached then count as reached now. That is told, and is done for --hold hours
+from the last measurement on, which the line `measured-at` of the input has (dirauth passes it over).
+
+It is done between a valid-after and the next voting alone; at another moment, and where anything else is not there, the old
 input stays and a line says why, with status 1. With --wait it waits for the moment.
 """
 import argparse
 import base64
 import binascii
 import calendar
+import contextlib
 import http.client
 import os
 import pathlib
 import re
+import sys
 import time
 
 # Where the measuring authority has its last vote: the one of the voting that is going on, or the one before.
@@ -30,19 +36,24 @@ EARLIEST, LATEST = 10, 30
 # How old the vote of the measuring authority may be, in seconds.
 OLDEST_VOTE = 3600
 
+# For how many hours what was measured is held where nothing new is; and for how many seconds a relay counts as reached.
+HOLDS, REACHED_FOR = 6, 2700
+
+
+class Unmeasured(Exception):
+    """Why there is nothing new of the authority that measures."""
+
 
 def get(address, path):
-    """The document at a path, or None where it is not there; nobody who answers is a fault."""
-    connection = http.client.HTTPConnection(address, timeout=30)
+    """The document at a path, or None where it is not there; nobody who answers is an OSError."""
     try:
-        connection.request("GET", path, headers={"Accept-Encoding": "identity"})
-        response = connection.getresponse()
-        body = response.read()
-        return body if response.status == 200 else None
+        with contextlib.closing(http.client.HTTPConnection(address, timeout=30)) as connection:
+            connection.request("GET", path, headers={"Accept-Encoding": "identity"})
+            response = connection.getresponse()
+            body = response.read()
+            return body if response.status == 200 else None
     except (OSError, ValueError, http.client.HTTPException) as error:
-        raise SystemExit(f"renew: {address} does not answer: {error}") from None
-    finally:
-        connection.close()
+        raise OSError(f"{address} does not answer: {error or type(error).__name__}") from None
 
 
 def schedule(station):
@@ -73,7 +84,7 @@ def item(vote, keyword):
     """The rest of the first line of a keyword in a vote."""
     found = re.search(rf"(?m)^{keyword} (.*)$", vote)
     if found is None:
-        raise SystemExit(f"renew: the vote of the measuring authority has no {keyword} line")
+        raise Unmeasured(f"the vote of the measuring authority has no {keyword} line")
     return found.group(1)
 
 
@@ -104,38 +115,98 @@ def measured_lines(vote, kilobytes):
 
 
 def own_lines(station):
-    """The lines of a station input that stay, and the kilobytes of its `measured` lines by relay."""
+    """The lines of a station input that stay, and its `measured` lines."""
     begin = re.search(rb"(?m)^station 1$", station)
-    lines, _, _ = station[begin.start() if begin else 0 :].partition(b"\nend-station\n")
-    if not begin or b"\nend-station\n" not in station:
+    lines, end, _ = station[begin.start() if begin else 0 :].partition(b"\nend-station\n")
+    if not begin or not end:
         raise SystemExit("renew: it is no station input")
     text = lines.decode("utf-8", "surrogateescape").split("\n")
-    measured = [line.split() for line in text if line.startswith("measured ")]
-    return [line for line in text if not line.startswith("measured ")], {words[1]: words[-1] for words in measured}
+    measured = [line for line in text if line.startswith("measured ")]
+    return [line for line in text if not line.startswith(("measured ", "measured-at "))], measured
 
 
-def renewed(station, vote, descriptors, bandwidth=None):
+def measured_anew(vote, old):
+    """When a vote was made, and its `measured` lines, which have the kilobytes of the old ones."""
+    kilobytes = {words[1]: words[-1] for words in map(str.split, old)}
+    try:
+        at, lines = moment(item(vote, "published")), measured_lines(vote, kilobytes)
+    except (ValueError, binascii.Error) as error:
+        raise Unmeasured(f"the vote of the measuring authority is none: {error}") from None
+    if not lines:
+        raise Unmeasured("the vote of the measuring authority tells of no relay what was measured")
+    return at, lines
+
+
+def reached_at(line):
+    """When the relay of a `measured` line was reached last."""
+    word = line.split()[2]
+    return int(word) if word.isdecimal() else 0
+
+
+def measured_before(station, old, now, hours, why):
+    """When something was measured last, and the old lines of it, in which what was reached then is reached now."""
+    found = re.search(rb"(?m)^measured-at ([0-9]+)$", station)
+    newest = max(map(reached_at, old), default=0)
+    at = int(found.group(1)) if found else newest
+    if not newest or not now - at <= hours * 3600:
+        told = f"what was measured is {now - at} seconds old" if newest else "nothing was measured before"
+        raise SystemExit(f"renew: {why}; {told}, and {hours} hours are held: the old input stays")
+    lines = []
+    for line in old:
+        words = line.split()
+        if reached_at(line) + REACHED_FOR > newest:
+            words[2] = str(now)
+        lines.append(" ".join(words))
+    print(f"renew: {why}; what was measured {now - at} seconds ago is held, for {hours} hours", file=sys.stderr)
+    return at, lines
+
+
+def renewed(station, measured, descriptors, bandwidth=None):
     """The new station input."""
-    lines, kilobytes = own_lines(station)
-    measured = measured_lines(vote, kilobytes)
-    if not measured:
-        raise SystemExit("renew: the vote of the measuring authority tells of no relay what was measured")
+    lines, _ = own_lines(station)
+    at, measured = measured
     front = b"" if bandwidth is None else bandwidth.rstrip(b"\n") + b"\nend-bandwidth-file\n"
-    text = "\n".join([*lines, *measured, "end-station", ""]).encode("utf-8", "surrogateescape")
-    return front + text + descriptors, len(measured)
+    text = "\n".join([*lines, f"measured-at {at}", *measured, "end-station", ""]).encode("utf-8", "surrogateescape")
+    return front + text + descriptors
 
 
 def last_vote(address, now):
-    """The last vote of the measuring authority; one that is old is a fault."""
-    for path in VOTES:
-        vote = get(address, path)
-        if vote is not None:
-            text = vote.decode("utf-8", "replace")
-            age = now - moment(item(text, "published"))
-            if age > OLDEST_VOTE:
-                raise SystemExit(f"renew: the vote of the measuring authority is {age} seconds old")
-            return text
-    raise SystemExit(f"renew: the measuring authority at {address} has no vote yet")
+    """The last vote of the measuring authority, which must be new, and tell which relays run."""
+    try:
+        votes = (get(address, path) for path in VOTES)
+        vote = next((each for each in votes if each is not None), None)
+    except OSError as error:
+        raise Unmeasured(str(error)) from None
+    if vote is None:
+        raise Unmeasured(f"the measuring authority at {address} has no vote yet")
+    text = vote.decode("utf-8", "replace")
+    try:
+        age = now - moment(item(text, "published"))
+    except ValueError as error:
+        raise Unmeasured(f"the vote of the measuring authority is none: {error}") from None
+    if age > OLDEST_VOTE:
+        raise Unmeasured(f"the vote of the measuring authority is {age} seconds old")
+    # A tor that was just started does not vote on it, for half an hour.
+    if "Running" not in item(text, "known-flags").split():
+        raise Unmeasured("the measuring authority does not tell yet which relays run")
+    return text
+
+
+def what_was_measured(given, station, now):
+    """When something was measured last, and the `measured` lines: of a new vote, or those that are held."""
+    _, old = own_lines(station)
+    try:
+        return measured_anew(last_vote(given.measuring, now), old)
+    except Unmeasured as why:
+        return measured_before(station, old, now, given.hold, why)
+
+
+def descriptors_now(address, station):
+    """The descriptors that the daemon has; where it has none, those that it was started with."""
+    try:
+        return get(address, "/tor/server/all") or station.partition(b"\nend-station\n")[2]
+    except OSError as error:
+        raise SystemExit(f"renew: {error}") from None
 
 
 def read(path):
@@ -158,7 +229,8 @@ def replace(path, text):
         os.chmod(new, before.st_mode & 0o777)
         os.replace(new, path)
     except OSError as error:
-        raise SystemExit(f"renew: {new}: {error.strerror}") from None
+        new.unlink(missing_ok=True)
+        raise SystemExit(f"renew: {path}: {error.strerror}") from None
 
 
 def wait_for_moment(station, waits):
@@ -169,6 +241,13 @@ def wait_for_moment(station, waits):
     time.sleep(wait)
 
 
+def hours(text):
+    """A number of hours."""
+    if not text.isdecimal():
+        raise argparse.ArgumentTypeError("no number of hours")
+    return int(text)
+
+
 def main():
     """Renews the input."""
     parser = argparse.ArgumentParser(description=__doc__, formatter_class=argparse.RawDescriptionHelpFormatter)
@@ -176,20 +255,23 @@ def main():
     parser.add_argument("--measuring", required=True, metavar="IP:PORT", help="the DirPort of the authority that measures")
     parser.add_argument("--daemon", required=True, metavar="IP:PORT", help="where `dirauth serve` listens")
     parser.add_argument("--bandwidth", type=pathlib.Path, metavar="FILE", help="a bandwidth file, for serve --bandwidth")
+    parser.add_argument(
+        "--hold",
+        type=hours,
+        default=HOLDS,
+        metavar="HOURS",
+        help="for how long what was measured last is held where nothing new is (default: %(default)s)",
+    )
     parser.add_argument("--wait", action="store_true", help="wait for the moment at which it may be done")
     given = parser.parse_args()
     station = read(given.station)
     wait_for_moment(station, given.wait)
     bandwidth = None if given.bandwidth is None else read(given.bandwidth)
-    vote = last_vote(given.measuring, int(time.time()))
-    descriptors = get(given.daemon, "/tor/server/all") or b""
-    try:
-        text, measured = renewed(station, vote, descriptors, bandwidth)
-    except (ValueError, binascii.Error) as error:
-        raise SystemExit(f"renew: the vote of the measuring authority is none: {error}") from None
-    replace(given.station, text)
+    descriptors = descriptors_now(given.daemon, station)
+    measured = what_was_measured(given, station, int(time.time()))
+    replace(given.station, renewed(station, measured, descriptors, bandwidth))
     count = len(re.findall(rb"(?m)^router ", descriptors))
-    print(f"renew: {measured} relays are measured, {count} descriptors; {given.station} is new")
+    print(f"renew: {len(measured[1])} relays are measured, {count} descriptors; {given.station} is new")
 
 
 if __name__ == "__main__":

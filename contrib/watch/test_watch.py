@@ -1,5 +1,6 @@
 #!/usr/bin/env python3
 """Tests of the watch over stored answers: `python3 -m unittest` in this folder. They need no network but loopback."""
+import argparse
 import http.server
 import pathlib
 import subprocess
@@ -18,12 +19,28 @@ FIRST, SECOND, THIRD = "11" * 20, "22" * 20, "33" * 20
 
 STATION = f"""station 1
 own auth1 {FIRST} auth1.example 192.0.2.1 80 443
+dir-key-expires 2031-01-15 00:00:00
 schedule %d %d %d
 authority {FIRST} -
 authority {SECOND} 192.0.2.2:80
 authority {THIRD} 192.0.2.3:80
+measured {FIRST} 1924990200 1 2 3 -
+measured {SECOND} 1924988400 1 2 3 -
 end-station
 """
+
+# A vote in which one of three relays runs.
+VOTE = """network-status-version 3
+r relay1 AAAAAAAAAAAAAAAAAAAAAAAAAAA AAAAAAAAAAAAAAAAAAAAAAAAAAA 2031-01-01 00:00:00 192.0.2.11 5001 0
+s Fast Running Valid
+r relay2 BBBBBBBBBBBBBBBBBBBBBBBBBBB AAAAAAAAAAAAAAAAAAAAAAAAAAA 2031-01-01 00:00:00 192.0.2.12 5001 0
+s Valid
+r relay3 CCCCCCCCCCCCCCCCCCCCCCCCCCC AAAAAAAAAAAAAAAAAAAAAAAAAAA 2031-01-01 00:00:00 192.0.2.13 5001 0
+s
+"""
+
+# 2031-01-01 00:00:00
+YEAR = 1924992000
 
 SIGNATURES = f"""consensus-digest {"AA" * 20}
 valid-after 2026-01-01 00:00:00
@@ -133,6 +150,42 @@ class Looks(Room):
         self.assertEqual(self.numbers("votes"), {("up",): 0})
 
 
+class Limits(Room):
+    """What is told beyond its limit."""
+
+    def lines(self, name, now, running=50, measured=2700, certificate=14):
+        """The lines that a look tells."""
+        limits = argparse.Namespace(running=running, measured=measured, certificate=certificate)
+        return list(watch.beyond_limits(watch.look(self.daemon, self.station, name, now), limits))
+
+    def test_how_many_relays_run_in_the_own_vote(self):
+        self.has("next/authority", VOTE)
+        found = self.numbers("votes", YEAR)
+        self.assertEqual((found["relays_voted",], found["relays_running",]), (3, 1))
+        told = ["1 of 3 relays run in the own vote: look at what measures, and at the renewal"]
+        self.assertEqual(self.lines("votes", YEAR), told)
+        self.assertEqual(self.lines("votes", YEAR, running=33), [])
+        self.has("next/authority", VOTE.replace("Running ", ""))
+        self.assertIn("0 of 3 relays run", self.lines("votes", YEAR, running=0)[0])
+
+    def test_how_old_the_newest_measurement_is(self):
+        self.assertEqual(self.numbers("votes", YEAR)["measurement_age_seconds",], 1800)
+        self.assertEqual(self.lines("votes", YEAR + 900), [])
+        told = ["the newest measurement of a relay is 2701 seconds old: look at what measures, and at the renewal"]
+        self.assertEqual(self.lines("votes", YEAR + 901), told)
+        held = self.path.read_text(encoding="ascii").replace("measured ", f"measured-at {YEAR - 9000}\nmeasured ", 1)
+        self.path.write_text(held, encoding="ascii")
+        self.station = watch.station_of(self.path)
+        self.assertEqual(self.numbers("votes", YEAR)["measurement_age_seconds",], 9000)
+
+    def test_how_long_the_certificate_holds(self):
+        day = 86_400
+        self.assertEqual(self.numbers("consensus", YEAR)["certificate_ends_seconds",], 14 * day)
+        self.assertEqual(self.lines("consensus", YEAR), [])
+        self.assertEqual(self.lines("consensus", YEAR + 1), ["the own certificate ends in 13 days: make a new one"])
+        self.assertEqual(self.lines("consensus", YEAR + 14 * day), ["the own certificate has ended"])
+
+
 class Moments(Room):
     """When is looked."""
 
@@ -162,7 +215,7 @@ class Tells(Room):
         self.has(f"next/{SECOND}")
         found = watch.look(self.daemon, self.station, "votes", 0)
         line = watch.line_of(found, "votes", 1767225600)
-        self.assertTrue(line.startswith("2026-01-01 00:00:00 votes: own_vote 0, votes 1, slowest_answer_seconds "), line)
+        self.assertTrue(line.startswith("2026-01-01 00:00:00 votes: own_vote 0, votes 1, measurement_age_seconds "), line)
         self.assertTrue(line.endswith(", without 11111111 33333333"), line)
 
     def test_metrics_are_in_the_form_of_prometheus(self):
@@ -198,6 +251,8 @@ class Program(Room):
     def test_once_tells_lines_and_metrics(self):
         # A day between two consensuses, so that votes are not due, unless it is nearly midnight.
         self.schedule(86_400, 20, 20)
+        text = self.path.read_text(encoding="ascii").replace("2031-01-15", "9999-01-15")
+        self.path.write_text(text.replace(" 1924990200 ", f" {2 ** 40} "), encoding="ascii")
         now = time.gmtime(int(time.time()) // 86_400 * 86_400)
         for path in ("consensus", "consensus-microdesc"):
             self.has(f"current/{path}", CONSENSUS % time.strftime("%Y-%m-%d %H:%M:%S", now))
@@ -209,10 +264,17 @@ class Program(Room):
             self.assertEqual((ran.returncode, ran.stderr), (0, ""))
 
     def test_what_is_missing_is_told_in_a_line(self):
+        # A day between two consensuses, and a certificate and a measurement that hold for long.
+        text = (STATION % (86_400, 20, 20)).replace("2031-01-15", "9999-01-15")
+        self.path.write_text(text.replace(" 1924990200 ", f" {2 ** 40} "), encoding="ascii")
+        none = self.path.with_name("none")
+        none.write_text(STATION % (0, 0, 0), encoding="ascii")
         for words, text in (
             (("--station", "/no/station"), "/no/station: No such file"),
             (("--station", HERE / "watch.py"), "it is no station input"),
             (("--station", self.path, "--metrics", "/no/folder/metrics"), "/no/folder/metrics: No such file"),
+            (("--station", self.path.parent), f"{self.path.parent}: Is a directory"),
+            (("--station", none), f"watch: {none}: schedule 0 0 0: these seconds are no schedule"),
         ):
             ran = self.told("--daemon", self.address, "--once", *words)
             self.assertEqual((ran.returncode, ran.stderr.count("\n")), (1, 1), ran.stderr)

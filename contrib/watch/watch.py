@@ -8,10 +8,11 @@ the own vote is there, whose votes and signatures are held, how old the consensu
 take. With --metrics it also writes a file in the text form that Prometheus reads (the collector of text files of its node
 exporter takes it). With --once it looks at once and ends, with status 1 where something is amiss.
 
-The schedule and the authorities are those of the station input.
+The schedule and the authorities are those of the station input, and so is the moment at which something was measured last
+and that at which the certificate ends. Beyond its limit each of these, and how many relays run in the own vote, is told in
+a line on standard error.
 """
 import argparse
-import calendar
 import collections
 import contextlib
 import http.client
@@ -21,6 +22,8 @@ import re
 import sys
 import time
 
+from station import moment, station_of
+
 # How many seconds before the freeze, and before the valid-after, what is held is looked at, and how many behind the
 # valid-after the consensus is.
 BEFORE, BEHIND = 3, 5
@@ -28,26 +31,16 @@ BEFORE, BEHIND = 3, 5
 # How many seconds an answer may take.
 PATIENCE = 20
 
-FLAVOURS = {"ns": "consensus", "microdesc": "consensus-microdesc"}
+# The limits, where no others are named: of a hundred relays of the own vote so many run; so many seconds old is the newest
+# measurement when votes are made, since it holds so long; and so many days are left to the certificate.
+RUNNING, MEASURED, CERTIFICATE = 50, 2700, 14
 
-Station = collections.namedtuple("Station", "own authorities interval vote dist")
+DAY = 86_400
+
+FLAVOURS = {"ns": "consensus", "microdesc": "consensus-microdesc"}
 
 # One number that is told: its name, what it says, its labels, and the number.
 Metric = collections.namedtuple("Metric", "name meaning labels value")
-
-
-def station_of(path):
-    """The own authority, all of them, and the schedule, by a station input."""
-    try:
-        text = pathlib.Path(path).read_text(encoding="utf-8", errors="replace")
-    except OSError as error:
-        raise SystemExit(f"watch: {path}: {error.strerror}") from None
-    own = re.search(r"(?m)^own \S+ ([0-9A-Fa-f]{40}) ", text)
-    schedule = re.search(r"(?m)^schedule ([0-9]+) ([0-9]+) ([0-9]+)$", text)
-    if own is None or schedule is None:
-        raise SystemExit(f"watch: {path}: it is no station input")
-    names = [name.upper() for name in re.findall(r"(?m)^authority ([0-9A-Fa-f]{40}) ", text)]
-    return Station(own.group(1).upper(), sorted(names), *(int(word) for word in schedule.groups()))
 
 
 class Daemon:
@@ -72,11 +65,6 @@ class Daemon:
             self.slowest = max(self.slowest, time.monotonic() - begin)
 
 
-def moment(text):
-    """The seconds since 1970 of a moment as documents write it."""
-    return calendar.timegm(time.strptime(text, "%Y-%m-%d %H:%M:%S"))
-
-
 def signers(document):
     """Whose signatures of each flavour a document of signatures has."""
     found = {flavour: set() for flavour in FLAVOURS}
@@ -87,17 +75,25 @@ def signers(document):
     return found
 
 
-def votes(daemon, station):
-    """What is said of the votes that are held."""
+def votes(daemon, station, now):
+    """What is said of the votes that are held, and of the own one."""
     held = {name: daemon.get(f"/tor/status-vote/next/{name}") is not None for name in station.authorities}
-    own = daemon.get("/tor/status-vote/next/authority") is not None
-    yield Metric("own_vote", "Whether the own vote is held.", {}, int(own))
+    own = daemon.get("/tor/status-vote/next/authority")
+    yield Metric("own_vote", "Whether the own vote is held.", {}, int(own is not None))
     yield Metric("votes", "How many votes are held.", {}, sum(held.values()))
+    if own is not None:
+        flags = re.findall(r"(?m)^s(.*)$", own)
+        yield Metric("relays_voted", "How many relays the own vote lists.", {}, len(flags))
+        running = sum("Running" in words.split() for words in flags)
+        yield Metric("relays_running", "How many relays run in the own vote.", {}, running)
+    if station.measured is not None:
+        age = int(now) - station.measured
+        yield Metric("measurement_age_seconds", "How old the newest measurement of a relay is.", {}, age)
     for name, is_held in held.items():
         yield Metric("vote", "Whether the vote of an authority is held.", {"authority": name}, int(is_held))
 
 
-def signatures(daemon, station):
+def signatures(daemon, station, _):
     """What is said of the signatures that are held."""
     found = signers(daemon.get("/tor/status-vote/next/consensus-signatures") or "")
     for flavour, names in found.items():
@@ -119,6 +115,9 @@ def consensuses(daemon, station, now):
         yield Metric("consensus_is_missed", "Whether the consensus of this period is not published.", labels, int(missed))
         listed = len(re.findall(r"(?m)^r ", text))
         yield Metric("relays", "How many relays are listed.", labels, listed)
+    if station.expires is not None:
+        left = station.expires - int(now)
+        yield Metric("certificate_ends_seconds", "How many seconds the own certificate holds.", {}, left)
 
 
 # What is looked at, by the names of the looks.
@@ -149,14 +148,27 @@ def look(daemon, station, name, now):
     """What one look finds, or that nobody answers."""
     daemon.slowest = 0.0
     try:
-        more = (now,) if name == "consensus" else ()
-        found = list(LOOKS[name](daemon, station, *more))
+        found = list(LOOKS[name](daemon, station, now))
     except OSError as error:
         print(f"watch: {daemon.address} does not answer: {error.strerror or error}", file=sys.stderr)
         return [Metric("up", "Whether it answers.", {}, 0)]
     meaning, seconds = "How long the longest answer of a look took.", round(daemon.slowest, 3)
     slowest = Metric("slowest_answer_seconds", meaning, {"look": name}, seconds)
     return [Metric("up", "Whether it answers.", {}, 1), *found, slowest]
+
+
+def beyond_limits(found, limits):
+    """A line for each number that is beyond its limit."""
+    values = {each.name: each.value for each in found if not each.labels}
+    voted, running = (values.get(name) for name in ("relays_voted", "relays_running"))
+    if voted is not None and (not running or running * 100 < voted * limits.running):
+        yield f"{running} of {voted} relays run in the own vote: look at what measures, and at the renewal"
+    age = values.get("measurement_age_seconds", 0)
+    if age > limits.measured:
+        yield f"the newest measurement of a relay is {age} seconds old: look at what measures, and at the renewal"
+    left = values.get("certificate_ends_seconds")
+    if left is not None and left < limits.certificate * DAY:
+        yield f"the own certificate ends in {left // DAY} days: make a new one" if left > 0 else "the own certificate has ended"
 
 
 def is_amiss(found, station):
@@ -196,32 +208,48 @@ def metrics_text(held):
 
 
 def write_metrics(path, held):
-    """Puts a new file of metrics in place of the old one."""
+    """Puts a new file of metrics in place of the old one, and says whether it could; the next look tries again."""
     new = pathlib.Path(f"{path}.new")
     try:
         new.write_text(metrics_text(held), encoding="ascii")
         os.replace(new, path)
     except OSError as error:
-        raise SystemExit(f"watch: {path}: {error.strerror}") from None
+        with contextlib.suppress(OSError):
+            new.unlink()
+        print(f"watch: {path}: {error.strerror}", file=sys.stderr, flush=True)
+        return False
+    return True
 
 
 class Watch:
     """What was found last, and where it is told."""
 
     def __init__(self, given):
+        self.path = given.station
         self.station = station_of(given.station)
         self.daemon = Daemon(given.daemon)
         self.metrics = given.metrics
+        self.limits = given
         self.held = {}
+
+    def read_again(self):
+        """Reads the station input again, which is renewed; where it is none now, the one before is kept."""
+        try:
+            self.station = station_of(self.path)
+        except SystemExit as error:
+            print(error, file=sys.stderr, flush=True)
 
     def take(self, name, now):
         """Looks, and tells what is found. Whether something is amiss."""
+        self.read_again()
         found = look(self.daemon, self.station, name, now)
         self.held.update(((each.name, *each.labels.values()), each) for each in found)
         print(line_of(found, name, now), flush=True)
-        if self.metrics is not None:
-            write_metrics(self.metrics, self.held)
-        return is_amiss(found, self.station)
+        beyond = list(beyond_limits(found, self.limits))
+        for line in beyond:
+            print(f"watch: {line}", file=sys.stderr, flush=True)
+        is_written = self.metrics is None or write_metrics(self.metrics, self.held)
+        return is_amiss(found, self.station) or bool(beyond) or not is_written
 
     def once(self):
         """Looks at what there is now."""
@@ -244,6 +272,15 @@ def main():
     parser.add_argument("--station", required=True, metavar="FILE", help="the station input")
     parser.add_argument("--metrics", metavar="FILE", help="where metrics are written for Prometheus")
     parser.add_argument("--once", action="store_true", help="look once, and end")
+    parser.add_argument(
+        "--running", type=int, default=RUNNING, metavar="N", help="of a hundred voted relays so many run (default: %(default)s)"
+    )
+    parser.add_argument(
+        "--measured", type=int, default=MEASURED, metavar="SECONDS", help="the oldest measurement (default: %(default)s)"
+    )
+    parser.add_argument(
+        "--certificate", type=int, default=CERTIFICATE, metavar="DAYS", help="left to the certificate (default: %(default)s)"
+    )
     given = parser.parse_args()
     watch = Watch(given)
     return watch.once() if given.once else watch.always()
