@@ -1,13 +1,15 @@
 #!/usr/bin/env python3
 """Makes the station input of dirauth of the folder of a C tor directory authority, and compares two votes.
 
-    import_tor.py --torrc /etc/tor/torrc [--data /var/lib/tor] [--keys FOLDER] > station
+    import_tor.py --torrc /etc/tor/torrc [--data /var/lib/tor] [--keys FOLDER] [--store FOLDER] [--dirauth PROGRAM] > station
     import_tor.py --compare OUR_VOTE TOR_VOTE
 
 --torrc may be said several times, the defaults first. Where none has DirAuthority lines, --authorities names a file of
 them, or the list that is built into tor (src/app/config/auth_dirs.inc). --vote is an own vote in place of that in the
 folder's v3-status-votes. With --bandwidth the file of V3BandwidthsFile stands in front, for `--bandwidth` of dirauth;
-else its kilobytes stand in the `measured` lines. --keys is where the signing key is put, for a key service.
+else its kilobytes stand in the `measured` lines. --keys is where the signing key is put, for a key service. --store is the
+folder of the front (contrib/front), which is given the consensuses, the certificates and the descriptors that the tor has.
+With --dirauth a vote is made of the station input and thrown away: descriptors that are refused are left out, and told.
 
 What has no place in a station input is told on standard error, with what stands for it. FIELDS.md has each field.
 """
@@ -19,9 +21,15 @@ import sys
 import time
 
 import compare_votes
+import front_store
+import no_place
 import rulings
 import tor_folder
 import torrc
+
+sys.path.append(str(pathlib.Path(__file__).resolve().parent.parent / "serve"))
+
+from trial import NoProgram, Trial  # pylint: disable=wrong-import-position
 
 # The lines that an own vote has as the station input has them, with the options that say the same.
 LISTS = {
@@ -32,35 +40,6 @@ LISTS = {
     "required-client-protocols": (),
     "required-relay-protocols": (),
 }
-
-# Options of an authority that a station input has no place for, with what stands for them.
-NO_PLACE = {
-    "AuthDirFastGuarantee": "100 kilobytes",
-    "AuthDirGuardBWGuarantee": "2,000 kilobytes",
-    "AuthDirHasIPv6Connectivity": "`a` lines are always voted",
-    "AuthDirMaxServersPerAddr": "2",
-    "AuthDirPinKeys": "no key is pinned",
-    "AuthDirRejectCCs": "no countries",
-    "AuthDirInvalidCCs": "no countries",
-    "AuthDirBadExitCCs": "no countries",
-    "AuthDirMiddleOnlyCCs": "no countries",
-    "AuthDirSharedRandomness": "no value is committed to",
-    "AuthDirTestReachability": "nothing is tested",
-    "AuthDirVoteGuardBwThresholdFraction": "that of the flag's rule",
-    "AuthDirVoteGuardGuaranteeTimeKnown": "691,200 seconds",
-    "AuthDirVoteGuardGuaranteeWFU": "none",
-    "GuardfractionFile": "none",
-    "MinimalAcceptedServerVersion": "none",
-    "MinMeasuredBWsForAuthToIgnoreAdvertised": "none",
-    "MinUptimeHidServDirectoryV2": "345,600 seconds of the uptime that the descriptor tells",
-    "TestingDirAuthVoteExit": "none",
-    "TestingDirAuthVoteGuard": "none",
-    "TestingDirAuthVoteHSDir": "none",
-    "TestingMinExitFlagThreshold": "none",
-    "V3AuthNIntervalsValid": "3",
-    "V3AuthUseLegacyKey": "none",
-}
-
 
 
 def tell(text):
@@ -214,17 +193,8 @@ def measured_lines(authority, names, now, kilobytes):
     tell(f"measured: {voted} relays by the own vote, {kept} by router-stability, {len(names) - voted - kept} by neither")
 
 
-def tell_what_has_no_place(options):
-    """Tells which options have no place."""
-    for option, instead in NO_PLACE.items():
-        if options.all(option):
-            tell(f"{option} {options.one(option)} has no place in a station input; what stands is: {instead}")
-    for path in options.all("%include"):
-        tell(f"%include {path} is not followed: name the file by --torrc")
-
-
 def station_of(authority, given, now):
-    """The station input, with what stands in front of it and the descriptors behind it."""
+    """The station input, and the descriptors that stand behind it."""
     caches = [read(authority.folder / name) for name in ("cached-descriptors", "cached-descriptors.new")]
     descriptors = tor_folder.newest_descriptors(caches, now, tell)
     approved = text_of(authority.folder / "approved-routers")
@@ -236,10 +206,27 @@ def station_of(authority, given, now):
         *measured_lines(authority, descriptors, now, kilobytes),
         "end-station",
     ]
-    tell_what_has_no_place(authority.options)
+    no_place.tell_what_has_no_place(authority.options, tell)
     tell(f"{len(descriptors)} descriptors, {len(authority.roster)} authorities, {len(rules)} relays are ruled")
     text = "".join(f"{line}\n" for line in lines).encode("utf-8", "surrogateescape")
-    return text + b"".join(each.text for each in descriptors.values())
+    return text, [each.text for each in descriptors.values()]
+
+
+def tried(given, station, descriptors):
+    """The descriptors of which dirauth makes a vote, which is thrown away; those that it refuses are told."""
+    if given.dirauth is None:
+        tell("no vote was tried of it: name the program by --dirauth, while the key service has the signing key")
+        return descriptors
+    words = ["--bandwidth"] * given.bandwidth + ["--newest-method", given.newest_method] * bool(given.newest_method)
+    trial = Trial(given.dirauth, words, tell)
+    try:
+        kept = trial.acceptable(station, descriptors)
+    except NoProgram as error:
+        raise SystemExit(f"import-tor: {error}") from None
+    if kept is None:
+        raise SystemExit(f"import-tor: no vote can be made of it: {trial.told}")
+    tell(f"a vote can be made of it, with {len(kept)} descriptors")
+    return kept
 
 
 def front_of(authority):
@@ -271,6 +258,9 @@ def main():
     parser.add_argument("--vote", metavar="FILE", help="an own vote, in place of that of v3-status-votes")
     parser.add_argument("--bandwidth", action="store_true", help="put the bandwidth file in front")
     parser.add_argument("--keys", metavar="FOLDER", help="where the signing key is put")
+    parser.add_argument("--store", metavar="FOLDER", help="the store of the front, which is given what the tor has cached")
+    parser.add_argument("--dirauth", metavar="PROGRAM", help="the program, to try a vote of what is made")
+    parser.add_argument("--newest-method", metavar="N", help="the newest method that the program is to know")
     parser.add_argument("--now", type=int, default=int(time.time()), help=argparse.SUPPRESS)
     parser.add_argument("--compare", nargs=2, metavar=("OURS", "TORS"), help="tell what two votes differ in")
     given = parser.parse_args()
@@ -283,10 +273,17 @@ def main():
         parser.error("say --torrc, or --compare")
     authority = Authority(given)
     front = front_of(authority) if given.bandwidth else b""
-    text = station_of(authority, given, given.now)
+    text, descriptors = station_of(authority, given, given.now)
     if given.keys:
         put_key(authority, given.keys)
-    sys.stdout.buffer.write(front + text)
+    kept = tried(given, front + text, descriptors)
+    if given.store:
+        front_store.fill(authority, b"".join(kept), given.store, given.now, tell)
+    try:
+        sys.stdout.buffer.write(front + text + b"".join(kept))
+        sys.stdout.buffer.flush()
+    except OSError as error:
+        raise SystemExit(f"import-tor: the station input can not be written: {error.strerror}") from None
 
 
 if __name__ == "__main__":

@@ -1,6 +1,9 @@
 #!/usr/bin/env python3
 """Tests of the importer over a stored folder of a C tor authority: `python3 -m unittest` in this folder."""
 import pathlib
+import re
+import shutil
+import stat
 import subprocess
 import sys
 import tempfile
@@ -9,10 +12,26 @@ import unittest
 HERE = pathlib.Path(__file__).resolve().parent
 sys.path.insert(0, str(HERE))
 
+sys.path.append(str(HERE.parent / "front"))
+
 # pylint: disable=wrong-import-position
 import torrc
+from holdings import Holdings
 
-STORED = HERE / "stored"
+STORED, FRONT = HERE / "stored", HERE.parent / "front/stored"
+
+# What stands for tor's cache.
+CACHED = {"cached-consensus": "consensus", "cached-microdesc-consensus": "consensus-microdesc", "cached-certs": "certificates"}
+
+# What stands for dirauth: it refuses the descriptor of the fifth relay, and by method 35 all.
+PROGRAM = """#!{python}
+import re, sys
+names = re.findall(rb"(?m)^router (\\S+)", sys.stdin.buffer.read())
+if "35" in sys.argv:
+    sys.exit(print("own certificate refused: expired", file=sys.stderr) or 12)
+if b"relay5" in names:
+    sys.exit(print("descriptor", names.index(b"relay5") + 1, "refused: ed25519", file=sys.stderr) or 6)
+"""
 
 OWN = "2FD4E1C67A2D28FCED849EE1BB76E7391B93EB12"
 FIRST, SECOND = "17CF3EBB63B08F56B546F999CB61DBD65A7BEF09", "A5BD8CDE11AA848317671408EABB669B0F82AAFE"
@@ -42,8 +61,8 @@ def asked(*words):
     return subprocess.run(command, stdout=subprocess.PIPE, stderr=subprocess.PIPE, text=True, check=False)
 
 
-class Imports(unittest.TestCase):
-    """The station input of the stored folder."""
+class ImportCase(unittest.TestCase):
+    """The stored folder."""
 
     def setUp(self):
         room = tempfile.TemporaryDirectory()
@@ -52,6 +71,10 @@ class Imports(unittest.TestCase):
         text = (STORED / "torrc").read_text(encoding="ascii")
         self.torrc = self.room / "torrc"
         self.torrc.write_text(text.replace("BANDWIDTHS", str(STORED / "tor/bandwidths")), encoding="ascii")
+
+
+class Imports(ImportCase):
+    """The station input of the stored folder."""
 
     def station(self, *words):
         """The lines of the station input, and what was told."""
@@ -130,6 +153,61 @@ class Imports(unittest.TestCase):
         self.assertEqual(lines[1], f"own auth1 {OWN} 192.0.2.1 192.0.2.1 80 443")
         self.assertIn("client-versions 0.4.8.12,0.4.8.13", lines)
         self.assertIn(f"measured {FIRST} 0 100 500000 200 750", lines)
+
+
+class Store(ImportCase):
+    """What the front is given, and a vote that is tried, with a program in the place of dirauth."""
+
+    def setUp(self):
+        super().setUp()
+        shutil.copytree(STORED / "tor", self.room / "tor")
+        for name in ("cached-consensus", "cached-microdesc-consensus", "cached-certs"):
+            text = (FRONT / CACHED[name]).read_bytes()
+            (self.room / "tor" / name).write_bytes(b"@downloaded-at 2026-11-30 11:46:00\n" + text)
+        (self.room / "store").mkdir()
+        self.program = self.room / "dirauth"
+        self.program.write_text(PROGRAM.format(python=sys.executable), "ascii")
+        self.program.chmod(stat.S_IRWXU)
+
+    def told(self, *words, status=0):
+        """What the importer makes and tells."""
+        answer = asked("--torrc", self.torrc, "--data", self.room / "tor", "--now", NOW, *words)
+        self.assertEqual(answer.returncode, status, answer.stderr)
+        return answer.stdout, answer.stderr
+
+    def test_the_front_is_given_what_the_tor_has_cached(self):
+        _, told = self.told("--store", self.room / "store")
+        self.assertIn("the front's store has 2 consensuses, 4 certificates, 4 descriptors\n", told)
+        held = Holdings(keep=2)
+        held.load(self.room / "store", int(NOW))
+        for flavour in ("consensus", "consensus-microdesc"):
+            self.assertEqual(held.consensuses[flavour].text, (FRONT / flavour).read_bytes())
+        self.assertEqual((held.own, held.newest_certificates()[OWN].fingerprint), (OWN, OWN))
+        self.assertIn(FIRST, held.relays.held)
+
+    def test_what_the_tor_has_not_is_told(self):
+        (self.room / "tor/cached-certs").unlink()
+        (self.room / "tor/cached-consensus").write_bytes(b"nothing\n")
+        _, told = self.told("--store", self.room / "store")
+        self.assertIn("cached-certs: No such file or directory: the front is not given it\n", told)
+        self.assertIn("cached-consensus is no consensus (no valid-after line): left out\n", told)
+        _, told = self.told("--store", "/no/store", status=1)
+        self.assertTrue(told.endswith("import-tor: /no/store is no folder that may be written to\n"), told)
+
+    def test_descriptors_that_are_refused_are_left_out(self):
+        made, told = self.told("--dirauth", self.program)
+        self.assertIn("the descriptor of relay5 203.0.113.5 is refused (ed25519): left out\n", told)
+        self.assertIn("a vote can be made of it, with 3 descriptors\n", told)
+        self.assertEqual(re.findall(r"(?m)^router (\S+)", made), ["relay1", "relay2", "relay4"])
+        self.assertIn("no vote was tried", self.told()[1])
+
+    def test_where_no_vote_can_be_made_nothing_is_written(self):
+        made, told = self.told("--dirauth", self.program, "--newest-method", "35", status=1)
+        self.assertEqual(made, "")
+        self.assertTrue(told.endswith("import-tor: no vote can be made of it: own certificate refused: expired\n"), told)
+        made, told = self.told("--dirauth", "/no/dirauth", status=1)
+        self.assertEqual(made, "")
+        self.assertTrue(told.endswith("import-tor: /no/dirauth: No such file or directory\n"), told)
 
 
 class Authorities(unittest.TestCase):

@@ -6,7 +6,8 @@
 CONSENSUS is a consensus of either flavour, VOTES are files of one vote or more, each document with or without a line
 `@type` in front, as archives keep them. `dirauth compute` makes the consensus of the votes, and its text is held
 against the published one in front of the signatures. It asks the key service, which verifies each vote. Where the
-consensus was made by method 34 or 35, `dirauth` is told that methods up to that one are known.
+consensus was made by method 34 or 35, `dirauth` is told that methods up to that one are known. How many of its signatures
+are right is told too, by the keys in the votes, as the key service says.
 
 Exit status 0: the text is the same, or differs in the method alone and that is told; 1: it differs, and where is told;
 2: nothing was computed, and one line says why.
@@ -21,6 +22,12 @@ import pathlib
 import re
 import subprocess
 import sys
+
+HERE = pathlib.Path(__file__).resolve().parent
+sys.path.append(str(HERE.parent / "front"))
+
+from directory_documents import certificates  # pylint: disable=wrong-import-position
+from signatures import KeyService, signed_by  # pylint: disable=wrong-import-position
 
 # How many parts that differ are shown.
 SHOWN = 20
@@ -73,6 +80,7 @@ class Consensus:
         found = documents(read(path))
         if len(found) != 1 or item(found[0], b"vote-status") != "consensus":
             raise Unable(f"{path}: it is not one consensus")
+        self.signed = found[0]
         self.text = unsigned(found[0])
         self.flavour = "microdesc" if self.text.startswith(b"network-status-version 3 microdesc\n") else "ns"
         self.valid_after = item(self.text, b"valid-after")
@@ -183,6 +191,26 @@ def report(consensus, made):
     return 1
 
 
+def test_scheme(key, digest, signature):
+    """Whether a signature is right under the test scheme."""
+    return signature == hashlib.sha256(b"test-sig" + key + digest).digest()
+
+
+def tell_signatures(given, consensus, votes):
+    """Tells how many of the signatures are right, by the certificates that stand in the votes."""
+    known = {(each.key_digest, each.fingerprint): each for each in certificates(b"".join(votes))}
+    is_right = test_scheme if given.test_keys else KeyService(given.keys).is_right
+    what = f"{consensus.flavour} {consensus.valid_after}"
+    count = len(given.authorities.split(",")) if given.authorities else len(consensus.sources)
+    try:
+        _, signers = signed_by(consensus.signed, lambda key_digest, who: known.get((key_digest, who)), is_right)
+    except OSError as error:
+        print(f"recompute: the signatures are not verified: {error}", file=sys.stderr)
+        return
+    there = len(re.findall(rb"(?m)^directory-signature ", consensus.signed))
+    print(f"{what}: {len(signers)} right signatures of {count} authorities, {there} stand there")
+
+
 def main():
     """Computes, compares, and tells."""
     parser = argparse.ArgumentParser(description=__doc__, formatter_class=argparse.RawDescriptionHelpFormatter)
@@ -191,6 +219,9 @@ def main():
     parser.add_argument("--dirauth", default="dirauth", metavar="PROGRAM", help="the program (default: %(default)s)")
     parser.add_argument(
         "--authorities", metavar="FP,FP,..", help="all authorities of the network (default: those whose votes the consensus names)"
+    )
+    parser.add_argument(
+        "--keys", default="/run/dirauth-keys", metavar="SOCKET", help="the key service for the signatures (default: %(default)s)"
     )
     parser.add_argument("--test-keys", action="store_true", help="the votes are signed under the test scheme")
     given = parser.parse_args()
@@ -201,7 +232,9 @@ def main():
     except Unable as unable:
         print(f"recompute: {unable}", file=sys.stderr)
         return 2
-    return report(consensus, made)
+    status = report(consensus, made)
+    tell_signatures(given, consensus, votes)
+    return status
 
 
 if __name__ == "__main__":

@@ -1,5 +1,7 @@
 #!/usr/bin/env python3
 """Tests of the recomputing over stored votes, with a program in the place of dirauth: `python3 -m unittest` in this folder."""
+import base64
+import hashlib
 import pathlib
 import stat
 import subprocess
@@ -44,7 +46,7 @@ class Room(unittest.TestCase):
         """The status, and what is told."""
         path = self.room / "consensus"
         path.write_text(self.published if published is None else published, encoding="ascii")
-        command = [sys.executable, HERE / "recompute.py", "--dirauth", self.program, *words, path, votes]
+        command = [sys.executable, HERE / "recompute.py", "--dirauth", self.program, "--keys", "/no/keys", *words, path, votes]
         ran = subprocess.run(command, stdout=subprocess.PIPE, stderr=subprocess.PIPE, text=True, check=False)
         return ran.returncode, ran.stdout, ran.stderr
 
@@ -54,8 +56,20 @@ class Recomputes(Room):
 
     def test_the_same_text_is_told(self):
         status, told, fault = self.told()
-        self.assertEqual((status, fault), (0, ""))
+        line = "recompute: the signatures are not verified: the key service at /no/keys: No such file or directory\n"
+        self.assertEqual((status, fault), (0, line))
         self.assertEqual(told, "ns 2026-01-01 00:00:00: the same text, 1046 bytes\n")
+
+    def test_right_signatures_are_counted(self):
+        covered = self.published.partition("\ndirectory-signature ")[0] + "\ndirectory-signature "
+        covered = covered.partition("\n")[2] if covered.startswith("@") else covered
+        digest = hashlib.sha1(covered.encode("ascii")).digest()
+        right = base64.b64encode(hashlib.sha256(b"test-sigsign-1" + digest).digest()).decode("ascii")
+        for text, count in ((self.published, 0), (self.published.replace("YWJj", right), 1)):
+            status, told, fault = self.told(text, words=("--test-keys",))
+            self.assertEqual((status, fault), (0, ""))
+            line = f"ns 2026-01-01 00:00:00: {count} right signatures of 3 authorities, 2 stand there"
+            self.assertEqual(told.splitlines()[1], line)
 
     def test_the_votes_that_are_named_are_given(self):
         self.told()
