@@ -1,7 +1,8 @@
 #!/bin/bash
 # Runs the tests of contrib that need neither packages nor a network beyond loopback, side by side: each contrib/*/test_*.py of
 # unittest. One that needs python3-cryptography is passed over with a line where that is missing. It prints a line for each, and what
-# one that fails says, and ends with status 0 only where none fails.
+# one that fails says, and ends with status 0 only where none fails. None depends on the day: Debian's `faketime` shows it, as
+# `faketime 2099-07-01 contrib/test.sh`.
 set -u
 
 cd "$(dirname "$0")" || exit 1

@@ -32,6 +32,9 @@ RELAY_BITS = 1024
 # Seconds between two consensuses, for exchanging votes, and for exchanging signatures.
 SCHEDULE = (3600, 300, 300)
 
+# The versions of tor that are recommended. Over a consensus that names none C tors end.
+VERSIONS = ("client-versions 0.4.8.21,0.4.9.11", "server-versions 0.4.8.21,0.4.9.11")
+
 # What an Ed25519 signature of a descriptor covers begins with this.
 ED25519_PREFIX = b"Tor router descriptor signature v1"
 
@@ -75,6 +78,7 @@ class Station(Authority):
             "schedule %d %d %d" % SCHEDULE,
         ]
         lines += [f"authority {station.fingerprint} 192.0.2.{station.number}:80" for station in stations]
+        lines += VERSIONS
         reached = int(now.replace(tzinfo=timezone.utc).timestamp())
         lines += [f"measured {relay.fingerprint} {reached} 864000 990000 864000 {relay.measured}" for relay in relays]
         return "\n".join([*lines, "end-station", ""])
@@ -141,7 +145,7 @@ def main():
         given.folder.mkdir(parents=True)
         keys.mkdir(mode=0o700)
     except OSError as error:
-        parser.error(f"{given.folder}: {error.strerror}")
+        raise SystemExit(f"example_stations: {given.folder}: {error.strerror}") from None
     stations = [Station(number, keys) for number in range(1, given.authorities + 1)]
     relays = [Relay(1, has_ed25519=True), Relay(2, has_ed25519=False)]
     descriptors = "".join(relay.descriptor(now) for relay in relays)

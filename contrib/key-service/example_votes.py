@@ -187,7 +187,7 @@ def main():
     try:
         given.folder.mkdir(parents=True)
     except OSError as error:
-        parser.error(f"{given.folder}: {error.strerror}")
+        raise SystemExit(f"example_votes: {given.folder}: {error.strerror}") from None
     fingerprints = write_all(given.folder, given.authorities, given.valid_after, given.sha256)
     print(f"{given.authorities} votes are in {given.folder}, the private keys in {given.folder / 'keys'}", file=sys.stderr)
     votes = shlex.quote(str(given.folder / "votes"))

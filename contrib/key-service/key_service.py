@@ -8,7 +8,7 @@ lower case, `-` for an empty one.
     sign <kind> <key> <message>                  is answered `ok <signature>`
 
 Any other request is answered `error <why>`, which dirauth counts as a fault. Why a signature is not right, or a request
-refused, is told on standard error.
+refused, is told on standard error; without --quiet what went well too.
 
 The service makes its socket at a path, or takes the one that systemd listens at for it (dirauth-keys.socket).
 
@@ -16,6 +16,7 @@ The service makes its socket at a path, or takes the one that systemd listens at
 with type 1 padding round the bare digest, without a DigestInfo. `ed25519` keys are the 32 bytes of the public key.
 """
 import argparse
+import contextlib
 import os
 import pathlib
 import socket
@@ -188,10 +189,16 @@ class Service(socketserver.ThreadingMixIn, socketserver.UnixStreamServer):
 
     def __init__(self, listener, keys, quiet):
         self.keys = keys
-        self.tell = (lambda text: None) if quiet else (lambda text: print(text, file=sys.stderr, flush=True))
+        self.quiet = quiet
         super().__init__(listener.getsockname(), Connection, bind_and_activate=False)
         self.socket.close()
         self.socket = listener
+
+    def tell(self, text):
+        """Tells a line, in one write: lines of several threads stand whole. What went well is not told where it is quiet."""
+        if not (self.quiet and text.endswith((": yes", ": ok"))):
+            with contextlib.suppress(OSError):
+                os.write(sys.stderr.fileno(), f"{text}\n".encode("utf-8", "replace"))
 
 
 def handed_listener():
@@ -242,7 +249,7 @@ def main():
         default="/run/dirauth-keys",
         help="the path of the socket, where systemd hands over none (default: %(default)s)",
     )
-    parser.add_argument("--quiet", action="store_true", help="tell nothing on standard error")
+    parser.add_argument("--quiet", action="store_true", help="tell only what is no, or no request")
     given = parser.parse_args()
     keys = Keys(given.keys)
     handed = handed_listener()

@@ -6,6 +6,7 @@ import socket
 import subprocess
 import sys
 import tempfile
+import threading
 import time
 import unittest
 
@@ -31,8 +32,10 @@ def pem(key):
     return key.private_bytes(serialization.Encoding.PEM, form, serialization.NoEncryption())
 
 
-class Service(unittest.TestCase):
+class ServiceCase(unittest.TestCase):
     """A service with a key of each kind."""
+
+    words = ("--quiet",)
 
     @classmethod
     def setUpClass(cls):
@@ -45,8 +48,10 @@ class Service(unittest.TestCase):
         for name, key in (("signing", cls.signing), ("relay", cls.relay)):
             (folder / f"keys/{name}.pem").write_bytes(pem(key))
         cls.path = str(folder / "socket")
-        words = [sys.executable, HERE / "key_service.py", "--keys", folder / "keys", "--socket", cls.path, "--quiet"]
-        service = subprocess.Popen(words)
+        words = [sys.executable, HERE / "key_service.py", "--keys", folder / "keys", "--socket", cls.path, *cls.words]
+        cls.log = folder / "log"
+        with open(cls.log, "wb") as log:
+            service = subprocess.Popen(words, stderr=log)
         cls.addClassCleanup(service.wait)
         cls.addClassCleanup(service.terminate)
 
@@ -71,6 +76,19 @@ class Service(unittest.TestCase):
         self.dialogue.write(line + "\n")
         self.dialogue.flush()
         return self.dialogue.readline().rstrip("\n")
+
+
+class Service(ServiceCase):
+    """What it answers, and tells where it is quiet."""
+
+    def test_what_went_well_is_not_told(self):
+        key = public_text(self.signing.public_key())
+        signature = self.asked("sign", "signing", key, DIGEST).partition(" ")[2]
+        self.assertEqual(self.asked("verify", "signing", key, DIGEST, signature), "yes")
+        self.assertEqual(self.asked("verify", "signing", key, OTHER, signature), "no")
+        lines = self.log.read_text("utf-8").splitlines()
+        self.assertIn("verify signing: no, the signature is over another digest", lines)
+        self.assertFalse([line for line in lines if line.endswith((" ok", " yes"))])
 
     def test_a_signature_that_it_makes_is_right_of_its_message_alone(self):
         for kind, private in (("signing", self.signing), ("identity", self.signing), ("ed25519", self.relay)):
@@ -99,6 +117,31 @@ class Service(unittest.TestCase):
         ):
             self.assertTrue(self.asked(*words).startswith("error "), words)
         self.assertEqual(self.asked("verify", "signing", b"no key", DIGEST, b"\x00"), "no")
+
+
+class Lines(ServiceCase):
+    """What it tells where it is not quiet."""
+
+    words = ()
+
+    def ask_often(self):
+        """Asks the same again and again, over a connection of its own."""
+        request = f"sign ed25519 {public_text(self.relay.public_key()).hex()} {DIGEST.hex()}\n"
+        with self.dialed().makefile("rw", encoding="ascii", newline="\n") as dialogue:
+            for _ in range(200):
+                dialogue.write(request)
+                dialogue.flush()
+                dialogue.readline()
+
+    def test_lines_of_several_connections_stand_whole(self):
+        askers = [threading.Thread(target=self.ask_often) for _ in range(8)]
+        for each in askers:
+            each.start()
+        for each in askers:
+            each.join()
+        lines = self.log.read_text("utf-8").splitlines()
+        self.assertEqual(lines.count("sign ed25519: ok"), 1600)
+        self.assertEqual(set(lines[1:]), {"sign ed25519: ok"})
 
 
 class Paths(unittest.TestCase):

@@ -109,6 +109,7 @@ def start_all(given, folder, started):
     if given.measured:
         renewal.start(started, folder, version)
     more = ["--measuring", f"{renewal.ADDRESS}:{renewal.DIR_PORT}"] if given.measured else []
+    wait_for_moment(authorities[0].schedule)
     for each in ours:
         (each.folder / "station").write_text(nodes.station(each, authorities, relays, shared), "utf-8")
         processes.start_daemon(started, given.dirauth, each)
@@ -121,6 +122,14 @@ def start_all(given, folder, started):
         processes.start_tor(started, each, nodes.relay_torrc(folder, each, authorities))
     client.start_web_server()
     return authorities, relays
+
+
+def wait_for_moment(schedule):
+    """Waits where votes would be made before the relays are there."""
+    moment = periods.starts_at(time.time(), READY, schedule)
+    if moment > time.time():
+        print(f"votes are due too soon: the authorities start in {moment - time.time():.0f} seconds", flush=True)
+    periods.sleep_until(moment)
 
 
 def answers(node):

@@ -72,6 +72,16 @@ def first_valid_after(now, ready, schedule):
     return int(-(-(now + ready + vote + dist) // interval) * interval)
 
 
+def starts_at(now, ready, schedule):
+    """When authorities may be started that are ready in so many seconds: now, or behind the next valid-after.
+
+    Who begins before a voting for which no relay is there yet votes without relays, and all relays keep that consensus.
+    """
+    interval, vote, dist = schedule
+    valid_after = (now // interval + 1) * interval
+    return now if now + ready <= valid_after - vote - dist else valid_after + 1
+
+
 def signed_part(text):
     """What the signatures of a consensus cover, and the signatures."""
     front, word, rest = text.partition(SIGNATURE)

@@ -11,6 +11,9 @@ import nodes
 
 CONTRIB = pathlib.Path(__file__).resolve().parent.parent
 
+# Where dirauth dials the key service.
+KEY_SERVICE = "/run/dirauth-keys"
+
 # How long what was started may take until it answers, in seconds, and how often an authority is asked that does not answer.
 STARTS_WITHIN, TRIES = 60, 3
 
@@ -106,7 +109,7 @@ def start_key_service(processes, folder, authorities):
         (keys / f"{each.name}.pem").write_bytes((each.folder / "keys" / "authority_signing_key").read_bytes())
     service = CONTRIB / "key-service" / "key_service.py"
     processes.start("keys", [sys.executable, str(service), "--keys", str(keys)])
-    processes.wait_for("the key service", pathlib.Path("/run/dirauth-keys").is_socket)
+    processes.wait_for("the key service", pathlib.Path(KEY_SERVICE).is_socket)
 
 
 def daemon_address(node):
@@ -128,6 +131,7 @@ def start_front(processes, node, more):
     programs = CONTRIB / "front"
     store, nginx = nodes.make_folder(node.folder / "store"), nodes.make_folder(node.folder / "nginx")
     words = [sys.executable, str(programs / "front.py"), "--listen", front, "--daemon", daemon, "--store", str(store)]
+    words += ["--authorities", str(node.folder / "station"), "--verifier", KEY_SERVICE]
     processes.start(f"{node.name}-front", words)
     words = [sys.executable, str(programs / "configure.py"), "--listen", f"{node.address}:{nodes.DIR_PORT}"]
     words += ["--daemon", daemon, "--front", front, "--station", str(node.folder / "station"), *more]

@@ -41,7 +41,7 @@ def renew(started, dirauth, node):
     """Renews the input of an authority of ours and starts its daemon anew: what went wrong, or None."""
     before = get(node.address, "/tor/status-vote/current/consensus")
     words = [sys.executable, str(CONTRIB / "measure" / "renew.py"), "--station", str(node.folder / "station")]
-    words += ["--measuring", f"{ADDRESS}:{DIR_PORT}", "--daemon", processes.daemon_address(node)]
+    words += ["--measuring", f"{ADDRESS}:{DIR_PORT}", "--daemon", processes.daemon_address(node), "--hold", "0"]
     done = subprocess.run(words, capture_output=True, check=False, timeout=120)
     if done.returncode:
         return f"{node.name}: {done.stderr.decode('utf-8', 'replace').strip()}"

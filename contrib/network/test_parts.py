@@ -56,6 +56,12 @@ class Periods(unittest.TestCase):
             self.assertEqual(periods.first_valid_after(now, ready, (300, 40, 40)), valid_after)
         self.assertEqual(periods.first_valid_after(3215, 45, (300, 20, 20)), 3300)
 
+    def test_no_authority_starts_before_a_voting_that_has_no_relays(self):
+        for now, moment in ((3000, 3000), (3175, 3175), (3176, 3301), (3215, 3301), (3260, 3301), (3299, 3301), (3301, 3301)):
+            self.assertEqual(periods.starts_at(now, 45, (300, 40, 40)), moment)
+            first = periods.first_valid_after(moment, 45, (300, 40, 40))
+            self.assertGreaterEqual(first - 80 - moment, 45)
+
     def test_a_signature_of_each_authority(self):
         text = signed("consensus-method 33\n", *self.signers)
         self.assertIsNone(periods.why_not_signed("consensus", text, self.signers, why_not))
@@ -200,7 +206,7 @@ class Words(unittest.TestCase):
         few, none, short = ["--ours", "1", "--tors", "2"], ["--periods", "0"], ["--delay", "19"]
         known = [*few, "--newest-method", "34"]
         for words in (["/none"], ["/"], *([sys.executable, *each] for each in (few, none, short, known))):
-            done = subprocess.run([*program, *words], capture_output=True, check=False, timeout=30)
+            done = subprocess.run([*program, *words], capture_output=True, check=False, timeout=300)
             self.assertEqual(done.returncode, 1)
             self.assertRegex(done.stderr.decode("utf-8"), r"^network: [^\n]+\n$")
 
