@@ -144,7 +144,7 @@ class Program(unittest.TestCase):
         folder = tempfile.TemporaryDirectory()
         self.addCleanup(folder.cleanup)
         self.station = pathlib.Path(folder.name) / "station"
-        # A day has one moment at which this would wait; it is at midnight.
+        # Around midnight votes are due, for a minute; run_it waits then.
         self.station.write_bytes(STATION % 86400)
         self.station.chmod(0o640)
         self.server = http.server.ThreadingHTTPServer(("127.0.0.1", 0), Stored)
@@ -157,7 +157,7 @@ class Program(unittest.TestCase):
     def run_it(self, *words):
         """The status, and what it tells."""
         address = "%s:%d" % self.server.server_address
-        given = ["--station", str(self.station), "--measuring", address, "--daemon", address, *words]
+        given = ["--wait", "--station", str(self.station), "--measuring", address, "--daemon", address, *words]
         words = [sys.executable, str(HERE / "renew.py"), *given]
         done = subprocess.run(words, capture_output=True, check=False, timeout=300)
         return done.returncode, (done.stdout + done.stderr).decode("utf-8")
@@ -169,7 +169,7 @@ class Program(unittest.TestCase):
         self.assertEqual(self.station.read_bytes() if self.station.exists() else None, before)
 
     def test_a_new_input_takes_the_place_of_the_old_one(self):
-        status, told = self.run_it("--wait")
+        status, told = self.run_it()
         self.assertEqual((status, told), (0, f"renew: 2 relays are measured, 2 descriptors; {self.station} is new\n"))
         self.assertIn(b" 70000 987654 800000 900\n", self.station.read_bytes())
         self.assertEqual(self.station.stat().st_mode & 0o777, 0o640)
